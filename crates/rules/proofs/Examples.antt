@@ -1,0 +1,173 @@
+-- Document 01's examples that speak of events, and one on each side of its finer readings, as one statement over one list: the checker computes each
+-- verdict and sheet from the definitions.
+use mathlib.Core.Bool.{Bool, true, false, _&&_}
+use mathlib.Core.List.{List, [], _∷_}
+use Prim.Native.Nat.{ℕ}
+use lib.Dec.{T, eqb}
+use Rattle.text.specs.Literal.{bytes}
+use Rattle.text.specs.Bytes.{sameBytes}
+use Rattle.rules.specs.Words.{task, interrupt, runnable, semaphore}
+use Rattle.rules.specs.Words.{activate, start, preempt, resume, wait, release, terminate, poll, run, park, poll-parking, release-parking, mtalimitexceeded, suspend}
+use Rattle.rules.specs.Words.{requestsemaphore, queued, assigned, waiting, released, increment, decrement, free, lock, full, overfull, unlock-full, used}
+use Rattle.rules.specs.Charts.{chartOf, processChart, runnableChart, semaphoreChart, isProcess}
+use Rattle.rules.specs.Event.{Event}
+use Rattle.rules.specs.Core.{takes, gives, keeps, onCore}
+use Rattle.rules.specs.History.{hasInstances, isTracked, named, kindIn, activates, lastNumber, lastCount, names, instances}
+use Rattle.rules.specs.Refusals.{timeFalls, secondKind, noRoom, offChart, notNext, coreBroken, countFollows, fixed, countBroken, rules, answerTo}
+use Rattle.rules.specs.Verdict.{taken, verdict}
+use Rattle.rules.specs.Sheet.{ticks, Row, Sheet, sheet}
+
+-- an event line of each type: time, source and its instance, target and its instance, event
+abbrev pub line : ℕ → ℕ → List ℕ → ℕ → List ℕ → ℕ → ℕ → Event
+line k t s i p j a = record { time = t; source = s; sourceInstance = i; kind = k; target = p; targetInstance = j; word = a; count = 0 }
+
+-- of a semaphore: time, source, target, event, note
+abbrev pub sem : ℕ → List ℕ → List ℕ → ℕ → ℕ → Event
+sem t s p a n = record { time = t; source = s; sourceInstance = 0; kind = semaphore; target = p; targetInstance = 0; word = a; count = n }
+
+-- a trigger of a stimulus, which only moves the time
+abbrev pub trigger : ℕ → Event
+trigger t = record { time = t; source = bytes "S"; sourceInstance = 0; kind = 0; target = bytes "S"; targetInstance = 0; word = 0; count = 0 }
+
+abbrev pub row : List ℕ → List ℕ → Row
+row n fs = record { name = n; figures = fs }
+
+-- The events, the oldest first, and either the number and place of the verdict, or the span and the rows of cores and processes of a trace that is taken.
+pub data Example : Type 0 where
+  says : List Event → ℕ → ℕ → Example
+  shows : List Event → ℕ → List Row → List Row → Example
+
+abbrev pub listing-2-7 : List Event
+listing-2-7 =
+    line task 6150000 (bytes "TIMER_2ms") 3 (bytes "TASK_InputProcessing") 3 activate
+    ∷ line task 6150100 (bytes "Core_1") 0 (bytes "TASK_InputProcessing") 3 start
+    ∷ line task 6250000 (bytes "TIMER_1MS") 6 (bytes "TASK_1MS") 6 activate
+    ∷ line task 6250100 (bytes "Core_1") 0 (bytes "TASK_InputProcessing") 3 preempt
+    ∷ line task 6250100 (bytes "Core_1") 0 (bytes "TASK_1MS") 6 start
+    ∷ line task 6721825 (bytes "Core_1") 0 (bytes "TASK_1MS") 6 terminate
+    ∷ line task 6721925 (bytes "Core_1") 0 (bytes "TASK_InputProcessing") 3 resume
+    ∷ line task 7110175 (bytes "Core_1") 0 (bytes "TASK_InputProcessing") 3 terminate
+    ∷ []
+
+abbrev pub listing-2-13 : List Event
+listing-2-13 =
+    sem 0 (bytes "Sem1") (bytes "Sem1") free 0
+    ∷ sem 308 (bytes "Process1") (bytes "Sem1") requestsemaphore 0
+    ∷ sem 308 (bytes "Process1") (bytes "Sem1") increment 1
+    ∷ sem 308 (bytes "Process1") (bytes "Sem1") queued 1
+    ∷ sem 308 (bytes "Sem1") (bytes "Sem1") lock 1
+    ∷ sem 308 (bytes "Process1") (bytes "Sem1") assigned 1
+    ∷ sem 9539 (bytes "Process2") (bytes "Sem1") requestsemaphore 1
+    ∷ sem 9539 (bytes "Process2") (bytes "Sem1") increment 2
+    ∷ sem 9539 (bytes "Process2") (bytes "Sem1") queued 2
+    ∷ sem 9539 (bytes "Sem1") (bytes "Sem1") overfull 2
+    ∷ sem 9539 (bytes "Process2") (bytes "Sem1") waiting 2
+    ∷ sem 462154 (bytes "Process1") (bytes "Sem1") released 2
+    ∷ sem 462154 (bytes "Process1") (bytes "Sem1") decrement 1
+    ∷ sem 462154 (bytes "Sem1") (bytes "Sem1") full 1
+    ∷ sem 462154 (bytes "Process2") (bytes "Sem1") assigned 1
+    ∷ []
+
+-- one line after another of the same source: Core_1 and Core_2 with Task_A and Task_B, a stimulus with them, a semaphore
+abbrev pub A : ℕ → ℕ → ℕ → Event
+A t j a = line task t (bytes "Core_1") 0 (bytes "Task_A") j a
+
+abbrev pub B : ℕ → ℕ → ℕ → Event
+B t j a = line task t (bytes "Core_1") 0 (bytes "Task_B") j a
+
+abbrev pub A2 : ℕ → ℕ → ℕ → Event
+A2 t j a = line task t (bytes "Core_2") 0 (bytes "Task_A") j a
+
+abbrev pub S : ℕ → ℕ → ℕ → Event
+S t j a = line task t (bytes "Stimulus") 0 (bytes "Task_A") j a
+
+abbrev pub Q : ℕ → ℕ → Event
+Q a n = sem 0 (bytes "P") (bytes "Sem1") a n
+
+abbrev pub examples : List Example
+examples =
+    -- document 01: "Task_A 0 and then Task_B 0 started on Core_1 with no leaving: 13"; "Task_A 0 started twice on Core_1: 11";
+    -- "activate 3, then activate 5 of one task: 12"; "resume as the first event of an instance: taken"; the two listings
+    says (A 100 0 start ∷ B 200 0 start ∷ []) 13 2
+    ∷ says (A 100 0 start ∷ A 200 0 start ∷ []) 11 2
+    ∷ says (S 100 3 activate ∷ S 200 5 activate ∷ []) 12 2
+    ∷ shows (A 100 0 resume ∷ []) 0 (row (bytes "Core_1") (0 ∷ 0 ∷ 0 ∷ []) ∷ []) (row (bytes "Task_A") (0 ∷ []) ∷ [])
+    ∷ shows listing-2-7 960175 (row (bytes "Core_1") (959975 ∷ 100 ∷ 100 ∷ []) ∷ [])
+    (row (bytes "TASK_InputProcessing") (488250 ∷ []) ∷ row (bytes "TASK_1MS") (471725 ∷ []) ∷ [])
+    ∷ shows listing-2-13 462154 [] []
+    -- no event
+    ∷ shows [] 0 [] []
+    -- 8: the time may stand still and not fall
+    ∷ says (trigger 5 ∷ trigger 5 ∷ trigger 4 ∷ []) 8 3
+    -- 9: a second kind, of the target, of the source, and on one core line; T and I are two kinds
+    ∷ says (A 0 0 start ∷ sem 0 (bytes "P") (bytes "Core_1") queued 1 ∷ []) 9 2
+    ∷ says (S 0 0 activate ∷ line task 0 (bytes "Task_A") 0 (bytes "Task_B") 0 start ∷ []) 9 2
+    ∷ says (line task 0 (bytes "Task_A") 0 (bytes "Task_A") 0 start ∷ []) 9 1
+    ∷ says (S 0 0 activate ∷ line interrupt 0 (bytes "Stimulus") 0 (bytes "Task_A") 1 activate ∷ []) 9 2
+    -- the source of release and release_parking isn't looked up, and that of a runnable or semaphore is no core
+    ∷ says (line task 0 (bytes "Task_A") 0 (bytes "Task_A") 0 release ∷ line task 0 (bytes "Task_A") 0 (bytes "Task_B") 0 release-parking ∷ []) 0 0
+    ∷ shows (line runnable 0 (bytes "Task_A") 0 (bytes "Task_A") 0 start ∷ trigger 7 ∷ []) 7 [] []
+    ∷ says (line runnable 0 (bytes "Task_A") 0 (bytes "Task_B") 0 start ∷ A 0 0 preempt ∷ []) 0 0
+    -- a process is first mentioned by the line that tracks it
+    ∷ shows (line runnable 0 (bytes "Task_B") 0 (bytes "r") 0 start ∷ S 0 0 activate ∷ line task 0 (bytes "Stimulus") 0 (bytes "Task_B") 0 activate ∷ []) 0 []
+    (row (bytes "Task_A") (0 ∷ []) ∷ row (bytes "Task_B") (0 ∷ []) ∷ [])
+    -- 11: mtalimitexceeded is in the chart; terminated instances are kept; an instance starts in any state
+    ∷ says (S 0 0 mtalimitexceeded ∷ A 0 0 start ∷ []) 11 2
+    ∷ says (A 0 0 terminate ∷ A 0 0 preempt ∷ []) 11 2
+    ∷ says (S 0 3 activate ∷ A 0 4 resume ∷ []) 0 0
+    ∷ says (A 0 0 poll ∷ A 0 0 park ∷ A 0 0 poll-parking ∷ A 0 0 run ∷ A 0 0 wait ∷ S 0 0 release ∷ A 0 0 resume ∷ A 0 0 terminate ∷ []) 0 0
+    ∷ says (line runnable 0 (bytes "P") 0 (bytes "r") 0 start ∷ line runnable 0 (bytes "P") 0 (bytes "r") 0 suspend ∷ line runnable 0 (bytes "P") 0 (bytes "r") 0 terminate ∷ []) 11 3
+    ∷ says (Q queued 1 ∷ Q full 1 ∷ Q unlock-full 1 ∷ Q used 1 ∷ Q used 1 ∷ Q full 1 ∷ []) 11 6
+    -- 12: activate and mtalimitexceeded are one series, a process's start is not in it, 11 is lower, and nothing wraps
+    ∷ says (S 0 3 activate ∷ S 0 9 mtalimitexceeded ∷ []) 12 2
+    ∷ says (A 0 3 start ∷ S 0 9 activate ∷ S 0 10 mtalimitexceeded ∷ []) 0 0
+    ∷ says (S 0 3 activate ∷ S 0 3 activate ∷ []) 11 2
+    ∷ says (S 0 4294967295 activate ∷ S 0 0 activate ∷ []) 12 2
+    ∷ says (line runnable 0 (bytes "P") 0 (bytes "r") 0 start ∷ line runnable 0 (bytes "P") 0 (bytes "r") 2 start ∷ []) 12 2
+    -- 13: poll keeps the core held; a given core is idle; preempt of an instance seen for the first time serves an unknown core, and of one seen before not
+    ∷ shows (A 0 0 poll ∷ trigger 5 ∷ []) 5 (row (bytes "Core_1") (5 ∷ 0 ∷ 0 ∷ []) ∷ []) (row (bytes "Task_A") (5 ∷ []) ∷ [])
+    ∷ says (A 0 0 start ∷ A 1 0 poll ∷ B 2 0 start ∷ []) 13 3
+    ∷ says (A 0 0 start ∷ A 1 0 wait ∷ B 2 0 start ∷ []) 0 0
+    ∷ shows (trigger 0 ∷ A 5 0 preempt ∷ trigger 7 ∷ []) 7 (row (bytes "Core_1") (0 ∷ 2 ∷ 5 ∷ []) ∷ []) (row (bytes "Task_A") (0 ∷ []) ∷ [])
+    ∷ says (A 0 0 start ∷ A2 0 0 preempt ∷ []) 13 2
+    ∷ says (A 0 0 start ∷ B 0 0 preempt ∷ []) 13 2
+    ∷ says (A 0 0 preempt ∷ B 0 0 preempt ∷ []) 13 2
+    -- two instances of one process hold two cores
+    ∷ shows (A 0 0 start ∷ A2 1 1 start ∷ trigger 3 ∷ []) 3 (row (bytes "Core_1") (3 ∷ 0 ∷ 0 ∷ []) ∷ row (bytes "Core_2") (2 ∷ 0 ∷ 1 ∷ []) ∷ [])
+    (row (bytes "Task_A") (5 ∷ []) ∷ [])
+    -- 14: the counts, at both ends, and the fixed ones
+    ∷ says (Q decrement 4294967295 ∷ Q increment 0 ∷ []) 14 2
+    ∷ says (Q queued 4294967294 ∷ Q increment 4294967295 ∷ Q increment 4294967295 ∷ []) 14 3
+    ∷ says (Q queued 1 ∷ Q decrement 0 ∷ Q decrement 4294967295 ∷ []) 14 3
+    ∷ says (Q queued 0 ∷ Q decrement 0 ∷ []) 14 2
+    ∷ says (Q queued 1 ∷ Q queued 2 ∷ []) 14 2
+    ∷ says (Q increment 0 ∷ []) 14 1
+    ∷ says (Q free 1 ∷ []) 14 1
+    ∷ says (Q lock 2 ∷ []) 14 1
+    ∷ says (Q used 0 ∷ []) 14 1
+    ∷ says (Q overfull 1 ∷ []) 14 1
+    ∷ []
+
+unfoldable pub sameRows : List Row → List Row → Bool
+sameRows [] [] = true
+sameRows [] (y ∷ t) = false
+sameRows (x ∷ s) [] = false
+sameRows (x ∷ s) (y ∷ t) = sameBytes (x .name) (y .name) && sameBytes (x .figures) (y .figures) && sameRows s t
+
+unfoldable pub sameSheet : Sheet → ℕ → List Row → List Row → Bool
+sameSheet s n cs ps = eqb (s .span) n && sameRows (s .cores) cs && sameRows (s .processes) ps
+
+unfoldable pub sameVerdict : ℕ × ℕ → ℕ → ℕ → Bool
+sameVerdict v n i = eqb (v .0) n && eqb (v .1) i
+
+unfoldable pub isRight : Example → Bool
+isRight (says es n i) = sameVerdict (verdict [] 1 es) n i
+isRight (shows es n cs ps) = sameVerdict (verdict [] 1 es) 0 0 && sameSheet (sheet (taken [] es)) n cs ps
+
+unfoldable pub right : List Example → Bool
+right [] = true
+right (x ∷ xs) = isRight x && right xs
+
+pub examples-right : T (right examples)
+unfolding right isRight sameVerdict sameSheet sameRows sameBytes verdict taken sheet ticks answerTo rules timeFalls secondKind noRoom offChart notNext coreBroken countBroken names instances chartOf processChart runnableChart semaphoreChart isProcess takes gives keeps onCore hasInstances isTracked named kindIn activates lastNumber lastCount fixed countFollows
+examples-right = tt

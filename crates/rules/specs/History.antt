@@ -1,0 +1,72 @@
+-- What a history says of names, instances, numbers and counts.
+use mathlib.Core.Bool.{Bool, false, _&&_, _||_}
+use mathlib.Core.Option.{Option, none, some}
+use mathlib.Core.List.{List, [], _∷_}
+use Prim.Native.Nat.{ℕ}
+use lib.Dec.{eqb}
+use Rattle.text.specs.Bytes.{sameBytes}
+use Rattle.rules.specs.Lists.{member, only, keep, when, orElse, latest, addAll}
+use Rattle.rules.specs.Words.{core, runnable, semaphore, activate, mtalimitexceeded, start}
+use Rattle.rules.specs.Charts.{isProcess}
+use Rattle.rules.specs.Event.{Event, Instance, sameInstance, instanceOf}
+use Rattle.rules.specs.Core.{onCore, on}
+
+-- ---- tracked names, in order of first mention
+
+-- "process and runnable instances"
+unfoldable pub hasInstances : ℕ → Bool
+hasInstances k = isProcess k || eqb k runnable
+
+-- "the targets of T, I, R and SEM lines"
+unfoldable pub isTracked : ℕ → Bool
+isTracked k = hasInstances k || eqb k semaphore
+
+-- "Tracked names are these cores and the targets of T, I, R and SEM lines": the names that a line mentions
+unfoldable pub named : Event → List (List ℕ)
+named e = keep (onCore e) (e .source) (keep (isTracked (e .kind)) (e .target) [])
+
+unfoldable pub names : List Event → List (List ℕ)
+names [] = []
+names (e ∷ h) = addAll sameBytes (names h) (named e)
+
+-- the kind in which a line uses a name, and the latest of a history
+unfoldable pub kindIn : List ℕ → Event → Option ℕ
+kindIn n e = orElse (when (isTracked (e .kind) && sameBytes n (e .target)) (e .kind)) (when (on n e) core)
+
+abbrev pub kindOf : List ℕ → List Event → Option ℕ
+kindOf n = latest (kindIn n)
+
+abbrev pub isKind : (ℕ → Bool) → Option ℕ → Bool
+isKind f none = false
+isKind f (some k) = f k
+
+-- "A core is tracked from its first such event"
+abbrev pub cores : List Event → List (List ℕ)
+cores h = only (λ n. isKind (eqb core) (kindOf n h)) (names h)
+
+abbrev pub processes : List Event → List (List ℕ)
+processes h = only (λ n. isKind isProcess (kindOf n h)) (names h)
+
+-- ---- process and runnable instances, in order of first mention
+
+unfoldable pub instances : List Event → List Instance
+instances [] = []
+instances (e ∷ h) = addAll sameInstance (instances h) (keep (hasInstances (e .kind)) (instanceOf e) [])
+
+-- ---- the last time, number and count
+
+abbrev pub lastTime : List Event → Option ℕ
+lastTime [] = none
+lastTime (e ∷ h) = some (e .time)
+
+-- "activate or mtalimitexceeded of one process, or start of one runnable"
+unfoldable pub activates : ℕ → ℕ → Bool
+activates k a = (isProcess k && member a (activate ∷ mtalimitexceeded ∷ [])) || (eqb k runnable && eqb a start)
+
+-- the number of the latest such event of a process or runnable
+unfoldable pub lastNumber : ℕ → List ℕ → List Event → Option ℕ
+lastNumber k n = latest (λ e. when (activates (e .kind) (e .word) && (eqb k (e .kind) && sameBytes n (e .target))) (e .targetInstance))
+
+-- "c is the note of the semaphore's last line"
+unfoldable pub lastCount : List ℕ → List Event → Option ℕ
+lastCount n = latest (λ e. when (eqb (e .kind) semaphore && sameBytes n (e .target)) (e .count))

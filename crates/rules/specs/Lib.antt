@@ -1,0 +1,11 @@
+-- The rules of events: charts, histories, the refusals 8 to 14, the verdict and the figures of the sheet.
+pub mod Words
+pub mod Lists
+pub mod Chart
+pub mod Charts
+pub mod Event
+pub mod Core
+pub mod History
+pub mod Refusals
+pub mod Verdict
+pub mod Sheet

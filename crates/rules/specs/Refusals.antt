@@ -1,0 +1,146 @@
+-- The refusals 8 to 14: what is looked up for an event line, one definition for each number, and the answer.
+use mathlib.Core.Bool.{Bool, true, false, not, _&&_, _||_, cond}
+use mathlib.Core.Option.{Option, none, some}
+use mathlib.Core.List.{List, [], _∷_}
+use Prim.Native.Nat.{ℕ, _+_}
+use lib.Dec.{eqb, ltb, leb}
+use lib.ListN.{length}
+use Rattle.text.specs.Bytes.{sameBytes}
+use Rattle.rules.specs.Lists.{member}
+use Rattle.rules.specs.Chart.{allowed}
+use Rattle.rules.specs.Charts.{chartOf}
+use Rattle.rules.specs.Words.{core, semaphore, increment, decrement, free, unlock, lock, lock-used, full, overfull, unlock-full, used}
+use Rattle.rules.specs.Event.{Event, Instance, sameInstance, instanceOf, stateOf}
+use Rattle.rules.specs.Core.{Core, unknown, idle, held, takes, onCore, coreAt}
+use Rattle.rules.specs.History.{isTracked, activates, kindOf, names, cores, instances, lastTime, lastNumber, lastCount}
+
+-- ---- what is known when an event line comes
+
+pub record Known : Type 0 where
+  pub time : Option ℕ  -- of the event line before
+  pub sourceKind : Option ℕ  -- as what the line's source and its target are tracked
+  pub targetKind : Option ℕ
+  pub names : ℕ  -- how many names, cores and instances there are with this line
+  pub cores : ℕ
+  pub instances : ℕ
+  pub state : Option ℕ  -- of the line's instance or semaphore
+  pub number : Option ℕ  -- of the last activation of its process, or start of its runnable
+  pub core : Core  -- what the line's source is as a core
+  pub count : Option ℕ  -- of its semaphore
+
+abbrev pub look : List Event → Event → Known
+look h e = record {
+  time = lastTime h;
+  sourceKind = kindOf (e .source) h;
+  targetKind = kindOf (e .target) h;
+  names = length (names (e ∷ h));
+  cores = length (cores (e ∷ h));
+  instances = length (instances (e ∷ h));
+  state = stateOf (instanceOf e) h;
+  number = lastNumber (e .kind) (e .target) h;
+  core = coreAt (e .source) h;
+  count = lastCount (e .target) h;
+}
+
+-- ---- 8: "time less than the event line before"
+
+abbrev pub less : ℕ → Option ℕ → Bool
+less t none = false
+less t (some s) = ltb t s
+
+unfoldable pub timeFalls : Known → Event → Bool
+timeFalls k e = less (e .time) (k .time)
+
+-- ---- 9: "a tracked name in a second of the five kinds (core, T, I, R, SEM), source and target of one core line included"
+
+abbrev pub differs : Option ℕ → ℕ → Bool
+differs none k = false
+differs (some j) k = not (eqb j k)
+
+unfoldable pub secondKind : Known → Event → Bool
+secondKind k e =
+    (onCore e && (differs (k .sourceKind) core || sameBytes (e .source) (e .target))) || (isTracked (e .kind) && differs (k .targetKind) (e .kind))
+
+-- ---- 10: "the names or instances that the line adds don't fit"
+-- "tracked names (cores, T, I, R, SEM): 256, of them 64 cores; process and runnable instances: 1,024"
+
+unfoldable pub noRoom : Known → Event → Bool
+noRoom k e = ltb 256 (k .names) || (ltb 64 (k .cores) || ltb 1024 (k .instances))
+
+-- ---- 11: "chart step not allowed"
+
+unfoldable pub offChart : Known → Event → Bool
+offChart k e = not (allowed (chartOf (e .kind)) (e .word) (k .state))
+
+-- ---- 12: "instance number not the next"
+-- "bears the number of the one before plus 1. The first may bear any number."
+
+abbrev pub isNext : Option ℕ → ℕ → Bool
+isNext none i = true
+isNext (some m) i = eqb i (m + 1)
+
+unfoldable pub notNext : Known → Event → Bool
+notNext k e = activates (e .kind) (e .word) && not (isNext (k .number) (e .targetInstance))
+
+-- ---- 13: "core rule broken"
+-- "start, resume and poll_parking need it unknown or idle"; the other six "need it held by this instance", and "for these six, an unknown core also
+-- serves if the instance is seen for the first time". Every T and I event is a step of the chart, so an instance has a state once it was seen.
+
+abbrev pub unseen : Option ℕ → Bool
+unseen none = true
+unseen (some s) = false
+
+abbrev pub serves : Core → Bool → Bool → Instance → Bool
+serves unknown taking new x = taking || new
+serves idle taking new x = taking
+serves (held y) taking new x = not taking && sameInstance y x
+
+unfoldable pub coreBroken : Known → Event → Bool
+coreBroken k e = onCore e && not (serves (k .core) (takes (e .word)) (unseen (k .state)) (instanceOf e))
+
+-- ---- 14: "semaphore count or fixed count broken"
+
+-- "requestsemaphore, queued, assigned, waiting, released and all state events bear c, increment c + 1, decrement c − 1.
+-- The first SEM line of a semaphore may bear any count."
+unfoldable pub countFollows : Option ℕ → ℕ → ℕ → Bool
+countFollows none a n = true
+countFollows (some c) a n = cond (eqb a increment) (eqb n (c + 1)) (cond (eqb a decrement) (eqb (n + 1) c) (eqb n c))
+
+-- "Always: increment at least 1; free and unlock 0; lock 1; used, unlock_full, lock_used and full at least 1; overfull at least 2."
+unfoldable pub fixed : ℕ → ℕ → Bool
+fixed a n =
+    cond (eqb a increment) (leb 1 n)
+    (cond (member a (free ∷ unlock ∷ [])) (eqb n 0)
+    (cond (eqb a lock) (eqb n 1)
+    (cond (member a (used ∷ unlock-full ∷ lock-used ∷ full ∷ [])) (leb 1 n)
+    (cond (eqb a overfull) (leb 2 n) true))))
+
+unfoldable pub countBroken : Known → Event → Bool
+countBroken k e = eqb (e .kind) semaphore && not (countFollows (k .count) (e .word) (e .count) && fixed (e .word) (e .count))
+
+-- ---- the answer: "The lowest number that applies wins", 0 where none does
+
+pub record Rule : Type 0 where
+  pub number : ℕ
+  pub broken : Known → Event → Bool
+
+abbrev pub rule : ℕ → (Known → Event → Bool) → Rule
+rule n f = record { number = n; broken = f }
+
+unfoldable pub rules : List Rule
+rules =
+    rule 8 timeFalls
+    ∷ rule 9 secondKind
+    ∷ rule 10 noRoom
+    ∷ rule 11 offChart
+    ∷ rule 12 notNext
+    ∷ rule 13 coreBroken
+    ∷ rule 14 countBroken
+    ∷ []
+
+abbrev pub firstBroken : List Rule → Known → Event → ℕ
+firstBroken [] k e = 0
+firstBroken (r ∷ rs) k e = cond (r .broken k e) (r .number) (firstBroken rs k e)
+
+unfoldable pub answerTo : Known → Event → ℕ
+answerTo k e = firstBroken rules k e

@@ -1,0 +1,4 @@
+// The rules of events.
+pub fn no_answer() -> u32 {
+    0
+}
