@@ -1,2 +1,4 @@
 -- The laws of the rules.
 pub mod Examples
+pub mod Tests
+pub mod Rows

@@ -9,3 +9,4 @@ pub mod History
 pub mod Refusals
 pub mod Verdict
 pub mod Sheet
+pub mod Rows

@@ -1,4 +1,3 @@
-// The rules of events.
-pub fn no_answer() -> u32 {
-    0
-}
+// The rules of events: the code of a chart step.
+pub mod chart;
+pub mod words;
