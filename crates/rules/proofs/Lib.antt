@@ -2,3 +2,6 @@
 pub mod Examples
 pub mod Tests
 pub mod Rows
+pub mod ChartFact
+pub mod Answers
+pub mod Verdicts

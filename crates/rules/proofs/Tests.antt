@@ -1,6 +1,8 @@
 -- Tests, and what they say when they pass or fail.
 use mathlib.Core.Path.{_≡_, refl}
 use mathlib.Core.Bool.{Bool, true, false, _&&_, _||_}
+use Prim.Native.Nat.{ℕ}
+use native.Mathlib.Omega.{arith}
 use lib.Dec.{eqb}
 use borrow.Author.Tests.{eqb-true, eq-eqb}
 use Rattle.text.specs.Bytes.{sameBytes}
@@ -17,6 +19,10 @@ and-true a b p q = rw (p, q)
 pub neither : (a b : Bool) → a || b ≡ false → (a ≡ false) × (b ≡ false)
 neither true b q = (q, cc)
 neither false b q = (refl, q)
+
+-- a test does not pass and fail
+pub clash : (b : Bool) → b ≡ true → b ≡ false → ⊥
+clash b p q = let z : _≡_ {A = ℕ} 0 1 = cc in omega arith
 
 pub instance-true : (x y : Instance) → sameInstance x y ≡ true → x ≡ y
 instance-true x y e =

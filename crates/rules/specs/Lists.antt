@@ -1,5 +1,5 @@
 -- A few functions on lists and on what may be missing.
-use Prim.Native.Nat.{ℕ, _+_}
+use Prim.Native.Nat.{ℕ, zero, suc, _+_}
 use mathlib.Core.Bool.{Bool, true, false, _||_}
 use mathlib.Core.Option.{Option, none, some}
 use mathlib.Core.List.{List, [], _∷_, _++_}
@@ -10,6 +10,10 @@ oneIf true = 1
 oneIf false = 0
 
 module _ {A : Type 0} where
+  abbrev pub ifZero : ℕ → A → A → A
+  ifZero zero x y = x
+  ifZero (suc n) x y = y
+
   -- x in front where the test passes
   abbrev pub keep : Bool → A → List A → List A
   keep true x xs = x ∷ xs

@@ -2,7 +2,8 @@
 use mathlib.Core.Path.{_≡_}
 use mathlib.Core.Bool.{Bool, false}
 use mathlib.Core.List.{List, [], _∷_}
-use Prim.Native.Nat.{ℕ, zero, suc, _+_}
+use Prim.Native.Nat.{ℕ, _+_}
+use Rattle.rules.specs.Lists.{ifZero}
 use Rattle.rules.specs.Event.{Event}
 use Rattle.rules.specs.Refusals.{Known, look, answerTo}
 
@@ -24,9 +25,9 @@ Never f (e ∷ h) = (f (look h e) e ≡ false) × Never f h
 -- "A refused line changes nothing but the remembered verdict .. Further lines get that verdict again."
 unfoldable pub taken : List Event → List Event → List Event
 taken h [] = h
-taken h (e ∷ es) = elim (answer h e) [ zero ↦ taken (e ∷ h) es | suc n ↦ h ]
+taken h (e ∷ es) = ifZero (answer h e) (taken (e ∷ h) es) h
 
 -- "verdict: number and line, counted from 1": the first refusal and the place of its event, counted from i; 0 and 0 where all are taken
 unfoldable pub verdict : List Event → ℕ → List Event → ℕ × ℕ
 verdict h i [] = (0, 0)
-verdict h i (e ∷ es) = elim (answer h e) [ zero ↦ verdict (e ∷ h) (i + 1) es | suc n ↦ (suc n, i) ]
+verdict h i (e ∷ es) = ifZero (answer h e) (verdict (e ∷ h) (i + 1) es) (answer h e, i)
