@@ -5,3 +5,10 @@ pub mod Rows
 pub mod ChartFact
 pub mod Answers
 pub mod Verdicts
+pub mod CoreWords
+pub mod CoreRuns
+pub mod Sums
+pub mod Totals
+pub mod Tracked
+pub mod Charges
+pub mod Alone

@@ -1,0 +1,121 @@
+-- Sums over lists, and lists that grow by what is new.
+use mathlib.Core.Path.{_≡_, refl, sym, ap, subst, _∙_}
+use mathlib.Core.Bool.{Bool, true, false, _||_}
+use mathlib.Core.List.{List, [], _∷_, _++_}
+use Prim.Native.Nat.{ℕ, _+_}
+use native.Mathlib.Omega.{arith}
+use Rattle.rules.specs.Lists.{any, only, keep, sumOver, oneIf, addUnless, addNew, addAll}
+
+module _ {A : Type 0} where
+  pub sum-cong : (f g : A → ℕ) (xs : List A) → ((x : A) → f x ≡ g x) → sumOver f xs ≡ sumOver g xs
+  sum-cong f g [] q = refl
+  sum-cong f g (x ∷ xs) q = omega (arith, q x, sum-cong f g xs q)
+
+  pub sum-zero : (xs : List A) → sumOver (λ (x : A). 0) xs ≡ 0
+  sum-zero [] = refl
+  sum-zero (x ∷ xs) = omega (arith, sum-zero xs)
+
+  pub sum-add : (f g : A → ℕ) (xs : List A) → sumOver (λ x. f x + g x) xs ≡ sumOver f xs + sumOver g xs
+  sum-add f g [] = refl
+  sum-add f g (x ∷ xs) = omega (arith, sum-add f g xs)
+
+  any-append : (p : A → Bool) (xs ys : List A) → any p (xs ++ ys) ≡ any p xs || any p ys
+  any-append p [] ys = refl
+  any-append p (x ∷ xs) ys = by-test (p x) (any-append p xs ys)
+    where
+      by-test : (b : Bool) → any p (xs ++ ys) ≡ any p xs || any p ys → (b || any p (xs ++ ys)) ≡ (b || any p xs) || any p ys
+      by-test true q = refl
+      by-test false q = q
+
+  -- what is in the list stays in it
+  pub any-one-more : (p : A → Bool) (b : Bool) (xs : List A) (y : A) → any p xs ≡ true → any p (addUnless b xs y) ≡ true
+  any-one-more p true xs y q = q
+  any-one-more p false xs y q = rw (any-append, q)
+
+  pub any-more : (eq : A → A → Bool) (p : A → Bool) (xs ys : List A) → any p xs ≡ true → any p (addAll eq xs ys) ≡ true
+  any-more eq p xs [] q = q
+  any-more eq p xs (y ∷ ys) q = any-more eq p (addNew eq xs y) ys (any-one-more p (any (eq y) xs) xs y q)
+
+module _ {A B : Type 0} where
+  pub sum-swap : (f : A → B → ℕ) (xs : List A) (ys : List B) → sumOver (λ x. sumOver (f x) ys) xs ≡ sumOver (λ y. sumOver (λ x. f x y) xs) ys
+  sum-swap f [] ys = sym (sum-zero ys)
+  sum-swap f (x ∷ xs) ys = omega (arith, sum-swap f xs ys, sum-add (f x) (λ y. sumOver (λ z. f z y) xs) ys)
+
+-- what was not there after an addition was not there before
+pub any-less : (a b : Bool) → (a ≡ true → b ≡ true) → b ≡ false → a ≡ false
+any-less true b f q = sym (f refl) ∙ q
+any-less false b f q = refl
+
+or-false : (a b : Bool) → b ≡ false → a || (b || false) ≡ a
+or-false true b q = refl
+or-false false b q = rw q
+
+-- a list of elements whose test for equality is right
+module _ {A : Type 0} (eq : A → A → Bool) (eq-true : (x y : A) → eq x y ≡ true → x ≡ y) (eq-refl : (x : A) → eq x x ≡ true) where
+  -- what is added is in the list
+  added : (b : Bool) (xs : List A) (y : A) → any (eq y) xs ≡ b → any (eq y) (addUnless b xs y) ≡ true
+  added true xs y t = t
+  added false xs y t = rw (any-append, t, eq-refl y)
+
+  pub any-added : (xs ys : List A) (m : A) → any (eq m) ys ≡ true → any (eq m) (addAll eq xs ys) ≡ true
+  any-added xs [] m q = cc
+  any-added xs (y ∷ ys) m q = by-test (eq m y) refl q (any-added (addNew eq xs y) ys m)
+    where
+      by-test : (b : Bool) → eq m y ≡ b → b || any (eq m) ys ≡ true → (any (eq m) ys ≡ true → any (eq m) (addAll eq (addNew eq xs y) ys) ≡ true) →
+          any (eq m) (addAll eq (addNew eq xs y) ys) ≡ true
+      by-test true t q f =
+          any-more eq (eq m) (addNew eq xs y) ys
+          (subst (λ (z : A). any (eq z) (addNew eq xs y) ≡ true) (sym (eq-true m y t)) (added (any (eq y) xs) xs y refl))
+      by-test false t q f = f q
+
+  sum-append : (f : A → ℕ) (xs : List A) (y : A) → sumOver f (xs ++ (y ∷ [])) ≡ sumOver f xs + f y
+  sum-append f [] y = omega arith
+  sum-append f (x ∷ xs) y = omega (arith, sum-append f xs y)
+
+  sum-one-more : (f : A → ℕ) (b : Bool) (xs : List A) (y : A) → any (eq y) xs ≡ b → (any (eq y) xs ≡ false → f y ≡ 0) → sumOver f (addUnless b xs y) ≡ sumOver f xs
+  sum-one-more f true xs y t q = refl
+  sum-one-more f false xs y t q = omega (arith, sum-append f xs y, q t)
+
+  -- A sum does not change where what is new counts 0.
+  pub sum-added : (f : A → ℕ) (xs ys : List A) → ((y : A) → any (eq y) xs ≡ false → f y ≡ 0) → sumOver f (addAll eq xs ys) ≡ sumOver f xs
+  sum-added f xs [] q = refl
+  sum-added f xs (y ∷ ys) q =
+      sum-added f (addNew eq xs y) ys (λ z t. q z (any-less (any (eq z) xs) _ (any-one-more (eq z) (any (eq y) xs) xs y) t))
+      ∙ sum-one-more f (any (eq y) xs) xs y refl (q y)
+
+  pub other-way : (x y : A) → eq x y ≡ false → eq y x ≡ false
+  other-way x y t = any-less (eq y x) (eq x y) (λ q. subst (λ (z : A). eq x z ≡ true) (sym (eq-true y x q)) (eq-refl x)) t
+
+  -- In a list that grew so, what is there is there once.
+  abbrev pub Once : List A → Type 0
+  Once xs = (m : A) → sumOver (λ x. oneIf (eq x m)) xs ≡ oneIf (any (eq m) xs)
+
+  once-one-more : (b : Bool) (xs : List A) (y : A) → any (eq y) xs ≡ b → Once xs → Once (addUnless b xs y)
+  once-one-more true xs y t o m = o m
+  once-one-more false xs y t o m = by-test (eq m y) refl
+    where
+      F : A → ℕ
+      F x = oneIf (eq x m)
+
+      by-test : (b : Bool) → eq m y ≡ b → sumOver F (xs ++ (y ∷ [])) ≡ oneIf (any (eq m) (xs ++ (y ∷ [])))
+      by-test true q =
+          let w = eq-true m y q in
+          let absent : any (eq m) xs ≡ false = subst (λ (z : A). any (eq z) xs ≡ false) (sym w) t in
+          let new : F y ≡ 1 = rw (subst (λ (z : A). eq z m ≡ true) w (eq-refl m)) in
+          sum-append F xs y ∙ rw (any-append, absent, q) (omega (arith, o m ∙ ap oneIf absent))
+      by-test false q =
+          let new : F y ≡ 0 = ap oneIf (other-way m y q) in
+          sum-append F xs y ∙ rw (any-append, or-false (any (eq m) xs) (eq m y) q) (omega (arith, o m))
+
+  pub once-added : (xs ys : List A) → Once xs → Once (addAll eq xs ys)
+  once-added xs [] o = o
+  once-added xs (y ∷ ys) o = once-added (addNew eq xs y) ys (once-one-more (any (eq y) xs) xs y refl o)
+
+-- a sum over chosen elements is the whole sum where the others count 0
+pub sum-only : {A : Type 0} (k : A → Bool) (f : A → ℕ) → ((x : A) → k x ≡ false → f x ≡ 0) → (xs : List A) → sumOver f (only k xs) ≡ sumOver f xs
+sum-only k f q [] = refl
+sum-only k f q (x ∷ xs) = by-test (k x) refl (sum-only k f q xs)
+  where
+    by-test : (b : Bool) → k x ≡ b → sumOver f (only k xs) ≡ sumOver f xs → sumOver f (keep b x (only k xs)) ≡ f x + sumOver f xs
+    by-test true t r = omega arith
+    by-test false t r = omega (arith, q x t)
