@@ -21,22 +21,9 @@ use Rattle.rules.proofs.Tests.{both, clash, instance-true, instance-ref
 use Rattle.rules.proofs.Sums.{any-less}
 use Rattle.rules.proofs.ChartFact.{on-chart}
 use Rattle.rules.proofs.Answers.{Passed, passed}
+use Rattle.rules.proofs.Changes.{state-other, state-own, core-other, core-own}
 use Rattle.rules.proofs.CoreWords.{enters-core, leaves-core, isStep, takes-only, gives-only, keeps-only, Sort, taker, giver, keeper, sort, on-process}
 use Rattle.rules.proofs.CoreRuns.{served-free, served-own}
-
--- ---- what an event does to states and cores
-
-pub state-other : (y : Instance) (e : Event) (h : List Event) → sameInstance y (instanceOf e) ≡ false → stateOf y (e ∷ h) ≡ stateOf y h
-state-other y e h q = rw q
-
-pub state-own : (e : Event) (h : List Event) → stateOf (instanceOf e) (e ∷ h) ≡ orElse (entered (stepFor (chartOf (e .kind)) (e .word))) (stateOf (instanceOf e) h)
-state-own e h = rw (instance-refl (instanceOf e))
-
-pub core-other : (c : List ℕ) (e : Event) (h : List Event) → on c e ≡ false → coreAt c (e ∷ h) ≡ coreAt c h
-core-other c e h q = rw q
-
-pub core-own : (e : Event) (h : List Event) → onCore e ≡ true → coreAt (e .source) (e ∷ h) ≡ becomes (gives (e .word)) (instanceOf e)
-core-own e h o = rw (o, same-refl (e .source))
 
 -- ---- the state of a process event's own instance, before and after
 

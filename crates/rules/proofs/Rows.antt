@@ -71,11 +71,11 @@ flat-search (r ∷ rs) p a s =
     by-word false q z i = i
 
 -- a step of the chart enters no 0
-abbrev Enters : Option Step → Type 0
+abbrev pub Enters : Option Step → Type 0
 Enters none = Unit {0}
 Enters (some r) = eqb (r .enters) 0 ≡ false
 
-enters : (t : List Step) → plain t ≡ true → (a : ℕ) → Enters (stepFor t a)
+pub enters : (t : List Step) → plain t ≡ true → (a : ℕ) → Enters (stepFor t a)
 unfolding plain
 enters [] p a = tt
 enters (r ∷ rs) p a =
