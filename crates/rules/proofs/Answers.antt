@@ -119,18 +119,46 @@ pub record Passed (h : List Event) (e : Event) : Type 0 where
   pub core : coreBroken (look h e) e ≡ false
   pub count : countBroken (look h e) e ≡ false
 
+-- where each stands in the list
+pub listed-8 : List·Memᴰ (rule 8 timeFalls) rules
+unfolding rules
+listed-8 = List·Memᴰ·head refl
+
+pub listed-9 : List·Memᴰ (rule 9 secondKind) rules
+unfolding rules
+listed-9 = List·Memᴰ·tail (List·Memᴰ·head refl)
+
+pub listed-10 : List·Memᴰ (rule 10 noRoom) rules
+unfolding rules
+listed-10 = List·Memᴰ·tail (List·Memᴰ·tail (List·Memᴰ·head refl))
+
+pub listed-11 : List·Memᴰ (rule 11 offChart) rules
+unfolding rules
+listed-11 = List·Memᴰ·tail (List·Memᴰ·tail (List·Memᴰ·tail (List·Memᴰ·head refl)))
+
+pub listed-12 : List·Memᴰ (rule 12 notNext) rules
+unfolding rules
+listed-12 = List·Memᴰ·tail (List·Memᴰ·tail (List·Memᴰ·tail (List·Memᴰ·tail (List·Memᴰ·head refl))))
+
+pub listed-13 : List·Memᴰ (rule 13 coreBroken) rules
+unfolding rules
+listed-13 = List·Memᴰ·tail (List·Memᴰ·tail (List·Memᴰ·tail (List·Memᴰ·tail (List·Memᴰ·tail (List·Memᴰ·head refl)))))
+
+pub listed-14 : List·Memᴰ (rule 14 countBroken) rules
+unfolding rules
+listed-14 = List·Memᴰ·tail (List·Memᴰ·tail (List·Memᴰ·tail (List·Memᴰ·tail (List·Memᴰ·tail (List·Memᴰ·tail (List·Memᴰ·head refl))))))
+
 pub passed : (h : List Event) (e : Event) → answer h e ≡ 0 → Passed h e
-unfolding answerTo rules
 passed h e a =
     let f = answer-zero (look h e) e .0 a in
     record {
-      time = f (rule 8 timeFalls) (List·Memᴰ·head refl);
-      kinds = f (rule 9 secondKind) (List·Memᴰ·tail (List·Memᴰ·head refl));
-      room = f (rule 10 noRoom) (List·Memᴰ·tail (List·Memᴰ·tail (List·Memᴰ·head refl)));
-      chart = f (rule 11 offChart) (List·Memᴰ·tail (List·Memᴰ·tail (List·Memᴰ·tail (List·Memᴰ·head refl))));
-      number = f (rule 12 notNext) (List·Memᴰ·tail (List·Memᴰ·tail (List·Memᴰ·tail (List·Memᴰ·tail (List·Memᴰ·head refl)))));
-      core = f (rule 13 coreBroken) (List·Memᴰ·tail (List·Memᴰ·tail (List·Memᴰ·tail (List·Memᴰ·tail (List·Memᴰ·tail (List·Memᴰ·head refl))))));
-      count = f (rule 14 countBroken) (List·Memᴰ·tail (List·Memᴰ·tail (List·Memᴰ·tail (List·Memᴰ·tail (List·Memᴰ·tail (List·Memᴰ·tail (List·Memᴰ·head refl)))))));
+      time = f (rule 8 timeFalls) listed-8;
+      kinds = f (rule 9 secondKind) listed-9;
+      room = f (rule 10 noRoom) listed-10;
+      chart = f (rule 11 offChart) listed-11;
+      number = f (rule 12 notNext) listed-12;
+      core = f (rule 13 coreBroken) listed-13;
+      count = f (rule 14 countBroken) listed-14;
     }
 
 -- ---- time never falls

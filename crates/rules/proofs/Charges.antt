@@ -1,9 +1,11 @@
--- A process's charge is the sum over its cores, a core's held ticks are the sum over the processes, and so all charges add up to all held ticks.
+-- A process's charge is the sum over its cores and at most 64 spans; a core's held ticks are the sum over the processes; and so all charges add up to
+-- all held ticks.
 use mathlib.Core.Path.{_≡_, refl, sym, ap, subst, _∙_}
 use mathlib.Core.Bool.{Bool, true, false}
 use mathlib.Core.Option.{some}
 use mathlib.Core.List.{List, [], _∷_}
-use Prim.Native.Nat.{ℕ}
+use Prim.Native.Nat.{ℕ, _*_, _≤_}
+use native.Mathlib.Nat.{mul-le-mul-left, mul-le-mul-right}
 use native.Mathlib.Omega.{arith}
 use lib.Dec.{eqb}
 use Rattle.text.specs.Bytes.{sameBytes}
@@ -15,9 +17,10 @@ use Rattle.rules.specs.Event.{Event}
 use Rattle.rules.specs.Core.{Core, unknown, idle, held, coreAt}
 use Rattle.rules.specs.History.{named, names, kindOf, isKind, cores, processes}
 use Rattle.rules.specs.Verdict.{Accepted}
-use Rattle.rules.specs.Sheet.{ticks, isHeld, isHeldBy, heldTicks, holding, charge, chargeOn}
-use Rattle.rules.proofs.Sums.{sum-cong, sum-zero, sum-swap, sum-added, sum-only}
-use Rattle.rules.proofs.Totals.{ticks-add}
+use Rattle.rules.specs.Sheet.{gap, ticks, isHeld, isHeldBy, heldTicks, holding, charge, chargeOn, span}
+use Rattle.rules.proofs.Sums.{sum-cong, sum-zero, sum-at-most, sum-swap, sum-added, sum-only}
+use Rattle.rules.proofs.Answers.{all-fit}
+use Rattle.rules.proofs.Totals.{ticks-add, core-total}
 use Rattle.rules.proofs.Tracked.{Since, now, before, Tracked, tracked, still-accepted, still-kind, kind-named, names-once, named-kind}
 
 -- ---- sums of ticks
@@ -61,6 +64,33 @@ charge-by-core h a p =
     ∙ sym (ticks-sum (λ c g. isHeldBy p (coreAt c g)) (names h) h)
     ∙ sym (sum-only (λ n. isKind (eqb core) (kindOf n h)) (λ c. chargeOn p c h) (λ c q.
     ticks-cong (λ g. isHeldBy p (coreAt c g)) (λ g. 0) h (λ g s. not-core p c g h s a q (coreAt c g) (tracked c g (still-accepted g h s a))) ∙ ticks-zero h) (names h))
+
+-- ---- how large a charge can be
+
+ticks-le : (v w : List Event → ℕ) (h : List Event) → ((g : List Event) → v g ≤ w g) → ticks v h ≤ ticks w h
+unfolding ticks
+ticks-le v w [] q = omega arith
+ticks-le v w (e ∷ h) q = omega (arith, mul-le-mul-left (gap e h) (q h), ticks-le v w h q)
+
+one-at-most : (p : List ℕ) (k : Core) → isHeldBy p k ≤ isHeld k
+one-at-most p unknown = omega arith
+one-at-most p idle = omega arith
+one-at-most p (held x) = by-test (sameBytes p (x .name))
+  where
+    by-test : (b : Bool) → oneIf b ≤ 1
+    by-test true = omega arith
+    by-test false = omega arith
+
+-- A charge is at most the span for each of the 64 cores.
+pub charge-at-most : (h : List Event) → Accepted h → (p : List ℕ) → charge p h ≤ 64 * span h
+charge-at-most h a p =
+    omega (
+      arith,
+      charge-by-core h a p,
+      sum-at-most (λ c. chargeOn p c h) (span h) (cores h) (λ c.
+          omega (arith, ticks-le (λ g. isHeldBy p (coreAt c g)) (λ g. isHeld (coreAt c g)) h (λ g. one-at-most p (coreAt c g)), core-total h a c)),
+      mul-le-mul-right (span h) (all-fit h a .cores-fit),
+    )
 
 -- ---- the held ticks of a core by processes
 

@@ -2,7 +2,7 @@
 -- verdict and sheet from the definitions.
 use mathlib.Core.Bool.{Bool, true, false, _&&_}
 use mathlib.Core.List.{List, [], _∷_}
-use Prim.Native.Nat.{ℕ}
+use Prim.Native.Nat.{ℕ, zero, suc}
 use lib.Dec.{T, eqb}
 use Rattle.text.specs.Literal.{bytes}
 use Rattle.text.specs.Bytes.{sameBytes}
@@ -14,7 +14,7 @@ use Rattle.rules.specs.Event.{Event}
 use Rattle.rules.specs.Core.{takes, gives, keeps, onCore}
 use Rattle.rules.specs.History.{hasInstances, isTracked, named, kindIn, activates, lastNumber, lastCount, names, instances}
 use Rattle.rules.specs.Refusals.{timeFalls, secondKind, noRoom, offChart, notNext, coreBroken, countFollows, fixed, countBroken, rules, answerTo}
-use Rattle.rules.specs.Verdict.{taken, verdict}
+use Rattle.rules.specs.Verdict.{answer, taken, verdict}
 use Rattle.rules.specs.Sheet.{ticks, Row, Sheet, sheet}
 
 -- an event line of each type: time, source and its instance, target and its instance, event
@@ -32,9 +32,11 @@ trigger t = record { time = t; source = bytes "S"; sourceInstance = 0; kind = 0;
 abbrev pub row : List ℕ → List ℕ → Row
 row n fs = record { name = n; figures = fs }
 
--- The events, the oldest first, and either the number and place of the verdict, or the span and the rows of cores and processes of a trace that is taken.
+-- The events, the oldest first, and either the number and place of the verdict, or the span and the rows of cores and processes of a trace that is taken;
+-- or a history, an event after it, and the answer.
 pub data Example : Type 0 where
   says : List Event → ℕ → ℕ → Example
+  answers : List Event → Event → ℕ → Example
   shows : List Event → ℕ → List Row → List Row → Example
 
 abbrev pub listing-2-7 : List Event
@@ -84,6 +86,17 @@ S t j a = line task t (bytes "Stimulus") 0 (bytes "Task_A") j a
 abbrev pub Q : ℕ → ℕ → Event
 Q a n = sem 0 (bytes "P") (bytes "Sem1") a n
 
+-- a history of n events, and the events that bring a new runnable and a new core
+abbrev pub many : (ℕ → Event) → ℕ → List Event
+many f zero = []
+many f (suc n) = f n ∷ many f n
+
+abbrev pub newName : ℕ → Event
+newName i = line runnable 0 (bytes "P") 0 (i ∷ []) 0 start
+
+abbrev pub newCore : ℕ → Event
+newCore i = line task 0 (0 ∷ i ∷ []) 0 (bytes "Task_A") i start
+
 abbrev pub examples : List Example
 examples =
     -- document 01: "Task_A 0 and then Task_B 0 started on Core_1 with no leaving: 13"; "Task_A 0 started twice on Core_1: 11";
@@ -111,6 +124,12 @@ examples =
     -- a process is first mentioned by the line that tracks it
     ∷ shows (line runnable 0 (bytes "Task_B") 0 (bytes "r") 0 start ∷ S 0 0 activate ∷ line task 0 (bytes "Stimulus") 0 (bytes "Task_B") 0 activate ∷ []) 0 []
     (row (bytes "Task_A") (0 ∷ []) ∷ row (bytes "Task_B") (0 ∷ []) ∷ [])
+    -- 10: "256 names taken, a 257th: 10", of them 64 cores
+    ∷ answers (many newName 255) (newName 255) 0
+    ∷ answers (many newName 256) (newName 256) 10
+    ∷ answers (many newName 256) (trigger 0) 0
+    ∷ answers (many newCore 63) (newCore 63) 0
+    ∷ answers (many newCore 64) (newCore 64) 10
     -- 11: mtalimitexceeded is in the chart; terminated instances are kept; an instance starts in any state
     ∷ says (S 0 0 mtalimitexceeded ∷ A 0 0 start ∷ []) 11 2
     ∷ says (A 0 0 terminate ∷ A 0 0 preempt ∷ []) 11 2
@@ -162,6 +181,7 @@ sameVerdict v n i = eqb (v .0) n && eqb (v .1) i
 
 unfoldable pub isRight : Example → Bool
 isRight (says es n i) = sameVerdict (verdict [] 1 es) n i
+isRight (answers h e n) = eqb (answer h e) n
 isRight (shows es n cs ps) = sameVerdict (verdict [] 1 es) 0 0 && sameSheet (sheet (taken [] es)) n cs ps
 
 unfoldable pub right : List Example → Bool

@@ -1,22 +1,22 @@
 -- What holds after any events taken from a fresh start, in one record: the charts and the core rule as runs (demand 2), and the figures (demand 3).
 use mathlib.Core.Path.{_≡_}
-use mathlib.Core.List.{List, [], _∷_, List·Memᴰ, List·Memᴰ·head, List·Memᴰ·tail}
-use Prim.Native.Nat.{ℕ, _+_, _≤_}
+use mathlib.Core.List.{List, []}
+use Prim.Native.Nat.{ℕ, _+_, _*_, _≤_}
 use Rattle.rules.specs.Lists.{sumOver}
 use Rattle.rules.specs.Chart.{Run}
 use Rattle.rules.specs.Charts.{chartOf}
 use Rattle.rules.specs.Event.{Event, Instance, wordsOf}
-use Rattle.rules.specs.Core.{Core, CoreRun, coreAt, Alone}
+use Rattle.rules.specs.Core.{CoreRun, coreAt, Alone}
 use Rattle.rules.specs.History.{cores, processes}
-use Rattle.rules.specs.Refusals.{offChart, coreBroken}
-use Rattle.rules.specs.Verdict.{Accepted, Never, taken}
+use Rattle.rules.specs.Refusals.{offChart, coreBroken, rule}
+use Rattle.rules.specs.Verdict.{Accepted, taken}
 use Rattle.rules.specs.Sheet.{heldTicks, idleTicks, unknownTicks, charge, chargeOn, span}
-use Rattle.rules.proofs.Answers.{passed, Fits, all-fit}
+use Rattle.rules.proofs.Answers.{accepted-exactly, listed-11, listed-13, Fits, all-fit}
 use Rattle.rules.proofs.Verdicts.{taken-accepted}
 use Rattle.rules.proofs.ChartFact.{chart-runs}
 use Rattle.rules.proofs.CoreRuns.{kept-run}
 use Rattle.rules.proofs.Totals.{core-total}
-use Rattle.rules.proofs.Charges.{charge-by-core, held-by-process, charges-total}
+use Rattle.rules.proofs.Charges.{charge-by-core, charge-at-most, held-by-process, charges-total}
 use Rattle.rules.proofs.Alone.{alone}
 
 pub record Holds (h : List Event) : Type 0 where
@@ -30,6 +30,8 @@ pub record Holds (h : List Event) : Type 0 where
   pub each-core : (c : List ℕ) → heldTicks c h + idleTicks c h + unknownTicks c h ≡ span h
   -- a process's charge is the sum over its cores
   pub each-charge : (p : List ℕ) → charge p h ≡ sumOver (λ c. chargeOn p c h) (cores h)
+  -- and at most the span for each of the 64 cores
+  pub charge-bound : (p : List ℕ) → charge p h ≤ 64 * span h
   -- a core's held ticks are the sum over the processes
   pub each-held : (c : List ℕ) → sumOver (λ p. chargeOn p c h) (processes h) ≡ heldTicks c h
   -- all charges add up to all held ticks
@@ -37,21 +39,14 @@ pub record Holds (h : List Event) : Type 0 where
   -- each instance in RUNNING or POLLING holds exactly one core, and no other holds any
   pub nobody-shares : Alone h
 
-never-off : (h : List Event) → Accepted h → Never offChart h
-never-off [] a = tt
-never-off (e ∷ h) a = (passed h e (a .0) .chart, never-off h (a .1))
-
-never-broken : (h : List Event) → Accepted h → Never coreBroken h
-never-broken [] a = tt
-never-broken (e ∷ h) a = (passed h e (a .0) .core, never-broken h (a .1))
-
 pub accepted-holds : (h : List Event) → Accepted h → Holds h
 accepted-holds h a = record {
-  each-chart = chart-runs h .0 (never-off h a);
-  each-run = kept-run h (never-broken h a);
+  each-chart = chart-runs h .0 (accepted-exactly h .0 a (rule 11 offChart) listed-11);
+  each-run = kept-run h (accepted-exactly h .0 a (rule 13 coreBroken) listed-13);
   room = all-fit h a;
   each-core = core-total h a;
   each-charge = charge-by-core h a;
+  charge-bound = charge-at-most h a;
   each-held = held-by-process h a;
   all-charges = charges-total h a;
   nobody-shares = alone h a;

@@ -10,6 +10,7 @@ pub mod Answers
 pub mod Verdicts
 pub mod CoreWords
 pub mod CoreRuns
+pub mod Seen
 pub mod Totals
 pub mod Tracked
 pub mod Charges

@@ -2,8 +2,10 @@
 use mathlib.Core.Path.{_≡_, refl, sym, ap, subst, _∙_}
 use mathlib.Core.Bool.{Bool, true, false, _||_}
 use mathlib.Core.List.{List, [], _∷_, _++_}
-use Prim.Native.Nat.{ℕ, _+_}
+use Prim.Native.Nat.{ℕ, _+_, _*_, _≤_}
+use native.Mathlib.Nat.{suc-mul}
 use native.Mathlib.Omega.{arith}
+use lib.ListN.{length}
 use Rattle.rules.specs.Lists.{any, only, keep, sumOver, oneIf, addUnless, addNew, addAll}
 
 module _ {A : Type 0} where
@@ -18,6 +20,10 @@ module _ {A : Type 0} where
   pub sum-add : (f g : A → ℕ) (xs : List A) → sumOver (λ x. f x + g x) xs ≡ sumOver f xs + sumOver g xs
   sum-add f g [] = refl
   sum-add f g (x ∷ xs) = omega (arith, sum-add f g xs)
+
+  pub sum-at-most : (f : A → ℕ) (m : ℕ) (xs : List A) → ((x : A) → f x ≤ m) → sumOver f xs ≤ length xs * m
+  sum-at-most f m [] q = omega arith
+  sum-at-most f m (x ∷ xs) q = rw (suc-mul (length xs) m) (omega (arith, q x, sum-at-most f m xs q))
 
   any-append : (p : A → Bool) (xs ys : List A) → any p (xs ++ ys) ≡ any p xs || any p ys
   any-append p [] ys = refl
@@ -67,6 +73,20 @@ module _ {A : Type 0} (eq : A → A → Bool) (eq-true : (x y : A) → eq x y �
           any-more eq (eq m) (addNew eq xs y) ys
           (subst (λ (z : A). any (eq z) (addNew eq xs y) ≡ true) (sym (eq-true m y t)) (added (any (eq y) xs) xs y refl))
       by-test false t q f = f q
+
+  -- what is in the list with y is in the list, or y
+  pub any-new : (xs : List A) (y m : A) → any (eq m) (addNew eq xs y) ≡ any (eq m) xs || eq m y
+  any-new xs y m = by-test (any (eq y) xs) refl (eq m y) refl
+    where
+      by-test : (b : Bool) → any (eq y) xs ≡ b → (d : Bool) → eq m y ≡ d → any (eq m) (addUnless b xs y) ≡ any (eq m) xs || d
+      by-test true t true u = rw (eq-true m y u, t)
+      by-test true t false u = sym (or-false (any (eq m) xs) false refl)
+      by-test false t d u = any-append (eq m) xs (y ∷ []) ∙ rw u (last (any (eq m) xs) d)
+        where
+          last : (a b : Bool) → a || (b || false) ≡ a || b
+          last true b = refl
+          last false true = refl
+          last false false = refl
 
   sum-append : (f : A → ℕ) (xs : List A) (y : A) → sumOver f (xs ++ (y ∷ [])) ≡ sumOver f xs + f y
   sum-append f [] y = omega arith
