@@ -13,11 +13,10 @@ use Rattle.rules.specs.Lists.{orElse}
 use Rattle.rules.specs.Chart.{Step, stepFor, entered, allowed, allowedBy}
 use Rattle.rules.specs.Charts.{isProcess, processChart, chartOf}
 use Rattle.rules.specs.Event.{Event, Instance, sameInstance, instanceOf, stateOf}
-use Rattle.rules.specs.Core.{Core, unknown, idle, held, takes, gives, keeps, onCore, on, becomes, coreAt, occupies, Alone}
-use Rattle.rules.specs.Core.{Free, free-unknown, free-idle, Own, own-held, own-first, CoreRun, elsewhere, taking, giving, keeping}
-use Rattle.rules.specs.Refusals.{look, coreBroken}
-use Rattle.rules.specs.Verdict.{Accepted, Never}
-use Rattle.rules.proofs.Tests.{both, clash, instance-true, instance-refl}
+use Rattle.rules.specs.Core.{Core, unknown, idle, held, takes, gives, keeps, onCore, becomes, coreAt, occupies, Alone}
+use Rattle.rules.specs.Core.{Free, free-unknown, free-idle, Own, own-held, own-first}
+use Rattle.rules.specs.Verdict.{Accepted}
+use Rattle.rules.proofs.Tests.{clash, instance-true, instance-refl}
 use Rattle.rules.proofs.Sums.{any-less}
 use Rattle.rules.proofs.ChartFact.{on-chart}
 use Rattle.rules.proofs.Answers.{Passed, passed}

@@ -7,7 +7,7 @@ use mathlib.Core.Option.{Option, none, some}
 use mathlib.Core.List.{List, [], _∷_}
 use Prim.Native.Nat.{ℕ}
 use borrow.Author.Tests.{eq-eqb, not-false}
-use Rattle.rules.specs.Lists.{keep, latest, orElse}
+use Rattle.rules.specs.Lists.{keep, orElse}
 use Rattle.rules.specs.Chart.{Step, leaves, stepFor, Run, begin, other, next, entered, stateAfter, allowed, allowedBy, follows}
 use Rattle.rules.specs.Charts.{chartOf}
 use Rattle.rules.specs.Event.{Event, Instance, sameInstance, instanceOf, wordsOf, stateOf}

@@ -1,5 +1,5 @@
 -- The core rule as a run: no event breaks the rule 13 exactly if the events on each core are a run from unknown; and such a run ends in what the core is.
-use mathlib.Core.Path.{_≡_, refl, sym, ap, subst, _∙_}
+use mathlib.Core.Path.{_≡_, refl, sym, ap, subst}
 use mathlib.Core.Logic.{_↔_}
 use mathlib.Core.Bool.{Bool, true, false, not, _&&_}
 use mathlib.Core.Option.{Option, none, some}
@@ -9,7 +9,7 @@ use borrow.Author.Tests.{not-false}
 use Rattle.text.specs.Bytes.{sameBytes}
 use Rattle.text.proofs.Words.{same-eq, same-refl}
 use Rattle.rules.specs.Lists.{latest, orElse, when}
-use Rattle.rules.specs.Event.{Event, Instance, sameInstance, instanceOf, stateOf}
+use Rattle.rules.specs.Event.{Event, Instance, instanceOf, stateOf}
 use Rattle.rules.specs.Core.{Core, unknown, idle, held, takes, gives, onCore, on, becomes, effectOn, orUnknown, coreAt}
 use Rattle.rules.specs.Core.{Free, free-unknown, free-idle, Own, own-held, own-first, CoreRun, fresh, elsewhere, taking, giving, keeping}
 use Rattle.rules.specs.Refusals.{look, unseen, serves, coreBroken}

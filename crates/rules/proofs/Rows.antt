@@ -10,7 +10,6 @@ use lib.Dec.{eqb}
 use lib.ListN.{length, getD, drop, drop-of-length-le}
 use lib.Seq.{drop-cons}
 use borrow.Author.Tests.{eqb-true, ne-eqb, not-true}
-use Rattle.rules.specs.declared.chart.Move.{Move}
 use Rattle.rules.specs.declared.chart.Move.the-variants.{To, Off}
 use Rattle.rules.specs.Lists.{member, orElse, when}
 use Rattle.rules.specs.Chart.{Step, leaves, stepFor, allowedBy}

@@ -6,8 +6,7 @@ use mathlib.Core.List.{List, [], _∷_}
 use Prim.Native.Nat.{ℕ, zero, suc}
 use lib.Dec.{eqb}
 use borrow.Author.Tests.{eqb-false}
-use Rattle.rules.specs.declared.chart.Move.{Move}
-use Rattle.rules.specs.declared.chart.Move.the-variants.{To, Off}
+use Rattle.rules.specs.declared.chart.Move.the-variants.{To}
 use Rattle.rules.specs.Lists.{orElse}
 use Rattle.rules.specs.Chart.{Step, stepFor, entered, allowed}
 use Rattle.rules.specs.Charts.{isProcess, processChart, runnableChart, semaphoreChart, chartOf}

@@ -12,7 +12,7 @@ use Rattle.rules.specs.Lists.{any, keep, when, orElse, latest}
 use Rattle.rules.specs.Words.{core}
 use Rattle.rules.specs.Charts.{isProcess}
 use Rattle.rules.specs.Event.{Event, instanceOf}
-use Rattle.rules.specs.Core.{Core, unknown, idle, held, becomes, gives, onCore, on, effectOn, orUnknown, coreAt}
+use Rattle.rules.specs.Core.{Core, unknown, idle, held, becomes, gives, onCore, effectOn, orUnknown, coreAt}
 use Rattle.rules.specs.History.{hasInstances, isTracked, named, names, kindIn, kindOf}
 use Rattle.rules.specs.Refusals.{secondKind, differs}
 use Rattle.rules.specs.Verdict.{Accepted}

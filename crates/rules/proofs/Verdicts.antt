@@ -8,7 +8,7 @@ use native.Mathlib.Omega.{arith}
 use lib.ListN.{length}
 use Rattle.rules.specs.Lists.{ifZero}
 use Rattle.rules.specs.Event.{Event}
-use Rattle.rules.specs.Refusals.{look, rules, answerTo}
+use Rattle.rules.specs.Refusals.{look, rules}
 use Rattle.rules.specs.Verdict.{answer, Accepted, taken, verdict}
 use Rattle.rules.proofs.Answers.{Lowest, answer-lowest}
 

@@ -1,5 +1,4 @@
 -- `chart::chart_step` meets its contract: each type has its own chart, and any other none.
-use mathlib.Core.Path.{refl}
 use borrow.Author.Needs.{needs}
 use borrow.Author.Tests.{eq-eqb, ne-eqb}
 use Rattle.rules.specs.Charts.{isProcess, chartOf}
