@@ -9,9 +9,8 @@ use borrow.Author.Tests.{eqb-true, not-true}
 use Rattle.rules.specs.Lists.{member, when, orElse}
 use Rattle.rules.specs.Chart.{Step, leaves, stepFor}
 use Rattle.rules.specs.Charts.{isProcess, processChart}
-use Rattle.rules.specs.Words.{start, resume, poll-parking, preempt, wait, park, terminate, poll, run}
 use Rattle.rules.specs.Event.{Event}
-use Rattle.rules.specs.Core.{takes, gives, keeps, onCore, occupies}
+use Rattle.rules.specs.Core.{takers, givers, keepers, takes, gives, keeps, onCore, occupies}
 use Rattle.rules.proofs.Tests.{both}
 
 -- ---- a test that every element passes
@@ -86,25 +85,25 @@ isStep (some r) = true
 pub takes-only : (a : ℕ) → takes a ≡ true → (gives a ≡ false) × (keeps a ≡ false) × (isStep (stepFor processChart a) ≡ true)
 unfolding processChart takes gives keeps every isStep
 takes-only a q = (
-  not-true _ (of-member (λ n. not (gives n)) a (start ∷ resume ∷ poll-parking ∷ []) refl q),
-  not-true _ (of-member (λ n. not (keeps n)) a (start ∷ resume ∷ poll-parking ∷ []) refl q),
-  of-member (λ n. isStep (stepFor processChart n)) a (start ∷ resume ∷ poll-parking ∷ []) refl q,
+  not-true _ (of-member (λ n. not (gives n)) a takers refl q),
+  not-true _ (of-member (λ n. not (keeps n)) a takers refl q),
+  of-member (λ n. isStep (stepFor processChart n)) a takers refl q,
 )
 
 pub gives-only : (a : ℕ) → gives a ≡ true → (takes a ≡ false) × (keeps a ≡ false) × (isStep (stepFor processChart a) ≡ true)
 unfolding processChart takes gives keeps every isStep
 gives-only a q = (
-  not-true _ (of-member (λ n. not (takes n)) a (preempt ∷ wait ∷ park ∷ terminate ∷ []) refl q),
-  not-true _ (of-member (λ n. not (keeps n)) a (preempt ∷ wait ∷ park ∷ terminate ∷ []) refl q),
-  of-member (λ n. isStep (stepFor processChart n)) a (preempt ∷ wait ∷ park ∷ terminate ∷ []) refl q,
+  not-true _ (of-member (λ n. not (takes n)) a givers refl q),
+  not-true _ (of-member (λ n. not (keeps n)) a givers refl q),
+  of-member (λ n. isStep (stepFor processChart n)) a givers refl q,
 )
 
 pub keeps-only : (a : ℕ) → keeps a ≡ true → (takes a ≡ false) × (gives a ≡ false) × (isStep (stepFor processChart a) ≡ true)
 unfolding processChart takes gives keeps every isStep
 keeps-only a q = (
-  not-true _ (of-member (λ n. not (takes n)) a (poll ∷ run ∷ []) refl q),
-  not-true _ (of-member (λ n. not (gives n)) a (poll ∷ run ∷ []) refl q),
-  of-member (λ n. isStep (stepFor processChart n)) a (poll ∷ run ∷ []) refl q,
+  not-true _ (of-member (λ n. not (takes n)) a keepers refl q),
+  not-true _ (of-member (λ n. not (gives n)) a keepers refl q),
+  of-member (λ n. isStep (stepFor processChart n)) a keepers refl q,
 )
 
 -- an event on a core is one of the three

@@ -13,7 +13,7 @@ use Rattle.rules.specs.Charts.{chartOf, processChart, runnableChart, sem
 use Rattle.rules.specs.Event.{Event}
 use Rattle.rules.specs.Core.{takes, gives, keeps, onCore}
 use Rattle.rules.specs.History.{hasInstances, isTracked, named, kindIn, activates, lastNumber, lastCount, names, instances}
-use Rattle.rules.specs.Refusals.{timeFalls, secondKind, noRoom, offChart, notNext, coreBroken, countFollows, fixed, countBroken, rules, answerTo}
+use Rattle.rules.specs.Refusals.{timeFalls, secondKind, sourceClash, targetClash, noRoom, offChart, notNext, coreBroken, countFollows, fixed, countBroken, rules, answerTo}
 use Rattle.rules.specs.Verdict.{answer, taken, verdict}
 use Rattle.rules.specs.Sheet.{ticks, Row, Sheet, sheet}
 
@@ -130,6 +130,10 @@ examples =
     ∷ answers (many newName 256) (trigger 0) 0
     ∷ answers (many newCore 63) (newCore 63) 0
     ∷ answers (many newCore 64) (newCore 64) 10
+    ∷ answers (many newName 255) (newCore 0) 10
+    ∷ answers (many newName 255) (line task 0 (bytes "Task_A") 0 (bytes "Task_A") 0 start) 9
+    ∷ answers (many newCore 64) (line task 0 (bytes "Task_A") 0 (bytes "Task_B") 0 start) 9
+    ∷ answers (many newCore 64) (line task 0 (bytes "Core_65") 0 (bytes "Task_A") 64 release) 0
     -- 11: mtalimitexceeded is in the chart; terminated instances are kept; an instance starts in any state
     ∷ says (S 0 0 mtalimitexceeded ∷ A 0 0 start ∷ []) 11 2
     ∷ says (A 0 0 terminate ∷ A 0 0 preempt ∷ []) 11 2
@@ -189,5 +193,5 @@ right [] = true
 right (x ∷ xs) = isRight x && right xs
 
 pub examples-right : T (right examples)
-unfolding right isRight sameVerdict sameSheet sameRows sameBytes verdict taken sheet ticks answerTo rules timeFalls secondKind noRoom offChart notNext coreBroken countBroken names instances chartOf processChart runnableChart semaphoreChart isProcess takes gives keeps onCore hasInstances isTracked named kindIn activates lastNumber lastCount fixed countFollows
+unfolding right isRight sameVerdict sameSheet sameRows sameBytes verdict taken sheet ticks answerTo rules timeFalls secondKind sourceClash targetClash noRoom offChart notNext coreBroken countBroken names instances chartOf processChart runnableChart semaphoreChart isProcess takes gives keeps onCore hasInstances isTracked named kindIn activates lastNumber lastCount fixed countFollows
 examples-right = tt

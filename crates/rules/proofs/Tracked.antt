@@ -1,6 +1,6 @@
 -- A name keeps its kind: what 9 leaves. What is tracked of cores and of the instances that hold them, and that each tracked name is listed once.
 use mathlib.Core.Path.{_≡_, refl, sym, ap}
-use mathlib.Core.Bool.{Bool, true, false, _&&_, _||_}
+use mathlib.Core.Bool.{Bool, true, false, _&&_}
 use mathlib.Core.Option.{Option, none, some}
 use mathlib.Core.List.{List, [], _∷_}
 use Prim.Native.Nat.{ℕ}
@@ -14,7 +14,7 @@ use Rattle.rules.specs.Charts.{isProcess}
 use Rattle.rules.specs.Event.{Event, instanceOf}
 use Rattle.rules.specs.Core.{Core, unknown, idle, held, becomes, gives, onCore, effectOn, orUnknown, coreAt}
 use Rattle.rules.specs.History.{hasInstances, isTracked, named, names, kindIn, kindOf}
-use Rattle.rules.specs.Refusals.{secondKind, differs}
+use Rattle.rules.specs.Refusals.{look, secondKind, sourceClash, targetClash, differs}
 use Rattle.rules.specs.Verdict.{Accepted}
 use Rattle.rules.proofs.Tests.{both, neither}
 use Rattle.rules.proofs.Sums.{any-more, any-less, any-added, Once, once-added}
@@ -37,13 +37,17 @@ agrees : (o : Option ℕ) (j k : ℕ) → differs o k ≡ false → o ≡ some j
 agrees o j k q r = eqb-true j k (not-false (eqb j k) (rw r at q))
 
 module _ (h : List Event) (e : Event) (f : Passed h e) where
-  on-core-line : onCore e ≡ true → (differs (kindOf (e .source) h) core ≡ false) × (sameBytes (e .source) (e .target) ≡ false)
+  no-clash : (sourceClash (look h e) e ≡ false) × (targetClash (look h e) e ≡ false)
   unfolding secondKind
-  on-core-line o = neither _ _ (rw o at (neither (onCore e && (differs (kindOf (e .source) h) core || sameBytes (e .source) (e .target))) _ (f .kinds) .0))
+  no-clash = neither (sourceClash (look h e) e) (targetClash (look h e) e) (f .kinds)
+
+  on-core-line : onCore e ≡ true → (differs (kindOf (e .source) h) core ≡ false) × (sameBytes (e .source) (e .target) ≡ false)
+  unfolding sourceClash
+  on-core-line o = neither _ _ (rw o at no-clash .0)
 
   on-target : isTracked (e .kind) ≡ true → differs (kindOf (e .target) h) (e .kind) ≡ false
-  unfolding secondKind
-  on-target t = rw t at (neither (onCore e && (differs (kindOf (e .source) h) core || sameBytes (e .source) (e .target))) _ (f .kinds) .1)
+  unfolding targetClash
+  on-target t = rw t at no-clash .1
 
   pub kind-stays : (n : List ℕ) (k : ℕ) → kindOf n h ≡ some k → kindOf n (e ∷ h) ≡ some k
   unfolding kindIn

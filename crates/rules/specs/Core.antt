@@ -17,16 +17,25 @@ pub data Core : Type 0 where
   held : Instance → Core
 
 -- "start, resume and poll_parking .. make it held"
+abbrev pub takers : List ℕ
+takers = start ∷ resume ∷ poll-parking ∷ []
+
 unfoldable pub takes : ℕ → Bool
-takes a = member a (start ∷ resume ∷ poll-parking ∷ [])
+takes a = member a takers
 
 -- "preempt, wait, park and terminate .. make it idle"
+abbrev pub givers : List ℕ
+givers = preempt ∷ wait ∷ park ∷ terminate ∷ []
+
 unfoldable pub gives : ℕ → Bool
-gives a = member a (preempt ∷ wait ∷ park ∷ terminate ∷ [])
+gives a = member a givers
 
 -- "poll and run .. leave it held by this instance"
+abbrev pub keepers : List ℕ
+keepers = poll ∷ run ∷ []
+
 unfoldable pub keeps : ℕ → Bool
-keeps a = member a (poll ∷ run ∷ [])
+keeps a = member a keepers
 
 -- an event on a core: one of these on T or I. "release and release_parking neither track nor change one, and their source isn't looked up"
 unfoldable pub onCore : Event → Bool
@@ -57,7 +66,7 @@ pub data Free : Core → Type 0 where
   free-unknown : Free unknown
   free-idle : Free idle
 
--- "need it held by this instance"; "an unknown core also serves if the instance is seen for the first time"
+-- "need it held by this instance"; "an unknown core also serves if the instance is seen for the first time", when it has no state yet
 pub data Own (h : List Event) (x : Instance) : Core → Type 0 where
   own-held : Own h x (held x)
   own-first : stateOf x h ≡ none → Own h x unknown

@@ -57,9 +57,14 @@ abbrev pub differs : Option ℕ → ℕ → Bool
 differs none k = false
 differs (some j) k = not (eqb j k)
 
+unfoldable pub sourceClash : Known → Event → Bool
+sourceClash k e = onCore e && (differs (k .sourceKind) core || sameBytes (e .source) (e .target))
+
+unfoldable pub targetClash : Known → Event → Bool
+targetClash k e = isTracked (e .kind) && differs (k .targetKind) (e .kind)
+
 unfoldable pub secondKind : Known → Event → Bool
-secondKind k e =
-    (onCore e && (differs (k .sourceKind) core || sameBytes (e .source) (e .target))) || (isTracked (e .kind) && differs (k .targetKind) (e .kind))
+secondKind k e = sourceClash k e || targetClash k e
 
 -- ---- 10: "the names or instances that the line adds don't fit"
 -- "tracked names (cores, T, I, R, SEM): 256, of them 64 cores; process and runnable instances: 1,024"

@@ -78,7 +78,7 @@ fn entered(rows: &[[u32; 3]], word: u32, state: u32) -> u32
 }
 
 // What the word does in the state by the rows of a chart. A word that no row has changes nothing.
-pub fn step(rows: &[[u32; 3]], word: u32, state: u32) -> Move
+fn step(rows: &[[u32; 3]], word: u32, state: u32) -> Move
     ensures { λ r. ⌜ r ≡ moveIn (now (rows .entry)) word state ⌝ }
 {
     let next = entered(rows, word, state);
