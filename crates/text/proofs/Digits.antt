@@ -7,9 +7,8 @@ use native.Mathlib.Nat.{not-suc-le-zero, pow-suc}
 use native.Mathlib.Omega.{arith}
 use lib.Dec.{leb, ltb, eqb}
 use lib.ListN.{length, length-append}
-use borrow.Author.Tests.{eq-eqb, ne-eqb, eqb-false, le-leb, lt-leb, leb-true, lt-ltb, le-ltb, ltb-true, ltb-false, not-true}
-use Rattle.text.specs.declared.number.Number.{Number}
-use Rattle.text.specs.declared.number.Number.the-variants.{Value, Bad}
+use borrow.Author.Tests.{ne-eqb, eqb-false, le-leb, leb-true, lt-ltb, le-ltb, ltb-true, ltb-false, not-true}
+use Rattle.text.specs.declared.number.Number.the-variants.{Value}
 use Rattle.text.specs.Number.{isDigit, allDigits, isNumber, valueFrom, numberIf, numberOf, digitsTo, digitsOf}
 use Rattle.text.proofs.Bools.{and-l, and-r}
 
