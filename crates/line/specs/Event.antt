@@ -8,14 +8,10 @@ use Rattle.text.specs.Name.{isName}
 use Rattle.text.specs.Number.{numberOf}
 use Rattle.text.specs.declared.number.Number.{Number}
 use Rattle.text.specs.declared.number.Number.the-variants.{Value, Bad}
-use Rattle.line.specs.declared.kind.Kind.{Kind}
-use Rattle.line.specs.declared.kind.KindFound.{KindFound}
-use Rattle.line.specs.declared.kind.KindFound.the-variants.{ThisKind, NoKind}
-use Rattle.line.specs.declared.action.Action.{Action}
-use Rattle.line.specs.declared.action.ActionFound.{ActionFound}
-use Rattle.line.specs.declared.action.ActionFound.the-variants.{ThisAction, NoAction}
-use Rattle.line.specs.declared.named.Pair.{Pair}
-use Rattle.line.specs.declared.named.Pair.the-variants.{Known, Unknown}
+use Rattle.words.specs.declared.kind.Kind.{Kind}
+use Rattle.words.specs.declared.action.Action.{Action}
+use Rattle.words.specs.declared.pair.Pair.{Pair}
+use Rattle.words.specs.declared.pair.Pair.the-variants.{Known, Unknown}
 use Rattle.line.specs.declared.note.Note.{Note}
 use Rattle.line.specs.declared.note.Note.the-variants.{Means, Wrong}
 use Rattle.line.specs.declared.event.Event.{Event}
@@ -24,27 +20,13 @@ use Rattle.line.specs.declared.event.Numbers.the-variants.{Are, Wrong as
 use Rattle.line.specs.declared.reading.Reading.{Reading}
 use Rattle.line.specs.declared.reading.Reading.the-variants.{EventLine, Refused}
 use Rattle.line.specs.Part.{partsOf, fieldOf}
-use Rattle.line.specs.Kind.{kindOf}
-use Rattle.line.specs.Action.{actionOf}
+use Rattle.words.specs.Pair.{namedBy}
 use Rattle.line.specs.Note.{maxInstance, noteOf}
 use Rattle.line.specs.Rule.{ruleBroken}
 
 -- "time: 72,057,594,037,927,935 (2^56 − 1)"
 abbrev pub maxTime : ℕ
 maxTime = 72057594037927935
-
--- ---- the type and the event, which is to be one of that type
-
-abbrev pub pairAs : Kind → ActionFound → Pair
-pairAs k (ThisAction a) = Known k a
-pairAs k NoAction = Unknown
-
-abbrev pub pairWith : KindFound → List ℕ → Pair
-pairWith (ThisKind k) action = pairAs k (actionOf k action)
-pairWith NoKind action = Unknown
-
-unfoldable pub namedBy : List ℕ → List ℕ → Pair
-namedBy kind action = pairWith (kindOf kind) action
 
 -- ---- the three numbers
 

@@ -1,12 +1,7 @@
 -- What one line of a trace is, after document 01 and 000: its parts, its words, its rules, how it is read and how it is written.
-pub mod Named
 pub mod Part
-pub mod Kind
-pub mod Action
-pub mod Class
 pub mod Note
 pub mod Rule
-pub mod Scale
 pub mod Date
 pub mod Answer
 pub mod Parameter

@@ -9,8 +9,8 @@ use Rattle.text.specs.Bytes.{toByte}
 use Rattle.text.specs.Number.{areDigits, numberOf}
 use Rattle.text.specs.declared.number.Number.{Number}
 use Rattle.text.specs.declared.number.Number.the-variants.{Value, Bad}
-use Rattle.line.specs.declared.kind.Kind.{Kind}
-use Rattle.line.specs.declared.kind.Kind.the-variants.{Stimulus, Task, Interrupt, Runnable, Scheduler, OsEvent, Signal, Semaphore}
+use Rattle.words.specs.declared.kind.Kind.{Kind}
+use Rattle.words.specs.declared.kind.Kind.the-variants.{Stimulus, Task, Interrupt, Runnable, Scheduler, OsEvent, Signal, Semaphore}
 use Rattle.line.specs.declared.note.Note.{Note}
 use Rattle.line.specs.declared.note.Note.the-variants.{Means, Wrong}
 

@@ -6,11 +6,11 @@ use lib.Dec.{ltb}
 use lib.ListN.{length, drop}
 use Rattle.text.specs.Literal.{bytes}
 use Rattle.text.specs.Bytes.{sameBytes, startsWith}
-use Rattle.line.specs.declared.scale.ScaleFound.{ScaleFound}
-use Rattle.line.specs.declared.scale.ScaleFound.the-variants.{ThisScale, NoScale}
+use Rattle.words.specs.declared.scale.ScaleFound.{ScaleFound}
+use Rattle.words.specs.declared.scale.ScaleFound.the-variants.{ThisScale, NoScale}
 use Rattle.line.specs.declared.reading.Reading.{Reading}
 use Rattle.line.specs.declared.reading.Reading.the-variants.{Version, Comment, TimeScale, Creator, CreationDate, Refused}
-use Rattle.line.specs.Scale.{scaleOf}
+use Rattle.words.specs.Scale.{scaleOf}
 use Rattle.line.specs.Date.{isMoment}
 
 -- "First line: exactly `#version 2.2.0`"

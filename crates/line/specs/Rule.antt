@@ -5,11 +5,11 @@ use mathlib.Core.List.{List, [], _∷_}
 use lib.Dec.{eqb}
 use lib.ListN.{length}
 use Rattle.text.specs.Bytes.{sameBytes}
-use Rattle.line.specs.declared.kind.Kind.{Kind}
-use Rattle.line.specs.declared.kind.Kind.the-variants.{Stimulus, Task, Interrupt, Runnable, Scheduler, OsEvent, Signal, Semaphore}
-use Rattle.line.specs.declared.action.Action.{Action}
-use Rattle.line.specs.declared.action.Action.the-variants.{InterruptSuspended, Park, Poll, PollParking, Preempt, Release, ReleaseParking, Resume, Run, Start, Terminate, Wait, Schedule, SetEvent}
-use Rattle.line.specs.Action.{among, semaphoreStates}
+use Rattle.words.specs.declared.kind.Kind.{Kind}
+use Rattle.words.specs.declared.kind.Kind.the-variants.{Stimulus, Task, Interrupt, Runnable, Scheduler, OsEvent, Signal, Semaphore}
+use Rattle.words.specs.declared.action.Action.{Action}
+use Rattle.words.specs.declared.action.Action.the-variants.{InterruptSuspended, Park, Poll, PollParking, Preempt, Release, ReleaseParking, Resume, Run, Start, Terminate, Wait, Schedule, SetEvent}
+use Rattle.words.specs.Action.{among, semaphoreStates}
 
 unfoldable pub isProcess : Kind → Bool
 isProcess Stimulus = false

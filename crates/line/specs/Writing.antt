@@ -11,8 +11,8 @@ use Rattle.text.specs.Put.{written}
 use Rattle.line.specs.declared.event.Event.{Event}
 use Rattle.line.specs.declared.writing.Written.{Written}
 use Rattle.line.specs.declared.writing.Written.the-variants.{Done, NotWritten}
-use Rattle.line.specs.Kind.{kindWord}
-use Rattle.line.specs.Action.{wordOf, isOf}
+use Rattle.words.specs.Kind.{kindWord}
+use Rattle.words.specs.Action.{wordOf, isOf}
 use Rattle.line.specs.Note.{maxInstance, noteOf, isWrong}
 use Rattle.line.specs.Rule.{ruleBroken}
 use Rattle.line.specs.Event.{maxTime}

@@ -2,19 +2,19 @@
 ghost use mathlib.Core.Path.{_≡_};
 ghost use mathlib.Core.Bool.{Bool};
 ghost use Rattle.line.specs.Event.{numbersOf, hasNames, fieldsReading, knownReading, eventReading};
-use crate::action::Action;
-use crate::kind::Kind;
-use crate::named::named;
-use crate::named::Pair;
-use crate::note::note_of;
 use crate::note::Note;
+use crate::note::note_of;
 use crate::part::between;
 use crate::part::split;
 use crate::reading::Reading;
 use crate::rule::rule_broken;
 use text::name::name;
-use text::number::read_number;
 use text::number::Number;
+use text::number::read_number;
+use words::action::Action;
+use words::kind::Kind;
+use words::pair::Pair;
+use words::pair::named;
 
 // What an event line says, but for its source, target and note, which are the parts 2, 5 and 8 of the line itself.
 pub struct Event {

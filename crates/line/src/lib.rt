@@ -1,16 +1,11 @@
 // One line of a Best Trace Format 2.2.0 trace, read and written.
-pub mod action;
-mod class;
 pub mod date;
 pub mod event;
-pub mod kind;
-pub mod named;
 pub mod note;
 pub mod parameter;
 pub mod part;
 pub mod reading;
 pub mod rule;
-pub mod scale;
 pub mod writing;
 
 pub use part::field;

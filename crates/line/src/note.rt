@@ -1,11 +1,11 @@
 // What a note means: a semaphore's count, a signal's value.
 ghost use mathlib.Core.Path.{_≡_};
 ghost use Rattle.line.specs.Note.{noteOf, countNote, signalNote, isDecimal, isSignal};
-use crate::kind::Kind;
 use text::bytes::find;
+use text::number::Number;
 use text::number::digits;
 use text::number::read_number;
-use text::number::Number;
+use words::kind::Kind;
 
 // The count that a note means, 0 for a note that is no count; or that the note has not the form its type asks.
 pub enum Note {
@@ -56,7 +56,11 @@ fn signal(s: &[u8]) -> bool
 fn signal_note(s: &[u8]) -> Note
     ensures { λ r. ⌜ r ≡ signalNote (now (s .entry)) ⌝ }
 {
-    if signal(s) { Note::Means(0) } else { Note::Wrong }
+    if signal(s) {
+        Note::Means(0)
+    } else {
+        Note::Wrong
+    }
 }
 
 // What a note means at a type; an empty note is no note.

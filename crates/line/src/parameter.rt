@@ -3,10 +3,10 @@ ghost use mathlib.Core.Path.{_≡_};
 ghost use Rattle.line.specs.Parameter.{isVersion, isVersionLine, isComment, timeScale, isCreator, isCreationDate, parameterReading, otherReading};
 use crate::date::moment;
 use crate::reading::Reading;
-use crate::scale::scale_of;
-use crate::scale::ScaleFound;
 use text::bytes::same;
 use text::bytes::starts;
+use words::scale::ScaleFound;
+use words::scale::scale_of;
 
 // Whether the line is `#version`, or begins with it and a blank.
 fn version_line(line: &[u8]) -> bool

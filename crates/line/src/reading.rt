@@ -1,10 +1,10 @@
 // Reading one line.
 ghost use mathlib.Core.Path.{_≡_};
 ghost use Rattle.line.specs.Reading.{readLine, hasBreak, isEventLine};
-use crate::event::read_event;
 use crate::event::Event;
+use crate::event::read_event;
 use crate::parameter::read_parameter;
-use crate::scale::Scale;
+use words::scale::Scale;
 
 // What a line is. An event line's count is what the note of a semaphore's line means, and 0 on any other.
 pub enum Reading {

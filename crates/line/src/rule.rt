@@ -1,10 +1,10 @@
 // The rules on sources, instances and the presence of a note.
 ghost use mathlib.Core.Path.{_≡_};
 ghost use Rattle.line.specs.Rule.{isProcess, zeroSource, zeroTarget, isOwn, sourceBroken, targetBroken, ownBroken, noteBroken, ruleBroken};
-use crate::action::Action;
-use crate::class::class_of;
-use crate::kind::Kind;
 use text::bytes::same;
+use words::action::Action;
+use words::class::class_of;
+use words::kind::Kind;
 
 // Whether a type is T or I.
 fn process(kind: Kind) -> bool
@@ -125,7 +125,15 @@ fn note_broken(kind: Kind, action: Action, n: usize) -> bool
 }
 
 // Whether an event breaks a rule on its source, its instances or the presence of its note. `from` and `to` are the instances.
-pub(crate) fn rule_broken(kind: Kind, action: Action, source: &[u8], from: u32, target: &[u8], to: u32, note: &[u8]) -> bool
+pub(crate) fn rule_broken(
+    kind: Kind,
+    action: Action,
+    source: &[u8],
+    from: u32,
+    target: &[u8],
+    to: u32,
+    note: &[u8],
+) -> bool
     ensures { λ r. ⌜ r ≡ ruleBroken kind action (now (source .entry)) «from» (now (target .entry)) to (now (note .entry)) ⌝ }
 {
     if source_broken(kind, action, from) {

@@ -3,22 +3,22 @@ ghost use mathlib.Core.Path.{_≡_};
 ghost use Prim.Native.Nat.{_+_, _≤_};
 ghost use lib.ListN.{length};
 ghost use Rattle.text.specs.Put.{put, after};
-ghost use Rattle.line.specs.Kind.{kindWord};
+ghost use Rattle.words.specs.Kind.{kindWord};
 ghost use Rattle.line.specs.Writing.{hasSizes, recordRefusal, textOf, noteText, numberField, nameField, writeLine, wrote};
-use crate::action::put_word;
-use crate::action::word_length;
-use crate::class::is_of;
 use crate::event::Event;
-use crate::kind::kind_length;
-use crate::kind::put_kind;
-use crate::kind::Kind;
-use crate::note::note_of;
 use crate::note::Note;
+use crate::note::note_of;
 use crate::rule::rule_broken;
 use text::name::name;
 use text::put::digit_count;
 use text::put::put_bytes;
 use text::put::put_number;
+use words::action::put_word;
+use words::action::word_length;
+use words::class::is_of;
+use words::kind::Kind;
+use words::kind::kind_length;
+use words::kind::put_kind;
 
 // The length of the line that was written, or the number of the refusal.
 pub enum Written {
@@ -61,7 +61,15 @@ fn refusal(event: Event, source: &[u8], target: &[u8], note: &[u8]) -> u8
     let Note::Means(_) = n else {
         return 5;
     };
-    if rule_broken(kind, action, source, event.source_instance, target, event.target_instance, note) {
+    if rule_broken(
+        kind,
+        action,
+        source,
+        event.source_instance,
+        target,
+        event.target_instance,
+        note,
+    ) {
         return 7;
     }
     0

@@ -2,11 +2,11 @@
 use Prim.Native.Nat.{ℕ}
 use mathlib.Core.List.{List, [], _∷_}
 use Rattle.text.specs.Literal.{bytes}
-use Rattle.line.specs.Named.{firstNamed}
-use Rattle.line.specs.declared.kind.Kind.{Kind}
-use Rattle.line.specs.declared.kind.Kind.the-variants.{Stimulus, Task, Interrupt, Runnable, Scheduler, OsEvent, Signal, Semaphore}
-use Rattle.line.specs.declared.kind.KindFound.{KindFound}
-use Rattle.line.specs.declared.kind.KindFound.the-variants.{ThisKind, NoKind}
+use Rattle.words.specs.Named.{firstNamed}
+use Rattle.words.specs.declared.kind.Kind.{Kind}
+use Rattle.words.specs.declared.kind.Kind.the-variants.{Stimulus, Task, Interrupt, Runnable, Scheduler, OsEvent, Signal, Semaphore}
+use Rattle.words.specs.declared.kind.KindFound.{KindFound}
+use Rattle.words.specs.declared.kind.KindFound.the-variants.{ThisKind, NoKind}
 
 -- the word of each type
 unfoldable pub kindWord : Kind → List ℕ

@@ -1,12 +1,12 @@
 // The type and event that two fields name.
 ghost use mathlib.Core.Path.{_≡_};
-ghost use Rattle.line.specs.Event.{namedBy};
-use crate::action::action_of;
+ghost use Rattle.words.specs.Pair.{namedBy};
 use crate::action::Action;
 use crate::action::ActionFound;
-use crate::kind::kind_of;
+use crate::action::action_of;
 use crate::kind::Kind;
 use crate::kind::KindFound;
+use crate::kind::kind_of;
 
 pub enum Pair {
     Known(Kind, Action),
@@ -14,7 +14,7 @@ pub enum Pair {
 }
 
 // The type that `kind` names and the event of that type that `action` names.
-pub(crate) fn named(kind: &[u8], action: &[u8]) -> Pair
+pub fn named(kind: &[u8], action: &[u8]) -> Pair
     ensures { λ r. ⌜ r ≡ namedBy (now (kind .entry)) (now (action .entry)) ⌝ }
 {
     let k = kind_of(kind);

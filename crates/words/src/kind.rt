@@ -4,7 +4,7 @@ ghost use mathlib.Core.Bool.{cond};
 ghost use lib.ListN.{length};
 ghost use Rattle.text.specs.Bytes.{sameBytes};
 ghost use Rattle.text.specs.Put.{put, after};
-ghost use Rattle.line.specs.Kind.{kindOf, kindWord};
+ghost use Rattle.words.specs.Kind.{kindOf, kindWord};
 use text::bytes::same;
 use text::put::put_bytes;
 
@@ -36,7 +36,7 @@ fn kind_named(s: &[u8], w: &[u8], kind: Kind, other: KindFound) -> KindFound
 }
 
 // The type that s names.
-pub(crate) fn kind_of(s: &[u8]) -> KindFound
+pub fn kind_of(s: &[u8]) -> KindFound
     ensures { λ r. ⌜ r ≡ kindOf (now (s .entry)) ⌝ }
 {
     let k = KindFound::NoKind;
@@ -51,7 +51,7 @@ pub(crate) fn kind_of(s: &[u8]) -> KindFound
 }
 
 // How many bytes a type's word has.
-pub(crate) fn kind_length(kind: Kind) -> usize
+pub fn kind_length(kind: Kind) -> usize
     ensures { λ r. ⌜ r ≡ length (kindWord kind) ⌝ }
 {
     match kind {
@@ -67,7 +67,7 @@ pub(crate) fn kind_length(kind: Kind) -> usize
 }
 
 // Puts a type's word into out from the index at on.
-pub(crate) fn put_kind(kind: Kind, out: &mut [u8], at: usize) -> usize
+pub fn put_kind(kind: Kind, out: &mut [u8], at: usize) -> usize
     ensures { λ r. ⌜ after r (now (out .exit)) ≡ put (now (out .entry)) at (kindWord kind) ⌝ }
 {
     match kind {

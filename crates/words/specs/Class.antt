@@ -3,15 +3,48 @@
 use Prim.Native.Nat.{ℕ}
 use mathlib.Core.Bool.{Bool, true, false, _&&_, _||_}
 use lib.Dec.{eqb, leb}
-use Rattle.line.specs.declared.kind.Kind.{Kind}
-use Rattle.line.specs.declared.kind.Kind.the-variants.{Stimulus, Task, Interrupt, Runnable, Scheduler, OsEvent, Signal, Semaphore}
-use Rattle.line.specs.declared.action.Action.{Action}
-use Rattle.line.specs.declared.action.Action.the-variants.{
-  Trigger, Activate, InterruptSuspended, Mtalimitexceeded, Park, Poll, PollParking, Preempt,
-  Release, ReleaseParking, Resume, Run, Start, Terminate, Wait, Suspend,
-  Schedule, Schedulepoint, ClearEvent, SetEvent, WaitEvent, Read, Write, Assigned,
-  Decrement, Free, Full, Increment, Lock, LockUsed, Overfull, Queued,
-  Released, Requestsemaphore, Unlock, UnlockFull, Used, Waiting,
+use Rattle.words.specs.declared.kind.Kind.{Kind}
+use Rattle.words.specs.declared.kind.Kind.the-variants.{Stimulus, Task, Interrupt, Runnable, Scheduler, OsEvent, Signal, Semaphore}
+use Rattle.words.specs.declared.action.Action.{Action}
+use Rattle.words.specs.declared.action.Action.the-variants.{
+  Trigger,
+  Activate,
+  InterruptSuspended,
+  Mtalimitexceeded,
+  Park,
+  Poll,
+  PollParking,
+  Preempt,
+  Release,
+  ReleaseParking,
+  Resume,
+  Run,
+  Start,
+  Terminate,
+  Wait,
+  Suspend,
+  Schedule,
+  Schedulepoint,
+  ClearEvent,
+  SetEvent,
+  WaitEvent,
+  Read,
+  Write,
+  Assigned,
+  Decrement,
+  Free,
+  Full,
+  Increment,
+  Lock,
+  LockUsed,
+  Overfull,
+  Queued,
+  Released,
+  Requestsemaphore,
+  Unlock,
+  UnlockFull,
+  Used,
+  Waiting,
 }
 
 unfoldable pub classOf : Action → ℕ

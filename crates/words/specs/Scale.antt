@@ -2,11 +2,11 @@
 use Prim.Native.Nat.{ℕ}
 use mathlib.Core.List.{List, [], _∷_}
 use Rattle.text.specs.Literal.{bytes}
-use Rattle.line.specs.Named.{firstNamed}
-use Rattle.line.specs.declared.scale.Scale.{Scale}
-use Rattle.line.specs.declared.scale.Scale.the-variants.{Picoseconds, Nanoseconds, Microseconds, Milliseconds, Seconds}
-use Rattle.line.specs.declared.scale.ScaleFound.{ScaleFound}
-use Rattle.line.specs.declared.scale.ScaleFound.the-variants.{ThisScale, NoScale}
+use Rattle.words.specs.Named.{firstNamed}
+use Rattle.words.specs.declared.scale.Scale.{Scale}
+use Rattle.words.specs.declared.scale.Scale.the-variants.{Picoseconds, Nanoseconds, Microseconds, Milliseconds, Seconds}
+use Rattle.words.specs.declared.scale.ScaleFound.{ScaleFound}
+use Rattle.words.specs.declared.scale.ScaleFound.the-variants.{ThisScale, NoScale}
 
 -- "X one of ps, ns, us, ms, s"
 unfoldable pub scaleWord : Scale → List ℕ

@@ -1,12 +1,12 @@
 // The classes of events that the rules tell apart, so that each rule is one small test and not one for each of the 38 words.
 ghost use mathlib.Core.Path.{_≡_};
-ghost use Rattle.line.specs.Action.{isOf};
-ghost use Rattle.line.specs.Class.{classOf, classIsOf};
+ghost use Rattle.words.specs.Action.{isOf};
+ghost use Rattle.words.specs.Class.{classOf, classIsOf};
 use crate::action::Action;
 use crate::kind::Kind;
 
 // The class of an event.
-pub(crate) fn class_of(action: Action) -> u8
+pub fn class_of(action: Action) -> u8
     ensures { λ r. ⌜ r ≡ classOf action ⌝ }
 {
     match action {
@@ -96,7 +96,7 @@ fn class_is_of(kind: Kind, class: u8) -> bool
 }
 
 // Whether an event is one of a type.
-pub(crate) fn is_of(kind: Kind, action: Action) -> bool
+pub fn is_of(kind: Kind, action: Action) -> bool
     ensures { λ r. ⌜ r ≡ isOf kind action ⌝ }
 {
     class_is_of(kind, class_of(action))

@@ -2,7 +2,7 @@
 ghost use mathlib.Core.Path.{_≡_};
 ghost use mathlib.Core.Bool.{cond};
 ghost use Rattle.text.specs.Bytes.{sameBytes};
-ghost use Rattle.line.specs.Scale.{scaleOf};
+ghost use Rattle.words.specs.Scale.{scaleOf};
 use text::bytes::same;
 
 pub enum Scale {
@@ -30,7 +30,7 @@ fn scale_named(s: &[u8], w: &[u8], scale: Scale, other: ScaleFound) -> ScaleFoun
 }
 
 // The time scale that s names.
-pub(crate) fn scale_of(s: &[u8]) -> ScaleFound
+pub fn scale_of(s: &[u8]) -> ScaleFound
     ensures { λ r. ⌜ r ≡ scaleOf (now (s .entry)) ⌝ }
 {
     let f = ScaleFound::NoScale;

@@ -4,8 +4,8 @@ ghost use mathlib.Core.Bool.{cond};
 ghost use lib.ListN.{length};
 ghost use Rattle.text.specs.Bytes.{sameBytes};
 ghost use Rattle.text.specs.Put.{put, after};
-ghost use Rattle.line.specs.Named.{firstNamed};
-ghost use Rattle.line.specs.Action.{actionOf, wordOf, actionFrom, processActions, runnableActions, schedulerActions, osEventActions, signalActions, semaphoreRequests, semaphoreStates};
+ghost use Rattle.words.specs.Named.{firstNamed};
+ghost use Rattle.words.specs.Action.{actionOf, wordOf, actionFrom, processActions, runnableActions, schedulerActions, osEventActions, signalActions, semaphoreRequests, semaphoreStates};
 use crate::kind::Kind;
 use text::bytes::same;
 use text::put::put_bytes;
@@ -155,7 +155,7 @@ fn semaphore_state(s: &[u8], other: ActionFound) -> ActionFound
 }
 
 // The event of the type that s names.
-pub(crate) fn action_of(kind: Kind, s: &[u8]) -> ActionFound
+pub fn action_of(kind: Kind, s: &[u8]) -> ActionFound
     ensures { λ r. ⌜ r ≡ actionOf kind (now (s .entry)) ⌝ }
 {
     let no = ActionFound::NoAction;
@@ -181,7 +181,7 @@ pub(crate) fn action_of(kind: Kind, s: &[u8]) -> ActionFound
 }
 
 // How many bytes an event's word has.
-pub(crate) fn word_length(action: Action) -> usize
+pub fn word_length(action: Action) -> usize
     ensures { λ r. ⌜ r ≡ length (wordOf action) ⌝ }
 {
     match action {
@@ -227,7 +227,7 @@ pub(crate) fn word_length(action: Action) -> usize
 }
 
 // Puts an event's word into out from the index at on.
-pub(crate) fn put_word(action: Action, out: &mut [u8], at: usize) -> usize
+pub fn put_word(action: Action, out: &mut [u8], at: usize) -> usize
     ensures { λ r. ⌜ after r (now (out .exit)) ≡ put (now (out .entry)) at (wordOf action) ⌝ }
 {
     match action {

@@ -4,19 +4,52 @@ use mathlib.Core.Bool.{Bool}
 use mathlib.Core.List.{List, [], _∷_, _++_}
 use lib.Dec.{eqb}
 use Rattle.text.specs.Literal.{bytes}
-use Rattle.line.specs.declared.kind.Kind.{Kind}
-use Rattle.line.specs.declared.kind.Kind.the-variants.{Stimulus, Task, Interrupt, Runnable, Scheduler, OsEvent, Signal, Semaphore}
-use Rattle.line.specs.declared.action.Action.{Action}
-use Rattle.line.specs.declared.action.Action.the-variants.{
-  Trigger, Activate, InterruptSuspended, Mtalimitexceeded, Park, Poll, PollParking, Preempt,
-  Release, ReleaseParking, Resume, Run, Start, Terminate, Wait, Suspend,
-  Schedule, Schedulepoint, ClearEvent, SetEvent, WaitEvent, Read, Write, Assigned,
-  Decrement, Free, Full, Increment, Lock, LockUsed, Overfull, Queued,
-  Released, Requestsemaphore, Unlock, UnlockFull, Used, Waiting,
+use Rattle.words.specs.declared.kind.Kind.{Kind}
+use Rattle.words.specs.declared.kind.Kind.the-variants.{Stimulus, Task, Interrupt, Runnable, Scheduler, OsEvent, Signal, Semaphore}
+use Rattle.words.specs.declared.action.Action.{Action}
+use Rattle.words.specs.declared.action.Action.the-variants.{
+  Trigger,
+  Activate,
+  InterruptSuspended,
+  Mtalimitexceeded,
+  Park,
+  Poll,
+  PollParking,
+  Preempt,
+  Release,
+  ReleaseParking,
+  Resume,
+  Run,
+  Start,
+  Terminate,
+  Wait,
+  Suspend,
+  Schedule,
+  Schedulepoint,
+  ClearEvent,
+  SetEvent,
+  WaitEvent,
+  Read,
+  Write,
+  Assigned,
+  Decrement,
+  Free,
+  Full,
+  Increment,
+  Lock,
+  LockUsed,
+  Overfull,
+  Queued,
+  Released,
+  Requestsemaphore,
+  Unlock,
+  UnlockFull,
+  Used,
+  Waiting,
 }
-use Rattle.line.specs.declared.action.ActionFound.{ActionFound}
-use Rattle.line.specs.declared.action.ActionFound.the-variants.{ThisAction, NoAction}
-use Rattle.line.specs.Named.{firstNamed, any}
+use Rattle.words.specs.declared.action.ActionFound.{ActionFound}
+use Rattle.words.specs.declared.action.ActionFound.the-variants.{ThisAction, NoAction}
+use Rattle.words.specs.Named.{firstNamed, any}
 
 -- the word of each event
 unfoldable pub wordOf : Action → List ℕ
