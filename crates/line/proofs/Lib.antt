@@ -1,0 +1,2 @@
+-- The laws of a line, which the proofs of this crate cite.
+pub mod Parts
