@@ -1,4 +1,5 @@
 -- The laws of words, which the proofs of this crate and of the crates above it cite.
 pub mod Chains
 pub mod Actions
+pub mod Tables
 pub mod Classes

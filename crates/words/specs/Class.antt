@@ -2,90 +2,20 @@
 -- one computed test shows that both say the same.
 use Prim.Native.Nat.{ℕ}
 use mathlib.Core.Bool.{Bool, true, false, _&&_, _||_}
+use mathlib.Core.List.{List, [], _∷_}
 use lib.Dec.{eqb, leb}
+use lib.ListN.{getD}
 use Rattle.words.specs.declared.kind.Kind.{Kind}
 use Rattle.words.specs.declared.kind.Kind.the-variants.{Stimulus, Task, Interrupt, Runnable, Scheduler, OsEvent, Signal, Semaphore}
 use Rattle.words.specs.declared.action.Action.{Action}
-use Rattle.words.specs.declared.action.Action.the-variants.{
-  Trigger,
-  Activate,
-  InterruptSuspended,
-  Mtalimitexceeded,
-  Park,
-  Poll,
-  PollParking,
-  Preempt,
-  Release,
-  ReleaseParking,
-  Resume,
-  Run,
-  Start,
-  Terminate,
-  Wait,
-  Suspend,
-  Schedule,
-  Schedulepoint,
-  ClearEvent,
-  SetEvent,
-  WaitEvent,
-  Read,
-  Write,
-  Assigned,
-  Decrement,
-  Free,
-  Full,
-  Increment,
-  Lock,
-  LockUsed,
-  Overfull,
-  Queued,
-  Released,
-  Requestsemaphore,
-  Unlock,
-  UnlockFull,
-  Used,
-  Waiting,
-}
+use Rattle.words.specs.Action.{actionCode}
+
+-- the class of each event, in the order of the codes
+abbrev pub classes : List ℕ
+classes = 0 ∷ 1 ∷ 5 ∷ 4 ∷ 2 ∷ 2 ∷ 2 ∷ 2 ∷ 2 ∷ 2 ∷ 3 ∷ 2 ∷ 3 ∷ 3 ∷ 2 ∷ 6 ∷ 7 ∷ 8 ∷ 9 ∷ 10 ∷ 9 ∷ 11 ∷ 11 ∷ 12 ∷ 12 ∷ 13 ∷ 13 ∷ 12 ∷ 13 ∷ 13 ∷ 13 ∷ 12 ∷ 12 ∷ 12 ∷ 13 ∷ 13 ∷ 13 ∷ 12 ∷ []
 
 unfoldable pub classOf : Action → ℕ
-classOf Trigger = 0
-classOf Activate = 1
-classOf InterruptSuspended = 5
-classOf Mtalimitexceeded = 4
-classOf Park = 2
-classOf Poll = 2
-classOf PollParking = 2
-classOf Preempt = 2
-classOf Release = 2
-classOf ReleaseParking = 2
-classOf Resume = 3
-classOf Run = 2
-classOf Start = 3
-classOf Terminate = 3
-classOf Wait = 2
-classOf Suspend = 6
-classOf Schedule = 7
-classOf Schedulepoint = 8
-classOf ClearEvent = 9
-classOf SetEvent = 10
-classOf WaitEvent = 9
-classOf Read = 11
-classOf Write = 11
-classOf Assigned = 12
-classOf Decrement = 12
-classOf Free = 13
-classOf Full = 13
-classOf Increment = 12
-classOf Lock = 13
-classOf LockUsed = 13
-classOf Overfull = 13
-classOf Queued = 12
-classOf Released = 12
-classOf Requestsemaphore = 12
-classOf Unlock = 13
-classOf UnlockFull = 13
-classOf Used = 13
-classOf Waiting = 12
+classOf a = getD classes (actionCode a) 0
 
 unfoldable pub classIsOf : Kind → ℕ → Bool
 classIsOf Stimulus c = eqb c 0

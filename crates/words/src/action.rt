@@ -1,10 +1,11 @@
 // The 38 event words of 000's sections 2.3.1 to 2.3.7: read by their type, and written.
 ghost use mathlib.Core.Path.{_≡_};
-ghost use lib.ListN.{length};
+ghost use Prim.Native.Nat.{_-_, _≤_};
+ghost use lib.ListN.{length, take, drop};
 ghost use Rattle.text.specs.Bytes.{sameBytes};
 ghost use Rattle.text.specs.Put.{put, after};
 ghost use Rattle.words.specs.Named.{pick};
-ghost use Rattle.words.specs.Action.{actionOf, wordOf, actionFrom, processActions, runnableActions, schedulerActions, osEventActions, signalActions, semaphoreRequests, semaphoreStates};
+ghost use Rattle.words.specs.Action.{actionOf, actionCode, wordOf, wordStart, actionFrom, processActions, runnableActions, schedulerActions, osEventActions, signalActions, semaphoreRequests, semaphoreStates};
 use crate::kind::Kind;
 use text::bytes::same;
 use text::put::put_bytes;
@@ -179,94 +180,170 @@ pub fn action_of(kind: Kind, s: &[u8]) -> ActionFound
     }
 }
 
+// The code of an event: its place among the 38, in the order of 000's sections.
+pub fn action_code(action: Action) -> usize
+    ensures { λ r. ⌜ r ≡ actionCode action ⌝ }
+{
+    match action {
+        Action::Trigger => 0,
+        Action::Activate => 1,
+        Action::InterruptSuspended => 2,
+        Action::Mtalimitexceeded => 3,
+        Action::Park => 4,
+        Action::Poll => 5,
+        Action::PollParking => 6,
+        Action::Preempt => 7,
+        Action::Release => 8,
+        Action::ReleaseParking => 9,
+        Action::Resume => 10,
+        Action::Run => 11,
+        Action::Start => 12,
+        Action::Terminate => 13,
+        Action::Wait => 14,
+        Action::Suspend => 15,
+        Action::Schedule => 16,
+        Action::Schedulepoint => 17,
+        Action::ClearEvent => 18,
+        Action::SetEvent => 19,
+        Action::WaitEvent => 20,
+        Action::Read => 21,
+        Action::Write => 22,
+        Action::Assigned => 23,
+        Action::Decrement => 24,
+        Action::Free => 25,
+        Action::Full => 26,
+        Action::Increment => 27,
+        Action::Lock => 28,
+        Action::LockUsed => 29,
+        Action::Overfull => 30,
+        Action::Queued => 31,
+        Action::Released => 32,
+        Action::Requestsemaphore => 33,
+        Action::Unlock => 34,
+        Action::UnlockFull => 35,
+        Action::Used => 36,
+        Action::Waiting => 37,
+    }
+}
+
+// Where each event's word begins among all words, which stand one after the other in the order of the codes, and how long it is.
+const STARTS: [usize; 38] = [
+    0,
+    7,
+    15,
+    34,
+    50,
+    54,
+    58,
+    70,
+    77,
+    84,
+    99,
+    105,
+    108,
+    113,
+    122,
+    126,
+    133,
+    141,
+    154,
+    165,
+    174,
+    184,
+    188,
+    193,
+    201,
+    210,
+    214,
+    218,
+    227,
+    231,
+    240,
+    248,
+    254,
+    262,
+    278,
+    284,
+    295,
+    299,
+];
+
+const LENGTHS: [usize; 38] = [
+    7,
+    8,
+    19,
+    16,
+    4,
+    4,
+    12,
+    7,
+    7,
+    15,
+    6,
+    3,
+    5,
+    9,
+    4,
+    7,
+    8,
+    13,
+    11,
+    9,
+    10,
+    4,
+    5,
+    8,
+    9,
+    4,
+    4,
+    9,
+    4,
+    9,
+    8,
+    6,
+    8,
+    16,
+    6,
+    11,
+    4,
+    7,
+];
+
+// Where an event's word begins among all words.
+fn word_start(action: Action) -> usize
+    ensures { λ r. ⌜ r ≡ wordStart action ⌝ }
+{
+    let code = action_code(action);
+    STARTS[code]
+}
+
 // How many bytes an event's word has.
 pub fn word_length(action: Action) -> usize
     ensures { λ r. ⌜ r ≡ length (wordOf action) ⌝ }
 {
-    match action {
-        Action::Trigger => 7,
-        Action::Activate => 8,
-        Action::InterruptSuspended => 19,
-        Action::Mtalimitexceeded => 16,
-        Action::Park => 4,
-        Action::Poll => 4,
-        Action::PollParking => 12,
-        Action::Preempt => 7,
-        Action::Release => 7,
-        Action::ReleaseParking => 15,
-        Action::Resume => 6,
-        Action::Run => 3,
-        Action::Start => 5,
-        Action::Terminate => 9,
-        Action::Wait => 4,
-        Action::Suspend => 7,
-        Action::Schedule => 8,
-        Action::Schedulepoint => 13,
-        Action::ClearEvent => 11,
-        Action::SetEvent => 9,
-        Action::WaitEvent => 10,
-        Action::Read => 4,
-        Action::Write => 5,
-        Action::Assigned => 8,
-        Action::Decrement => 9,
-        Action::Free => 4,
-        Action::Full => 4,
-        Action::Increment => 9,
-        Action::Lock => 4,
-        Action::LockUsed => 9,
-        Action::Overfull => 8,
-        Action::Queued => 6,
-        Action::Released => 8,
-        Action::Requestsemaphore => 16,
-        Action::Unlock => 6,
-        Action::UnlockFull => 11,
-        Action::Used => 4,
-        Action::Waiting => 7,
-    }
+    let code = action_code(action);
+    LENGTHS[code]
+}
+
+// Puts a part of s into out from the index at on.
+fn put_part(s: &[u8], from: usize, to: usize, out: &mut [u8], at: usize) -> usize
+    requires { ⌜ («from» ≤ to) × (to ≤ length (now s)) ⌝ }
+    ensures { λ r. ⌜ after r (now (out .exit)) ≡ put (now (out .entry)) at (take (to - «from») (drop «from» (now (s .entry)))) ⌝ }
+{
+    put_bytes(&s[from..to], out, at)
 }
 
 // Puts an event's word into out from the index at on.
 pub fn put_word(action: Action, out: &mut [u8], at: usize) -> usize
     ensures { λ r. ⌜ after r (now (out .exit)) ≡ put (now (out .entry)) at (wordOf action) ⌝ }
 {
-    match action {
-        Action::Trigger => put_bytes(b"trigger", out, at),
-        Action::Activate => put_bytes(b"activate", out, at),
-        Action::InterruptSuspended => put_bytes(b"interrupt_suspended", out, at),
-        Action::Mtalimitexceeded => put_bytes(b"mtalimitexceeded", out, at),
-        Action::Park => put_bytes(b"park", out, at),
-        Action::Poll => put_bytes(b"poll", out, at),
-        Action::PollParking => put_bytes(b"poll_parking", out, at),
-        Action::Preempt => put_bytes(b"preempt", out, at),
-        Action::Release => put_bytes(b"release", out, at),
-        Action::ReleaseParking => put_bytes(b"release_parking", out, at),
-        Action::Resume => put_bytes(b"resume", out, at),
-        Action::Run => put_bytes(b"run", out, at),
-        Action::Start => put_bytes(b"start", out, at),
-        Action::Terminate => put_bytes(b"terminate", out, at),
-        Action::Wait => put_bytes(b"wait", out, at),
-        Action::Suspend => put_bytes(b"suspend", out, at),
-        Action::Schedule => put_bytes(b"schedule", out, at),
-        Action::Schedulepoint => put_bytes(b"schedulepoint", out, at),
-        Action::ClearEvent => put_bytes(b"clear_event", out, at),
-        Action::SetEvent => put_bytes(b"set_event", out, at),
-        Action::WaitEvent => put_bytes(b"wait_event", out, at),
-        Action::Read => put_bytes(b"read", out, at),
-        Action::Write => put_bytes(b"write", out, at),
-        Action::Assigned => put_bytes(b"assigned", out, at),
-        Action::Decrement => put_bytes(b"decrement", out, at),
-        Action::Free => put_bytes(b"free", out, at),
-        Action::Full => put_bytes(b"full", out, at),
-        Action::Increment => put_bytes(b"increment", out, at),
-        Action::Lock => put_bytes(b"lock", out, at),
-        Action::LockUsed => put_bytes(b"lock_used", out, at),
-        Action::Overfull => put_bytes(b"overfull", out, at),
-        Action::Queued => put_bytes(b"queued", out, at),
-        Action::Released => put_bytes(b"released", out, at),
-        Action::Requestsemaphore => put_bytes(b"requestsemaphore", out, at),
-        Action::Unlock => put_bytes(b"unlock", out, at),
-        Action::UnlockFull => put_bytes(b"unlock_full", out, at),
-        Action::Used => put_bytes(b"used", out, at),
-        Action::Waiting => put_bytes(b"waiting", out, at),
-    }
+    let from = word_start(action);
+    let to = from + word_length(action);
+    put_part(
+        b"triggeractivateinterrupt_suspendedmtalimitexceededparkpollpoll_parkingpreemptreleaserelease_parkingresumerunstartterminatewaitsuspendscheduleschedulepointclear_eventset_eventwait_eventreadwriteassigneddecrementfreefullincrementlocklock_usedoverfullqueuedreleasedrequestsemaphoreunlockunlock_fullusedwaiting",
+        from,
+        to,
+        out,
+        at,
+    )
 }

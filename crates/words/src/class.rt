@@ -3,52 +3,57 @@ ghost use mathlib.Core.Path.{_≡_};
 ghost use Rattle.words.specs.Action.{isOf};
 ghost use Rattle.words.specs.Class.{classOf, classIsOf};
 use crate::action::Action;
+use crate::action::action_code;
 use crate::kind::Kind;
+
+// The class of each event, in the order of the codes.
+const CLASSES: [u8; 38] = [
+    0,
+    1,
+    5,
+    4,
+    2,
+    2,
+    2,
+    2,
+    2,
+    2,
+    3,
+    2,
+    3,
+    3,
+    2,
+    6,
+    7,
+    8,
+    9,
+    10,
+    9,
+    11,
+    11,
+    12,
+    12,
+    13,
+    13,
+    12,
+    13,
+    13,
+    13,
+    12,
+    12,
+    12,
+    13,
+    13,
+    13,
+    12,
+];
 
 // The class of an event.
 pub fn class_of(action: Action) -> u8
     ensures { λ r. ⌜ r ≡ classOf action ⌝ }
 {
-    match action {
-        Action::Trigger => 0,
-        Action::Activate => 1,
-        Action::InterruptSuspended => 5,
-        Action::Mtalimitexceeded => 4,
-        Action::Park => 2,
-        Action::Poll => 2,
-        Action::PollParking => 2,
-        Action::Preempt => 2,
-        Action::Release => 2,
-        Action::ReleaseParking => 2,
-        Action::Resume => 3,
-        Action::Run => 2,
-        Action::Start => 3,
-        Action::Terminate => 3,
-        Action::Wait => 2,
-        Action::Suspend => 6,
-        Action::Schedule => 7,
-        Action::Schedulepoint => 8,
-        Action::ClearEvent => 9,
-        Action::SetEvent => 10,
-        Action::WaitEvent => 9,
-        Action::Read => 11,
-        Action::Write => 11,
-        Action::Assigned => 12,
-        Action::Decrement => 12,
-        Action::Free => 13,
-        Action::Full => 13,
-        Action::Increment => 12,
-        Action::Lock => 13,
-        Action::LockUsed => 13,
-        Action::Overfull => 13,
-        Action::Queued => 12,
-        Action::Released => 12,
-        Action::Requestsemaphore => 12,
-        Action::Unlock => 13,
-        Action::UnlockFull => 13,
-        Action::Used => 13,
-        Action::Waiting => 12,
-    }
+    let code = action_code(action);
+    CLASSES[code]
 }
 
 // Whether the events of a class are events of a type.

@@ -1,87 +1,36 @@
--- `words::action::put_word` meets its contract: each arm puts its word.
+-- `words::action::put_word` meets its contract: the part put is the event's word.
+use mathlib.Core.Path.{_≡_, _∙_}
+use Prim.Native.Nat.{_+_, _-_}
+use native.Mathlib.Omega.{arith}
 use borrow.Author.Needs.{needs}
-use Rattle.words.specs.Action.{wordOf}
+use lib.ListN.{length}
+use Rattle.words.specs.Action.{wordOf, wordStart}
+use Rattle.words.proofs.Tables.{word-entry, word-end}
 use Rattle.words.proofs.action.put_word.Statement.{statement}
 use Rattle.words.proofs.action.put_word.Tie as tie
 
+add-to : tie.Need-add-to
+add-to c =
+    let h = word-end (c .before .before .before .args .action) in
+    let s = c .before .word-start .ensures in
+    let l = c .word-length .ensures in
+    omega arith
+
+put-part-requires : tie.Need-put-part-requires
+put-part-requires c κs =
+    let w = c .before .before in
+    let h = word-end (w .before .before .before .args .action) in
+    let s = w .before .word-start .ensures in
+    let l = w .word-length .ensures in
+    omega arith
+
+returns : tie.Need-returns
+returns c =
+    let p = c .before .before in
+    let w = p .before .before .before in
+    let a = w .before .before .before .args in
+    let n : (wordStart (a .action) + length (wordOf (a .action))) - wordStart (a .action) ≡ length (wordOf (a .action)) = omega arith in
+    p .put-part .ensures ∙ rw (w .word-length .ensures, w .before .word-start .ensures, n, word-entry (a .action))
+
 pub put-word-spec : {M : Type 1} → statement M
-unfolding wordOf
-put-word-spec =
-    tie.close
-    (tie.spec
-    (λ c. search needs) (λ c. search needs) (λ c κs. tt)
-    (λ c. search needs) (λ c. search needs) (λ c κs. tt)
-    (λ c. search needs) (λ c. search needs) (λ c κs. tt)
-    (λ c. search needs) (λ c. search needs) (λ c κs. tt)
-    (λ c. search needs) (λ c. search needs) (λ c κs. tt)
-    (λ c. search needs) (λ c. search needs) (λ c κs. tt)
-    (λ c. search needs) (λ c. search needs) (λ c κs. tt)
-    (λ c. search needs) (λ c. search needs) (λ c κs. tt)
-    (λ c. search needs) (λ c. search needs) (λ c κs. tt)
-    (λ c. search needs) (λ c. search needs) (λ c κs. tt)
-    (λ c. search needs) (λ c. search needs) (λ c κs. tt)
-    (λ c. search needs) (λ c. search needs) (λ c κs. tt)
-    (λ c. search needs) (λ c. search needs) (λ c κs. tt)
-    (λ c. search needs) (λ c. search needs) (λ c κs. tt)
-    (λ c. search needs) (λ c. search needs) (λ c κs. tt)
-    (λ c. search needs) (λ c. search needs) (λ c κs. tt)
-    (λ c. search needs) (λ c. search needs) (λ c κs. tt)
-    (λ c. search needs) (λ c. search needs) (λ c κs. tt)
-    (λ c. search needs) (λ c. search needs) (λ c κs. tt)
-    (λ c. search needs) (λ c. search needs) (λ c κs. tt)
-    (λ c. search needs) (λ c. search needs) (λ c κs. tt)
-    (λ c. search needs) (λ c. search needs) (λ c κs. tt)
-    (λ c. search needs) (λ c. search needs) (λ c κs. tt)
-    (λ c. search needs) (λ c. search needs) (λ c κs. tt)
-    (λ c. search needs) (λ c. search needs) (λ c κs. tt)
-    (λ c. search needs) (λ c. search needs) (λ c κs. tt)
-    (λ c. search needs) (λ c. search needs) (λ c κs. tt)
-    (λ c. search needs) (λ c. search needs) (λ c κs. tt)
-    (λ c. search needs) (λ c. search needs) (λ c κs. tt)
-    (λ c. search needs) (λ c. search needs) (λ c κs. tt)
-    (λ c. search needs) (λ c. search needs) (λ c κs. tt)
-    (λ c. search needs) (λ c. search needs) (λ c κs. tt)
-    (λ c. search needs) (λ c. search needs) (λ c κs. tt)
-    (λ c. search needs) (λ c. search needs) (λ c κs. tt)
-    (λ c. search needs) (λ c. search needs) (λ c κs. tt)
-    (λ c. search needs) (λ c. search needs) (λ c κs. tt)
-    (λ c. search needs) (λ c. search needs) (λ c κs. tt)
-    (λ c. search needs) (λ c. search needs) (λ c κs. tt)
-    (λ c. search needs) (λ c. rw (c .before .before .before .before .before .enum-told .given .1) (c .before .before .put-bytes .ensures))
-    (λ c. search needs) (λ c. rw (c .before .before .before .before .before .enum-told2 .given .1) (c .before .before .put-bytes2 .ensures))
-    (λ c. search needs) (λ c. rw (c .before .before .before .before .before .enum-told3 .given .1) (c .before .before .put-bytes3 .ensures))
-    (λ c. search needs) (λ c. rw (c .before .before .before .before .before .enum-told4 .given .1) (c .before .before .put-bytes4 .ensures))
-    (λ c. search needs) (λ c. rw (c .before .before .before .before .before .enum-told5 .given .1) (c .before .before .put-bytes5 .ensures))
-    (λ c. search needs) (λ c. rw (c .before .before .before .before .before .enum-told6 .given .1) (c .before .before .put-bytes6 .ensures))
-    (λ c. search needs) (λ c. rw (c .before .before .before .before .before .enum-told7 .given .1) (c .before .before .put-bytes7 .ensures))
-    (λ c. search needs) (λ c. rw (c .before .before .before .before .before .enum-told8 .given .1) (c .before .before .put-bytes8 .ensures))
-    (λ c. search needs) (λ c. rw (c .before .before .before .before .before .enum-told9 .given .1) (c .before .before .put-bytes9 .ensures))
-    (λ c. search needs) (λ c. rw (c .before .before .before .before .before .enum-told10 .given .1) (c .before .before .put-bytes10 .ensures))
-    (λ c. search needs) (λ c. rw (c .before .before .before .before .before .enum-told11 .given .1) (c .before .before .put-bytes11 .ensures))
-    (λ c. search needs) (λ c. rw (c .before .before .before .before .before .enum-told12 .given .1) (c .before .before .put-bytes12 .ensures))
-    (λ c. search needs) (λ c. rw (c .before .before .before .before .before .enum-told13 .given .1) (c .before .before .put-bytes13 .ensures))
-    (λ c. search needs) (λ c. rw (c .before .before .before .before .before .enum-told14 .given .1) (c .before .before .put-bytes14 .ensures))
-    (λ c. search needs) (λ c. rw (c .before .before .before .before .before .enum-told15 .given .1) (c .before .before .put-bytes15 .ensures))
-    (λ c. search needs) (λ c. rw (c .before .before .before .before .before .enum-told16 .given .1) (c .before .before .put-bytes16 .ensures))
-    (λ c. search needs) (λ c. rw (c .before .before .before .before .before .enum-told17 .given .1) (c .before .before .put-bytes17 .ensures))
-    (λ c. search needs) (λ c. rw (c .before .before .before .before .before .enum-told18 .given .1) (c .before .before .put-bytes18 .ensures))
-    (λ c. search needs) (λ c. rw (c .before .before .before .before .before .enum-told19 .given .1) (c .before .before .put-bytes19 .ensures))
-    (λ c. search needs) (λ c. rw (c .before .before .before .before .before .enum-told20 .given .1) (c .before .before .put-bytes20 .ensures))
-    (λ c. search needs) (λ c. rw (c .before .before .before .before .before .enum-told21 .given .1) (c .before .before .put-bytes21 .ensures))
-    (λ c. search needs) (λ c. rw (c .before .before .before .before .before .enum-told22 .given .1) (c .before .before .put-bytes22 .ensures))
-    (λ c. search needs) (λ c. rw (c .before .before .before .before .before .enum-told23 .given .1) (c .before .before .put-bytes23 .ensures))
-    (λ c. search needs) (λ c. rw (c .before .before .before .before .before .enum-told24 .given .1) (c .before .before .put-bytes24 .ensures))
-    (λ c. search needs) (λ c. rw (c .before .before .before .before .before .enum-told25 .given .1) (c .before .before .put-bytes25 .ensures))
-    (λ c. search needs) (λ c. rw (c .before .before .before .before .before .enum-told26 .given .1) (c .before .before .put-bytes26 .ensures))
-    (λ c. search needs) (λ c. rw (c .before .before .before .before .before .enum-told27 .given .1) (c .before .before .put-bytes27 .ensures))
-    (λ c. search needs) (λ c. rw (c .before .before .before .before .before .enum-told28 .given .1) (c .before .before .put-bytes28 .ensures))
-    (λ c. search needs) (λ c. rw (c .before .before .before .before .before .enum-told29 .given .1) (c .before .before .put-bytes29 .ensures))
-    (λ c. search needs) (λ c. rw (c .before .before .before .before .before .enum-told30 .given .1) (c .before .before .put-bytes30 .ensures))
-    (λ c. search needs) (λ c. rw (c .before .before .before .before .before .enum-told31 .given .1) (c .before .before .put-bytes31 .ensures))
-    (λ c. search needs) (λ c. rw (c .before .before .before .before .before .enum-told32 .given .1) (c .before .before .put-bytes32 .ensures))
-    (λ c. search needs) (λ c. rw (c .before .before .before .before .before .enum-told33 .given .1) (c .before .before .put-bytes33 .ensures))
-    (λ c. search needs) (λ c. rw (c .before .before .before .before .before .enum-told34 .given .1) (c .before .before .put-bytes34 .ensures))
-    (λ c. search needs) (λ c. rw (c .before .before .before .before .before .enum-told35 .given .1) (c .before .before .put-bytes35 .ensures))
-    (λ c. search needs) (λ c. rw (c .before .before .before .before .before .enum-told36 .given .1) (c .before .before .put-bytes36 .ensures))
-    (λ c. search needs) (λ c. rw (c .before .before .before .before .before .enum-told37 .given .1) (c .before .before .put-bytes37 .ensures))
-    (λ c. search needs) (λ c. rw (c .before .before .before .before .before .enum-told38 .given .1) (c .before .before .put-bytes38 .ensures)))
+put-word-spec = tie.close (tie.spec (λ c κs. tt) (λ c κs. tt) add-to (λ c. search needs) put-part-requires (λ c. search needs) returns)

@@ -1,87 +1,17 @@
--- `words::action::word_length` meets its contract: each arm gives the length of its word.
-use borrow.Author.Needs.{needs}
-use Rattle.words.specs.Action.{wordOf}
+-- `words::action::word_length` meets its contract: the code is within the table, whose entry there is the one asked for.
+use native.Mathlib.Omega.{arith}
+use Rattle.words.proofs.Tables.{code-bound, length-entry}
 use Rattle.words.proofs.action.word_length.Statement.{statement}
 use Rattle.words.proofs.action.word_length.Tie as tie
 
+mul-result : tie.Need-mul-result
+mul-result c = let h = code-bound (c .before .args .action) in let e = c .action-code .ensures in omega arith
+
+array-read-result : tie.Need-array-read-result
+array-read-result c = let h = code-bound (c .before .args .action) in let e = c .action-code .ensures in omega arith
+
+returns : tie.Need-returns
+returns c = rw (c .action-code .ensures) (length-entry (c .before .args .action))
+
 pub word-length-spec : {M : Type 1} → statement M
-unfolding wordOf
-word-length-spec =
-    tie.close
-    (tie.spec
-    (λ c. search needs)
-    (λ c. search needs)
-    (λ c. search needs)
-    (λ c. search needs)
-    (λ c. search needs)
-    (λ c. search needs)
-    (λ c. search needs)
-    (λ c. search needs)
-    (λ c. search needs)
-    (λ c. search needs)
-    (λ c. search needs)
-    (λ c. search needs)
-    (λ c. search needs)
-    (λ c. search needs)
-    (λ c. search needs)
-    (λ c. search needs)
-    (λ c. search needs)
-    (λ c. search needs)
-    (λ c. search needs)
-    (λ c. search needs)
-    (λ c. search needs)
-    (λ c. search needs)
-    (λ c. search needs)
-    (λ c. search needs)
-    (λ c. search needs)
-    (λ c. search needs)
-    (λ c. search needs)
-    (λ c. search needs)
-    (λ c. search needs)
-    (λ c. search needs)
-    (λ c. search needs)
-    (λ c. search needs)
-    (λ c. search needs)
-    (λ c. search needs)
-    (λ c. search needs)
-    (λ c. search needs)
-    (λ c. search needs)
-    (λ c. search needs)
-    (λ c. rw (c .enum-told .given .1))
-    (λ c. rw (c .enum-told2 .given .1))
-    (λ c. rw (c .enum-told3 .given .1))
-    (λ c. rw (c .enum-told4 .given .1))
-    (λ c. rw (c .enum-told5 .given .1))
-    (λ c. rw (c .enum-told6 .given .1))
-    (λ c. rw (c .enum-told7 .given .1))
-    (λ c. rw (c .enum-told8 .given .1))
-    (λ c. rw (c .enum-told9 .given .1))
-    (λ c. rw (c .enum-told10 .given .1))
-    (λ c. rw (c .enum-told11 .given .1))
-    (λ c. rw (c .enum-told12 .given .1))
-    (λ c. rw (c .enum-told13 .given .1))
-    (λ c. rw (c .enum-told14 .given .1))
-    (λ c. rw (c .enum-told15 .given .1))
-    (λ c. rw (c .enum-told16 .given .1))
-    (λ c. rw (c .enum-told17 .given .1))
-    (λ c. rw (c .enum-told18 .given .1))
-    (λ c. rw (c .enum-told19 .given .1))
-    (λ c. rw (c .enum-told20 .given .1))
-    (λ c. rw (c .enum-told21 .given .1))
-    (λ c. rw (c .enum-told22 .given .1))
-    (λ c. rw (c .enum-told23 .given .1))
-    (λ c. rw (c .enum-told24 .given .1))
-    (λ c. rw (c .enum-told25 .given .1))
-    (λ c. rw (c .enum-told26 .given .1))
-    (λ c. rw (c .enum-told27 .given .1))
-    (λ c. rw (c .enum-told28 .given .1))
-    (λ c. rw (c .enum-told29 .given .1))
-    (λ c. rw (c .enum-told30 .given .1))
-    (λ c. rw (c .enum-told31 .given .1))
-    (λ c. rw (c .enum-told32 .given .1))
-    (λ c. rw (c .enum-told33 .given .1))
-    (λ c. rw (c .enum-told34 .given .1))
-    (λ c. rw (c .enum-told35 .given .1))
-    (λ c. rw (c .enum-told36 .given .1))
-    (λ c. rw (c .enum-told37 .given .1))
-    (λ c. rw (c .enum-told38 .given .1)))
+word-length-spec = tie.close (tie.spec (λ c κs. tt) mul-result array-read-result returns)

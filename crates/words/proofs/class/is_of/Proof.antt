@@ -1,6 +1,5 @@
 -- `words::class::is_of` meets its contract: an event is of a type exactly if its class is.
 use mathlib.Core.Path.{_∙_}
-use borrow.Author.Needs.{needs}
 use Rattle.words.proofs.Classes.{class-is-of}
 use Rattle.words.proofs.class.is_of.Statement.{statement}
 use Rattle.words.proofs.class.is_of.Tie as tie
