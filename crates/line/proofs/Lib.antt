@@ -1,4 +1,4 @@
 -- The laws of lines, which the proofs of this crate cite.
 pub mod Dates
-pub mod Signals
+pub mod Notes
 pub mod Lines

@@ -4,7 +4,7 @@ use mathlib.Core.Path.{_∙_}
 use borrow.Author.Needs.{needs}
 use borrow.Author.Tests.{not-true, not-false}
 use borrow.Rule.Slice.PartAt.{part-to-end}
-use Rattle.line.proofs.Signals.{no-dot, at-dot}
+use Rattle.line.proofs.Notes.{no-dot, at-dot}
 use Rattle.line.proofs.note.decimal.Statement.{statement}
 use Rattle.line.proofs.note.decimal.Tie as tie
 

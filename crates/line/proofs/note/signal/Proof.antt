@@ -3,7 +3,7 @@
 use mathlib.Core.Path.{sym, _∙_}
 use borrow.Author.Needs.{needs}
 use borrow.Rule.Slice.PartAt.{part-to-end}
-use Rattle.line.proofs.Signals.{empty-signal, minus-signal, plain-signal}
+use Rattle.line.proofs.Notes.{empty-signal, minus-signal, plain-signal}
 use Rattle.line.proofs.note.signal.Statement.{statement}
 use Rattle.line.proofs.note.signal.Tie as tie
 

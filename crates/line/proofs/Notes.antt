@@ -1,4 +1,4 @@
--- Laws of a signal's value: where its dot stands, and what its first byte says.
+-- Laws of notes: where a value's dot stands, what its first byte says, and that an empty note is no note.
 use mathlib.Core.Path.{_≡_, refl}
 use mathlib.Core.Bool.{false, _&&_}
 use mathlib.Core.List.{List, [], _∷_}
@@ -9,7 +9,9 @@ use lib.ListN.{length, getD, take, drop}
 use borrow.Author.Tests.{eq-eqb, ne-eqb, le-leb, lt-leb}
 use Rattle.text.specs.Bytes.{toByte, findFrom}
 use Rattle.text.specs.Number.{areDigits}
-use Rattle.line.specs.Note.{isDecimal, isSignal}
+use Rattle.words.specs.declared.kind.Kind.{Kind}
+use Rattle.line.specs.declared.note.Note.the-variants.{Means}
+use Rattle.line.specs.Note.{isDecimal, isSignal, noteAt, noteOf}
 
 -- ---- the dot, which is looked for from the front
 
@@ -42,3 +44,15 @@ pub plain-signal : (s : List ℕ) → (length s ≡ 0 → ⊥) → (getD s 0 0 �
 unfolding isSignal
 plain-signal [] n e = absurd (n refl)
 plain-signal (x ∷ s) n e = rw (ne-eqb x 45 e)
+
+-- ---- a note that is there
+
+pub empty-note : (k : Kind) (s : List ℕ) → length s ≡ 0 → noteOf k s ≡ Means 0
+unfolding noteOf
+empty-note k [] e = refl
+empty-note k (x ∷ s) e = absurd (suc-ne-zero _ e)
+
+pub some-note : (k : Kind) (s : List ℕ) → (length s ≡ 0 → ⊥) → noteAt k s ≡ noteOf k s
+unfolding noteOf
+some-note k [] n = absurd (n refl)
+some-note k (x ∷ s) n = refl
