@@ -1,4 +1,5 @@
--- The laws of lines, which the proofs of this crate cite.
+-- The laws of a line, which the proofs of this crate cite.
+pub mod Parts
 pub mod Dates
 pub mod Notes
 pub mod Lines

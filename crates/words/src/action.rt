@@ -1,10 +1,9 @@
 // The 38 event words of 000's sections 2.3.1 to 2.3.7: read by their type, and written.
 ghost use mathlib.Core.Path.{_≡_};
-ghost use mathlib.Core.Bool.{cond};
 ghost use lib.ListN.{length};
 ghost use Rattle.text.specs.Bytes.{sameBytes};
 ghost use Rattle.text.specs.Put.{put, after};
-ghost use Rattle.words.specs.Named.{firstNamed};
+ghost use Rattle.words.specs.Named.{pick};
 ghost use Rattle.words.specs.Action.{actionOf, wordOf, actionFrom, processActions, runnableActions, schedulerActions, osEventActions, signalActions, semaphoreRequests, semaphoreStates};
 use crate::kind::Kind;
 use text::bytes::same;
@@ -58,7 +57,7 @@ pub enum ActionFound {
 
 // action where s is the word w, and other where it is not.
 fn action_named(s: &[u8], w: &[u8], action: Action, other: ActionFound) -> ActionFound
-    ensures { λ r. ⌜ r ≡ cond (sameBytes (now (s .entry)) (now (w .entry))) (ActionFound.ThisAction action) other ⌝ }
+    ensures { λ r. ⌜ r ≡ pick (sameBytes (now (s .entry)) (now (w .entry))) (ActionFound.ThisAction action) other ⌝ }
 {
     if same(s, w) {
         ActionFound::ThisAction(action)

@@ -1,9 +1,9 @@
 // The eight types of a target: their words, read and written.
 ghost use mathlib.Core.Path.{_≡_};
-ghost use mathlib.Core.Bool.{cond};
 ghost use lib.ListN.{length};
 ghost use Rattle.text.specs.Bytes.{sameBytes};
 ghost use Rattle.text.specs.Put.{put, after};
+ghost use Rattle.words.specs.Named.{pick};
 ghost use Rattle.words.specs.Kind.{kindOf, kindWord};
 use text::bytes::same;
 use text::put::put_bytes;
@@ -26,7 +26,7 @@ pub enum KindFound {
 
 // kind where s is the word w, and other where it is not.
 fn kind_named(s: &[u8], w: &[u8], kind: Kind, other: KindFound) -> KindFound
-    ensures { λ r. ⌜ r ≡ cond (sameBytes (now (s .entry)) (now (w .entry))) (KindFound.ThisKind kind) other ⌝ }
+    ensures { λ r. ⌜ r ≡ pick (sameBytes (now (s .entry)) (now (w .entry))) (KindFound.ThisKind kind) other ⌝ }
 {
     if same(s, w) {
         KindFound::ThisKind(kind)

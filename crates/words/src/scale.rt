@@ -1,7 +1,7 @@
 // The five time scales.
 ghost use mathlib.Core.Path.{_≡_};
-ghost use mathlib.Core.Bool.{cond};
 ghost use Rattle.text.specs.Bytes.{sameBytes};
+ghost use Rattle.words.specs.Named.{pick};
 ghost use Rattle.words.specs.Scale.{scaleOf};
 use text::bytes::same;
 
@@ -20,7 +20,7 @@ pub enum ScaleFound {
 
 // scale where s is the word w, and other where it is not.
 fn scale_named(s: &[u8], w: &[u8], scale: Scale, other: ScaleFound) -> ScaleFound
-    ensures { λ r. ⌜ r ≡ cond (sameBytes (now (s .entry)) (now (w .entry))) (ScaleFound.ThisScale scale) other ⌝ }
+    ensures { λ r. ⌜ r ≡ pick (sameBytes (now (s .entry)) (now (w .entry))) (ScaleFound.ThisScale scale) other ⌝ }
 {
     if same(s, w) {
         ScaleFound::ThisScale(scale)
