@@ -7,4 +7,5 @@ pub mod Answer
 pub mod Parameter
 pub mod Event
 pub mod Reading
+pub mod Condition
 pub mod Writing
