@@ -4,3 +4,4 @@ pub mod Dates
 pub mod Notes
 pub mod Lines
 pub mod Rules
+pub mod Texts
