@@ -26,6 +26,7 @@ use Rattle.line.specs.declared.event.Event.{Event}
 use Rattle.line.specs.declared.writing.Written.the-variants.{Done, NotWritten}
 use Rattle.line.specs.Note.{maxInstance, noteOf, isWrong}
 use Rattle.line.specs.Rule.{ruleBroken}
+use Rattle.line.specs.Event.{maxTime}
 use Rattle.line.specs.Answer.{test, lowest}
 use Rattle.line.specs.Writing.{nameField, numberField, noteText, textOf, isEmpty, hasSizes, hasInstances, recordRefusal, wrote, writeText}
 
@@ -113,7 +114,7 @@ length-number : (x : ℕ) → length (numberField x) ≡ length (digitsOf x) + 1
 unfolding numberField
 length-number x = length-name (digitsOf x)
 
--- what is left of the length but for the note
+-- the numbers, the two words, the two names, six commas, and the note with its own
 pub length-text : (e : Event) (source target note : List ℕ) → length (textOf e source target note) ≡ length (digitsOf (e .time)) + length (digitsOf (e .«source_instance»)) + length (digitsOf (e .«target_instance»)) + (length (kindWord (e .kind)) + length (wordOf (e .action))) + length source + length target + 6 + length (noteText note)
 length-text e source target note =
     omega (arith, length-fields e source target note, length-number (e .time), length-name source, length-number (e .«source_instance»), length-name (kindWord (e .kind)), length-name target, length-number (e .«target_instance»))
@@ -181,7 +182,7 @@ pub sized-lengths : (time : ℕ) (source target note : List ℕ) → hasSizes ti
 unfolding hasSizes
 sized-lengths time source target note e =
     let n = isEmpty note || isName note in
-    let a = and-r (leb time 72057594037927935) (isName source && (isName target && n)) e in
+    let a = and-r (leb time maxTime) (isName source && (isName target && n)) e in
     let b = and-r (isName source) (isName target && n) a in
     (name-length source (and-l (isName source) (isName target && n) a) .1, name-length target (and-l (isName target) n b) .1, note-length note (and-r (isName target) n b))
 
