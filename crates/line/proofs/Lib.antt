@@ -1,7 +1,8 @@
--- The laws of a line, which the proofs of this crate cite.
+-- The laws of a line, which the proofs of this crate and of the crates above it cite.
 pub mod Parts
 pub mod Dates
 pub mod Notes
 pub mod Lines
 pub mod Rules
 pub mod Events
+pub mod Texts

@@ -1,7 +1,7 @@
 -- The rules on sources, instances and notes: the classes into which the code sorts events say what the lists of events say, and what each
 -- rule comes to once its tests are made.
-use mathlib.Core.Path.{_≡_, refl}
-use mathlib.Core.Bool.{Bool, true, _&&_, _||_}
+use mathlib.Core.Path.{_≡_, refl, _∙_}
+use mathlib.Core.Bool.{Bool, true, _&&_, _||_, or-true}
 use mathlib.Core.List.{[], _∷_}
 use Prim.Native.Nat.{ℕ}
 use lib.Dec.{eqb, leb}
@@ -32,6 +32,9 @@ apart-class = same-test (λ a. among a (InterruptSuspended ∷ Schedule ∷ []))
 pub source-class : (k : Kind) (a : Action) (c : ℕ) → c ≡ classOf a → zeroSource k a ≡ ((isProcess k && (leb 2 c && leb c 3)) || (eqb c 5 || eqb c 7))
 unfolding zeroSource
 source-class k a c e = rw (e, core-class a, apart-class a)
+
+pub source-apart : (k : Kind) (a : Action) (c : ℕ) → c ≡ classOf a → (eqb c 5 || eqb c 7) ≡ true → zeroSource k a ≡ true
+source-apart k a c e h = source-class k a c e ∙ rw (h, or-true)
 
 own-test : (a : Action) → isOwn a ≡ (eqb (classOf a) 7 || eqb (classOf a) 13)
 unfolding actions classOf isOwn among actionCode

@@ -1,15 +1,16 @@
 -- `line::rule::zero_source` meets its contract: the tests of the event's class say what the lists of events say.
-use mathlib.Core.Bool.{and-true, and-false, or-true, or-false}
+use mathlib.Core.Path.{sym}
+use mathlib.Core.Bool.{and-true, and-false, or-false}
 use borrow.Author.Tests.{ne-eqb, le-leb, lt-leb}
-use Rattle.line.proofs.Rules.{source-class}
+use Rattle.line.proofs.Rules.{source-class, source-apart}
 use Rattle.line.proofs.rule.zero_source.Statement.{statement}
 use Rattle.line.proofs.rule.zero_source.Tie as tie
 
 returns : tie.Need-returns
-returns c = rw (source-class _ _ _ (c .before .class-of .ensures), c .if1 .taken, or-true)
+returns c = sym (source-apart _ _ _ (c .before .class-of .ensures) (rw (c .if1 .taken)))
 
 returns-2 : tie.Need-returns-2
-returns-2 c = rw (source-class _ _ _ (c .before .before .class-of .ensures), c .if2 .taken, or-true)
+returns-2 c = sym (source-apart _ _ _ (c .before .before .class-of .ensures) (rw (c .if2 .taken)))
 
 returns-3 : tie.Need-returns-3
 returns-3 c =
