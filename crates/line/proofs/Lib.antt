@@ -6,3 +6,4 @@ pub mod Lines
 pub mod Rules
 pub mod Events
 pub mod Lowest
+pub mod Answers
