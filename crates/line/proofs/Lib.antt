@@ -7,3 +7,4 @@ pub mod Rules
 pub mod Events
 pub mod Lowest
 pub mod Answers
+pub mod Outputs
