@@ -8,3 +8,4 @@ pub mod Events
 pub mod Lowest
 pub mod Answers
 pub mod Outputs
+pub mod Unique
