@@ -9,3 +9,4 @@ pub mod Lowest
 pub mod Answers
 pub mod Outputs
 pub mod Unique
+pub mod Examples
