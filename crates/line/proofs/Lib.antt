@@ -6,3 +6,8 @@ pub mod Lines
 pub mod Rules
 pub mod Events
 pub mod Texts
+pub mod Lowest
+pub mod Answers
+pub mod Outputs
+pub mod Unique
+pub mod Examples
