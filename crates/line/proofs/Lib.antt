@@ -5,3 +5,4 @@ pub mod Notes
 pub mod Lines
 pub mod Rules
 pub mod Events
+pub mod Said
