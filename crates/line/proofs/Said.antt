@@ -1,6 +1,6 @@
 -- What a line says that reads as an event: its fields are the event's numbers and words, its names are names, and the rules hold.
 use mathlib.Core.Path.{_≡_, refl}
-use mathlib.Core.Bool.{Bool, true, false, not, _||_, cond}
+use mathlib.Core.Bool.{Bool, true, false, not, _||_, cond, or-true, or-false}
 use mathlib.Core.Logic.{_⊎_, inl, inr}
 use mathlib.Core.List.{List, []}
 use Prim.Native.Nat.{ℕ, _≤_}
@@ -35,6 +35,7 @@ use Rattle.line.specs.Rule.{ruleBroken}
 use Rattle.line.specs.Parameter.{isVersion, isVersionLine, isComment, timeScale, isCreator, isCreationDate, scaleOr, otherReading, parameterReading}
 use Rattle.line.specs.Event.{maxTime, numbersAs, numbersOf, hasNames, ruled, knownReading, numbersReading, fieldsReading, eventReading}
 use Rattle.line.specs.Reading.{hasBreak, isEventLine, readLine}
+use Rattle.line.specs.Writing.{isEmpty}
 use Rattle.line.proofs.Parts.{field-missing}
 
 -- what document 01 asks of a record, an event with its source, target and note, and the count that the note means
@@ -44,7 +45,7 @@ pub record Allowed (e : Event) (source target note : List ℕ) (count : ℕ) : T
   pub to-size : e .«target_instance» ≤ maxInstance
   pub source-name : isName source ≡ true
   pub target-name : isName target ≡ true
-  pub note-name : (note ≡ []) ⊎ (isName note ≡ true)
+  pub note-name : (isEmpty note || isName note) ≡ true
   pub of-kind : isOf (e .kind) (e .action) ≡ true
   pub means : noteOf (e .kind) note ≡ Means count
   pub kept : ruleBroken (e .kind) (e .action) source (e .«source_instance») target (e .«target_instance») note ≡ false
@@ -119,15 +120,11 @@ numbers-are (Value n) (Value f) (Value t) x y z q = (cc, cc, cc)
 
 noted-at : (l : List ℕ) (b : Bool) → eqb (length (partsOf l)) 8 ≡ b → (eqb (length (partsOf l)) 7 || b) ≡ true → (not b || isName (fieldOf l 8)) ≡ true → Noted l
 noted-at l true p h k = inr (eqb-true (length (partsOf l)) 8 p, k)
-noted-at l false p h k = let n = eqb-true (length (partsOf l)) 7 (or-l (eqb (length (partsOf l)) 7) h) in inl (n, field-missing l 7 (omega arith))
-  where
-    or-l : (a : Bool) → (a || false) ≡ true → a ≡ true
-    or-l true q = refl
-    or-l false q = q
+noted-at l false p h k = let n = eqb-true (length (partsOf l)) 7 (rw or-false at h) in inl (n, field-missing l 7 (omega arith))
 
-noted-name : (l : List ℕ) → Noted l → (fieldOf l 8 ≡ []) ⊎ (isName (fieldOf l 8) ≡ true)
-noted-name l (inl p) = inl (p .1)
-noted-name l (inr p) = inr (p .1)
+noted-name : (l : List ℕ) → Noted l → (isEmpty (fieldOf l 8) || isName (fieldOf l 8)) ≡ true
+noted-name l (inl p) = rw (p .1)
+noted-name l (inr p) = rw (p .1, or-true)
 
 -- ---- the fields
 
