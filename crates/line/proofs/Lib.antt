@@ -6,5 +6,5 @@ pub mod Lines
 pub mod Rules
 pub mod Events
 pub mod Said
-pub mod Texts
+pub mod Written
 pub mod Trips

@@ -33,7 +33,7 @@ use Rattle.line.specs.Reading.{readLine}
 use Rattle.line.specs.Writing.{hasInstances, hasSizes, recordRefusal, textOf, wrote, writeText, writeLine}
 use Rattle.line.proofs.Parts.{join-parts}
 use Rattle.line.proofs.Said.{Allowed, Noted, Said, said}
-use Rattle.line.proofs.Texts.{noteParts, recordParts, text-joined, text-parts, text-length, text-break, text-event}
+use Rattle.line.proofs.Written.{noteParts, recordParts, text-joined, text-parts, text-length, text-break, text-event}
 
 -- ---- what is not refused is allowed
 
