@@ -8,6 +8,9 @@ pub mod Events
 pub mod Texts
 pub mod Lowest
 pub mod Answers
+pub mod Said
+pub mod Written
+pub mod Trips
 pub mod Outputs
 pub mod Unique
 pub mod Examples

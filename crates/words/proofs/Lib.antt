@@ -3,3 +3,4 @@ pub mod Chains
 pub mod Actions
 pub mod Tables
 pub mod Classes
+pub mod Found
