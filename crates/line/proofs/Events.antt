@@ -9,13 +9,14 @@ use Rattle.line.specs.declared.part.Commas.{Commas}
 use Rattle.line.specs.declared.reading.Reading.the-variants.{Refused}
 use Rattle.line.specs.Part.{partFrom, commaAt, commasOf}
 use Rattle.line.specs.Event.{fieldsReading, eventReading}
-use Rattle.line.proofs.Parts.{find-le, field-first, field-place, parts-fit, parts-few, parts-many, parts-eight}
+use Rattle.text.proofs.Finds.{find-le}
+use Rattle.line.proofs.Parts.{field-first, field-place, parts-fit, parts-few, parts-many, parts-eight}
 
 module _ (l : List ℕ) (c : Commas) (e : c ≡ commasOf l) where
   -- the first field ends in the line
   pub time-ends : c .c1 ≤ length l
   unfolding commaAt
-  time-ends = rw e (find-le l 0 (length l) (omega arith) (omega arith))
+  time-ends = rw e (find-le 44 l 0 (length l) (omega arith) (omega arith))
 
   -- without a sixth comma there are fewer than seven fields
   pub event-few : length l ≤ c .c6 → Refused 5 ≡ eventReading l

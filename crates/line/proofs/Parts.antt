@@ -16,7 +16,7 @@ use Rattle.text.specs.Bytes.{count, toByte, findFrom}
 use Rattle.text.specs.Name.{isNameByte, allNameBytes, isName}
 use Rattle.text.specs.Number.{digitsOf}
 use Rattle.text.proofs.Bools.{and-l, and-r}
-use Rattle.text.proofs.Finds.{to-byte-le}
+use Rattle.text.proofs.Finds.{find-ge, find-le}
 use Rattle.text.proofs.Digits.{digits-all}
 use Rattle.text.proofs.Names.{name-byte, name-bytes, digits-names}
 use Rattle.line.specs.Part.{before, partsOf, fieldOf, partFrom, commaAt}
@@ -64,14 +64,6 @@ some-part [] = omega arith
 some-part (x ∷ s) = some-step (eqb x 44) x (partsOf s)
 
 -- ---- where a search for a comma ends
-
-pub find-ge : (l : List ℕ) (a : ℕ) → a ≤ findFrom 44 l a
-unfolding findFrom
-find-ge l a = omega arith
-
-pub find-le : (l : List ℕ) (a n : ℕ) → length l ≤ n → a ≤ n → findFrom 44 l a ≤ n
-unfolding findFrom
-find-le l a n h k = omega (arith, to-byte-le 44 (drop a l), length-drop a l)
 
 -- ---- the parts from an index on
 
@@ -151,15 +143,15 @@ Place l k n = (n ≡ commaAt l k) × (n ≤ length l + k)
 
 pub place-first : (l : List ℕ) (n : ℕ) → n ≡ findFrom 44 l 0 → Place l 0 n
 unfolding commaAt
-place-first l n e = (e, rw e (find-le l 0 (length l + 0) (omega arith) (omega arith)))
+place-first l n e = (e, rw e (find-le 44 l 0 (length l + 0) (omega arith) (omega arith)))
 
 pub place-next : (l : List ℕ) (k n m : ℕ) → Place l k n → m ≡ findFrom 44 l (n + 1) → Place l (suc k) m
 unfolding commaAt
-place-next l k n m p e = (e ∙ rw (p .0, add-one), rw e (find-le l (n + 1) (length l + suc k) (omega arith) (omega arith)))
+place-next l k n m p e = (e ∙ rw (p .0, add-one), rw e (find-le 44 l (n + 1) (length l + suc k) (omega arith) (omega arith)))
 
 comma-grows : (l : List ℕ) (k : ℕ) → commaAt l k < commaAt l (suc k)
 unfolding commaAt
-comma-grows l k = find-ge l (suc (commaAt l k))
+comma-grows l k = find-ge 44 l (suc (commaAt l k))
 
 after-comma : (l : List ℕ) (k : ℕ) → commaAt l k < length l → From l (suc k) (suc (commaAt l k))
 unfolding commaAt

@@ -6,7 +6,8 @@ use native.Mathlib.Omega.{arith}
 use borrow.Author.Needs.{needs}
 use lib.ListN.{length}
 use Rattle.line.specs.Part.{fieldOf, partFrom}
-use Rattle.line.proofs.Parts.{From, find-ge, find-le, field-turn, field-stop, field-found}
+use Rattle.text.proofs.Finds.{find-ge, find-le}
+use Rattle.line.proofs.Parts.{From, field-turn, field-stop, field-found}
 use Rattle.line.proofs.part.field.Statement.{statement}
 use Rattle.line.proofs.part.field.Tie as tie
 
@@ -40,7 +41,7 @@ ends : (c : tie.After-find2 Inv-loop μ-loop) → (c .before .before .loop .a �
 ends c =
     let l = c .before .before in
     let line = l .before .before .before .args .line .now in
-    (rw (c .find2 .ensures) (find-ge line (l .loop .a)), rw (c .find2 .ensures) (find-le line (l .loop .a) (length line) (omega arith) (l .loop .inv .2)))
+    (rw (c .find2 .ensures) (find-ge 44 line (l .loop .a)), rw (c .find2 .ensures) (find-le 44 line (l .loop .a) (length line) (omega arith) (l .loop .inv .2)))
 
 returns-3 : tie.Need-returns-3 Inv-loop μ-loop
 unfolding partFrom
