@@ -1,0 +1,16 @@
+-- The laws of a line, which the proofs of this crate and of the crates above it cite.
+pub mod Parts
+pub mod Dates
+pub mod Notes
+pub mod Lines
+pub mod Rules
+pub mod Events
+pub mod Texts
+pub mod Lowest
+pub mod Answers
+pub mod Said
+pub mod Written
+pub mod Trips
+pub mod Outputs
+pub mod Unique
+pub mod Examples

@@ -1,0 +1,284 @@
+-- Laws of the parts of a line: the fields stand between the commas, there is one part more than commas, a line is its parts joined by
+-- commas, and no part has one.
+use mathlib.Core.Path.{_≡_, refl, sym, ap, _∙_}
+use mathlib.Core.Bool.{Bool, true, false, not, _&&_, _||_}
+use mathlib.Core.Logic.{_⊎_, inl, inr, ⊎-elim}
+use mathlib.Core.List.{List, [], _∷_, _++_}
+use Prim.Native.Nat.{ℕ, zero, suc, _+_, _-_, _≤_, _<_}
+use native.Mathlib.Nat.{le-of-suc-le-suc, not-suc-le-zero, eq-or-lt-of-le}
+use native.Mathlib.Numerals.{add-one}
+use native.Mathlib.Omega.{arith}
+use lib.Dec.{eqb, ltb}
+use lib.ListN.{length, getD, take, drop, length-drop, drop-of-length-le, List·getD-eq-default}
+use lib.Seq.{take-all, take-nil, drop-drop, getD-drop}
+use borrow.Author.Tests.{eq-eqb, ne-eqb, eqb-true, lt-ltb, le-ltb, ltb-true, ltb-false}
+use Rattle.text.specs.Bytes.{count, toByte, findFrom}
+use Rattle.text.specs.Name.{isNameByte, allNameBytes, isName}
+use Rattle.text.specs.Number.{digitsOf}
+use Rattle.text.proofs.Bools.{and-l, and-r}
+use Rattle.text.proofs.Finds.{find-ge, find-le}
+use Rattle.text.proofs.Digits.{digits-all}
+use Rattle.text.proofs.Names.{name-byte, name-bytes, digits-names}
+use Rattle.line.specs.Part.{before, partsOf, fieldOf, partFrom, commaAt}
+
+-- two numbers compared
+either : (b : Bool) (m n : ℕ) → ltb m n ≡ b → (m < n) ⊎ (n ≤ m)
+either true m n e = inl (ltb-true m n e)
+either false m n e = inr (ltb-false m n e)
+
+lt-or-ge : (m n : ℕ) → (m < n) ⊎ (n ≤ m)
+lt-or-ge m n = either (ltb m n) m n refl
+
+-- ---- the first part, and the parts after it
+
+-- with a comma the parts are what stands before it, and the parts of what stands after it
+has-step : (b : Bool) (x : ℕ) (s : List ℕ) → (toByte 44 s < length s → partsOf s ≡ take (toByte 44 s) s ∷ partsOf (drop (suc (toByte 44 s)) s))
+    → count b (toByte 44 s) < suc (length s)
+    → before b x (partsOf s) ≡ take (count b (toByte 44 s)) (x ∷ s) ∷ partsOf (drop (suc (count b (toByte 44 s))) (x ∷ s))
+has-step true x s ih h = refl
+has-step false x s ih h = ap (before false x) (ih (le-of-suc-le-suc h))
+
+has-comma : (s : List ℕ) → toByte 44 s < length s → partsOf s ≡ take (toByte 44 s) s ∷ partsOf (drop (suc (toByte 44 s)) s)
+unfolding partsOf toByte
+has-comma [] h = absurd (not-suc-le-zero h)
+has-comma (x ∷ s) h = has-step (eqb x 44) x s (has-comma s) h
+
+-- with none the line is its one part
+none-step : (b : Bool) (x : ℕ) (s : List ℕ) → (length s ≤ toByte 44 s → partsOf s ≡ s ∷ []) → suc (length s) ≤ count b (toByte 44 s) → before b x (partsOf s) ≡ (x ∷ s) ∷ []
+none-step true x s ih h = absurd (not-suc-le-zero h)
+none-step false x s ih h = ap (before false x) (ih (le-of-suc-le-suc h))
+
+no-comma : (s : List ℕ) → length s ≤ toByte 44 s → partsOf s ≡ s ∷ []
+unfolding partsOf toByte
+no-comma [] h = refl
+no-comma (x ∷ s) h = none-step (eqb x 44) x s (no-comma s) h
+
+some-step : (b : Bool) (x : ℕ) (ps : List (List ℕ)) → 1 ≤ length (before b x ps)
+some-step true x ps = omega arith
+some-step false x [] = omega arith
+some-step false x (p ∷ ps) = omega arith
+
+some-part : (l : List ℕ) → 1 ≤ length (partsOf l)
+unfolding partsOf
+some-part [] = omega arith
+some-part (x ∷ s) = some-step (eqb x 44) x (partsOf s)
+
+-- ---- where a search for a comma ends
+
+-- ---- the parts from an index on
+
+-- the parts after the first j of them are those of what stands from the index a on
+abbrev pub From : List ℕ → ℕ → ℕ → Type 0
+From l j a = drop j (partsOf l) ≡ partsOf (drop a l)
+
+-- after the next comma stands the next part
+from-next : (l : List ℕ) (j a : ℕ) → From l j a → findFrom 44 l a < length l → From l (suc j) (suc (findFrom 44 l a))
+unfolding findFrom
+from-next l j a e h =
+    let n = toByte 44 (drop a l) in
+    let lt : n < length (drop a l) = omega (arith, length-drop a l) in
+    let p : drop (suc j) (partsOf l) ≡ drop 1 (drop j (partsOf l)) = rw (drop-drop, add-one) in
+    let q : drop (suc n) (drop a l) ≡ drop (suc (a + n)) l = let r : a + suc n ≡ suc (a + n) = omega arith in rw (drop-drop, r) in
+    p ∙ rw (e, has-comma (drop a l) lt, q)
+
+-- with no comma there is no next part
+from-end : (l : List ℕ) (j a : ℕ) → From l j a → length l ≤ findFrom 44 l a → length (partsOf l) ≤ suc j
+unfolding findFrom
+from-end l j a e h =
+    let le : length (drop a l) ≤ toByte 44 (drop a l) = omega (arith, length-drop a l) in
+    let n : length (drop j (partsOf l)) ≡ 1 = rw (e, no-comma (drop a l) le) in
+    omega (arith, length-drop j (partsOf l))
+
+-- the first part of a line
+first : (s : List ℕ) → getD (partsOf s) 0 [] ≡ take (toByte 44 s) s
+first s = ⊎-elim (λ h. rw (has-comma s h)) (λ h. rw (no-comma s h, take-all (toByte 44 s) s h)) (lt-or-ge (toByte 44 s) (length s))
+
+from-here : (l : List ℕ) (j a : ℕ) → From l j a → fieldOf l (suc j) ≡ partFrom l a (findFrom 44 l a)
+unfolding fieldOf partFrom findFrom
+from-here l j a e =
+    let p : getD (partsOf l) j [] ≡ getD (drop j (partsOf l)) 0 [] = let z : j + 0 ≡ j = omega arith in rw (getD-drop, z) in
+    let q : a + toByte 44 (drop a l) - a ≡ toByte 44 (drop a l) = omega arith in
+    p ∙ rw (e, q) (first (drop a l))
+
+pub field-missing : (l : List ℕ) (k : ℕ) → length (partsOf l) ≤ k → fieldOf l (suc k) ≡ []
+unfolding fieldOf
+field-missing l k h = List·getD-eq-default (partsOf l) [] h
+
+-- ---- what `field` does at a turn: the field asked for is the k-th, a is where the j-th starts, and n where a comma was looked for
+
+pub field-turn : (l : List ℕ) (j a n : ℕ) → n ≡ findFrom 44 l a → 1 ≤ j → From l (j - 1) a → n < length l → From l (j + 1 - 1) (n + 1)
+field-turn l j a n e h f k =
+    let p : j + 1 - 1 ≡ suc (j - 1) = omega arith in
+    rw (p, add-one, e) (from-next l (j - 1) a f (rw e at k))
+
+pub field-stop : (l : List ℕ) (k j a n : ℕ) → n ≡ findFrom 44 l a → 1 ≤ j → From l (j - 1) a → length l ≤ n → j < k → fieldOf l k ≡ []
+field-stop l zero j a n e h f g lt = absurd (not-suc-le-zero lt)
+field-stop l (suc k) j a n e h f g lt = field-missing l k (omega (arith, from-end l (j - 1) a f (rw e at g)))
+
+pub field-found : (l : List ℕ) (k j a n : ℕ) → n ≡ findFrom 44 l a → 1 ≤ j → From l (j - 1) a → j ≤ k → k ≤ j → fieldOf l k ≡ partFrom l a n
+field-found l k j a n e h f g le =
+    let p : k ≡ suc (j - 1) = omega arith in
+    rw (p, e) (from-here l (j - 1) a f)
+
+-- ---- what `between` does: a part that starts past the end or ends before it starts is empty, and none ends past the end
+
+pub part-past : (l : List ℕ) (a b : ℕ) → length l ≤ a → partFrom l a b ≡ []
+unfolding partFrom
+part-past l a b h = rw (drop-of-length-le l h, take-nil)
+
+pub part-none : (l : List ℕ) (a b : ℕ) → b ≤ a → partFrom l a b ≡ []
+unfolding partFrom
+part-none l a b h = let z : b - a ≡ 0 = omega arith in rw z
+
+pub part-end : (l : List ℕ) (a b : ℕ) → length l ≤ b → partFrom l a (length l) ≡ partFrom l a b
+unfolding partFrom
+part-end l a b h =
+    rw (take-all (length l - a) (drop a l) (omega (arith, length-drop a l)), take-all (b - a) (drop a l) (omega (arith, length-drop a l)))
+
+-- ---- the commas, one after another
+
+-- n is the place of the comma after k others, and that is at most k past the end
+abbrev pub Place : List ℕ → ℕ → ℕ → Type 0
+Place l k n = (n ≡ commaAt l k) × (n ≤ length l + k)
+
+pub place-first : (l : List ℕ) (n : ℕ) → n ≡ findFrom 44 l 0 → Place l 0 n
+unfolding commaAt
+place-first l n e = (e, rw e (find-le 44 l 0 (length l + 0) (omega arith) (omega arith)))
+
+pub place-next : (l : List ℕ) (k n m : ℕ) → Place l k n → m ≡ findFrom 44 l (n + 1) → Place l (suc k) m
+unfolding commaAt
+place-next l k n m p e = (e ∙ rw (p .0, add-one), rw e (find-le 44 l (n + 1) (length l + suc k) (omega arith) (omega arith)))
+
+comma-grows : (l : List ℕ) (k : ℕ) → commaAt l k < commaAt l (suc k)
+unfolding commaAt
+comma-grows l k = find-ge 44 l (suc (commaAt l k))
+
+after-comma : (l : List ℕ) (k : ℕ) → commaAt l k < length l → From l (suc k) (suc (commaAt l k))
+unfolding commaAt
+after-comma l zero h = from-next l 0 0 refl h
+after-comma l (suc k) h = from-next l (suc k) (suc (commaAt l k)) (after-comma l k (omega (arith, comma-grows l k))) h
+
+-- a comma after k others is there exactly when there are k + 2 parts or more
+pub comma-there : (l : List ℕ) (k : ℕ) → commaAt l k < length l → suc (suc k) ≤ length (partsOf l)
+comma-there l k h =
+    let n : 1 ≤ length (drop (suc k) (partsOf l)) = rw (after-comma l k h) (some-part (drop (suc (commaAt l k)) l)) in
+    omega (arith, length-drop (suc k) (partsOf l))
+
+pub comma-missing : (l : List ℕ) (k : ℕ) → length l ≤ commaAt l k → length (partsOf l) ≤ suc k
+unfolding commaAt
+comma-missing l zero h = from-end l 0 0 refl h
+comma-missing l (suc k) h =
+    ⊎-elim (λ lt. from-end l (suc k) (suc (commaAt l k)) (after-comma l k lt) h) (λ ge. omega (arith, comma-missing l k ge)) (lt-or-ge (commaAt l k) (length l))
+
+-- ---- the fields are what stands between the commas
+
+pub field-first : (l : List ℕ) → fieldOf l 1 ≡ take (commaAt l 0) l
+unfolding partFrom commaAt
+field-first l = let z : findFrom 44 l 0 - 0 ≡ findFrom 44 l 0 = omega arith in rw z at (from-here l 0 0 refl)
+
+pub field-place : (l : List ℕ) (k : ℕ) → fieldOf l (suc (suc k)) ≡ partFrom l (suc (commaAt l k)) (commaAt l (suc k))
+unfolding commaAt
+field-place l k =
+    ⊎-elim (λ lt. from-here l (suc k) (suc (commaAt l k)) (after-comma l k lt)) (λ ge. field-missing l (suc k) (comma-missing l k ge) ∙ sym (part-past l (suc (commaAt l k)) (commaAt l (suc k)) (omega arith)))
+    (lt-or-ge (commaAt l k) (length l))
+
+-- ---- seven or eight parts
+
+pub parts-fit : (l : List ℕ) → commaAt l 5 < length l → length l ≤ commaAt l 7 → (eqb (length (partsOf l)) 7 || eqb (length (partsOf l)) 8) ≡ true
+parts-fit l h k =
+    let lo = comma-there l 5 h in
+    let hi = comma-missing l 7 k in
+    ⊎-elim (λ e. rw (eq-eqb (length (partsOf l)) 7 (sym e)))
+    (λ lt. rw (ne-eqb (length (partsOf l)) 7 (λ e. omega (arith, e)), eq-eqb (length (partsOf l)) 8 (omega arith)))
+    (eq-or-lt-of-le lo)
+
+other-count : (n : ℕ) → (n ≡ 7 → ⊥) → (n ≡ 8 → ⊥) → (eqb n 7 || eqb n 8) ≡ false
+other-count n h k = rw (ne-eqb n 7 h, ne-eqb n 8 k)
+
+pub parts-few : (l : List ℕ) → length l ≤ commaAt l 5 → (eqb (length (partsOf l)) 7 || eqb (length (partsOf l)) 8) ≡ false
+parts-few l h = let n = comma-missing l 5 h in other-count (length (partsOf l)) (λ e. omega (arith, e)) (λ e. omega (arith, e))
+
+pub parts-many : (l : List ℕ) → commaAt l 7 < length l → (eqb (length (partsOf l)) 7 || eqb (length (partsOf l)) 8) ≡ false
+parts-many l h = let n = comma-there l 7 h in other-count (length (partsOf l)) (λ e. omega (arith, e)) (λ e. omega (arith, e))
+
+pub parts-eight : (l : List ℕ) → commaAt l 5 < length l → length l ≤ commaAt l 7 → eqb (length (partsOf l)) 8 ≡ ltb (commaAt l 6) (length l)
+parts-eight l h k =
+    let lo = comma-there l 5 h in
+    let hi = comma-missing l 7 k in
+    ⊎-elim (λ lt. let n = comma-there l 6 lt in rw (eq-eqb (length (partsOf l)) 8 (omega arith), lt-ltb (commaAt l 6) (length l) lt))
+    (λ ge. let n = comma-missing l 6 ge in rw (ne-eqb (length (partsOf l)) 8 (λ e. omega (arith, e)), le-ltb (commaAt l 6) (length l) ge)) (lt-or-ge (commaAt l 6) (length l))
+
+-- ---- parts joined by commas
+
+-- no byte is a comma
+unfoldable pub noComma : List ℕ → Bool
+noComma [] = true
+noComma (x ∷ s) = not (eqb x 44) && noComma s
+
+-- a part with no comma, a comma and a line are that part and the line's parts
+join-step : (b c : Bool) (x : ℕ) (p : List ℕ) (t ps : List (List ℕ)) → not b && c ≡ true → (c ≡ true → ps ≡ p ∷ t) → before b x ps ≡ (x ∷ p) ∷ t
+join-step true c x p t ps e ih = cc
+join-step false c x p t ps e ih = ap (before false x) (ih e)
+
+pub parts-join : (p t : List ℕ) → noComma p ≡ true → partsOf (p ++ 44 ∷ t) ≡ p ∷ partsOf t
+unfolding partsOf noComma
+parts-join [] t e = refl
+parts-join (x ∷ p) t e = join-step (eqb x 44) (noComma p) x p (partsOf t) (partsOf (p ++ 44 ∷ t)) e (parts-join p t)
+
+pub parts-last : (p : List ℕ) → noComma p ≡ true → partsOf p ≡ p ∷ []
+unfolding partsOf noComma
+parts-last [] e = refl
+parts-last (x ∷ p) e = join-step (eqb x 44) (noComma p) x p [] (partsOf p) e (parts-last p)
+
+-- the line that parts make
+unfoldable pub joined : List (List ℕ) → List ℕ
+joined [] = []
+joined (p ∷ []) = p
+joined (p ∷ q ∷ ps) = p ++ 44 ∷ joined (q ∷ ps)
+
+joined-step : (b : Bool) (x : ℕ) (ps : List (List ℕ)) → eqb x 44 ≡ b → 1 ≤ length ps → joined (before b x ps) ≡ x ∷ joined ps
+unfolding joined
+joined-step b x [] e h = absurd (not-suc-le-zero h)
+joined-step true x (p ∷ ps) e h = rw (eqb-true x 44 e)
+joined-step false x (p ∷ []) e h = refl
+joined-step false x (p ∷ q ∷ ps) e h = refl
+
+pub join-parts : (l : List ℕ) → joined (partsOf l) ≡ l
+unfolding partsOf joined
+join-parts [] = refl
+join-parts (x ∷ s) = joined-step (eqb x 44) x (partsOf s) refl (some-part s) ∙ ap (λ (t : List ℕ). x ∷ t) (join-parts s)
+
+-- ---- what has no comma
+
+-- no part of a line has one
+part-step : (b : Bool) (x : ℕ) (ps : List (List ℕ)) → eqb x 44 ≡ b → ((k : ℕ) → noComma (getD ps k []) ≡ true) → (k : ℕ) → noComma (getD (before b x ps) k []) ≡ true
+unfolding noComma
+part-step true x ps e ih zero = refl
+part-step true x ps e ih (suc k) = ih k
+part-step false x [] e ih zero = rw e
+part-step false x [] e ih (suc k) = refl
+part-step false x (p ∷ ps) e ih zero = rw e (ih zero)
+part-step false x (p ∷ ps) e ih (suc k) = ih (suc k)
+
+part-clean : (l : List ℕ) (k : ℕ) → noComma (getD (partsOf l) k []) ≡ true
+unfolding partsOf noComma
+part-clean [] zero = refl
+part-clean [] (suc k) = refl
+part-clean (x ∷ s) k = part-step (eqb x 44) x (partsOf s) refl (part-clean s) k
+
+pub field-clean : (l : List ℕ) (k : ℕ) → noComma (fieldOf l k) ≡ true
+unfolding fieldOf noComma
+field-clean l zero = refl
+field-clean l (suc k) = part-clean l k
+
+-- a name has none, and digits have none
+names-clean : (s : List ℕ) → allNameBytes s ≡ true → noComma s ≡ true
+unfolding allNameBytes noComma
+names-clean [] e = refl
+names-clean (x ∷ s) e = rw (ne-eqb x 44 (name-byte x (and-l (isNameByte x) (allNameBytes s) e) .2), names-clean s (and-r (isNameByte x) (allNameBytes s) e))
+
+pub name-clean : (s : List ℕ) → isName s ≡ true → noComma s ≡ true
+name-clean s e = names-clean s (name-bytes s e)
+
+pub digits-clean : (x : ℕ) → noComma (digitsOf x) ≡ true
+digits-clean x = names-clean (digitsOf x) (digits-names (digitsOf x) (digits-all x))

@@ -1,0 +1,35 @@
+-- `line::event::read_fields` meets its contract: the names, then the numbers, then type and event, then what a known pair says.
+-- Assumes nothing.
+use mathlib.Core.Path.{_≡_, sym, _∙_}
+use mathlib.Core.Bool.{true}
+use borrow.Author.Needs.{needs}
+use borrow.Author.Tests.{not-true, not-false}
+use Rattle.line.specs.Event.{hasNames, fieldsReading}
+use Rattle.line.proofs.event.read_fields.Statement.{statement}
+use Rattle.line.proofs.event.read_fields.Tie as tie
+
+names-are : (c : tie.Else1) → let a = c .before .before .before .before .before .before .before .before .before .before .args in hasNames (a .source .now) (a .target .now) (a .note .now) (a .noted) ≡ true
+names-are c = sym (c .before .names .ensures) ∙ not-false _ (c .if1 .left)
+
+pub read-fields-spec : {M : Type 1} → statement M
+unfolding fieldsReading
+read-fields-spec =
+    tie.close
+    (tie.spec
+    (λ c κs. tt)
+    (λ c. rw (← (c .before .names .ensures), not-true (c .before .names .result) (c .if1 .taken)))
+    (λ c κs. tt)
+    (λ c. search needs)
+    (λ c. search needs)
+    (λ c. rw (names-are (c .before .before .before), ← (c .before .before .read-numbers .ensures), c .enum-told .given .1))
+    (λ c κs. tt)
+    (λ c. search needs)
+    (λ c. search needs)
+    (λ c.
+    let n = c .before .before .before .before in
+    rw (names-are (n .before .before .before), ← (n .before .before .read-numbers .ensures), n .n .given .1, ← (c .before .before .named .ensures), c .enum-told2 .given .1))
+    (λ c κs. tt)
+    (λ c.
+    let p = c .before .before in
+    let n = p .before .before .before .before in
+    rw (names-are (n .before .before .before), ← (n .before .before .read-numbers .ensures), n .n .given .1, ← (p .before .before .named .ensures), p .p .given .1) (c .read-known .ensures)))

@@ -1,0 +1,17 @@
+-- `line::writing::put_number_field` meets its contract: the digits, and the comma after it, are put one after the other.
+use borrow.Author.Needs.{needs}
+use Rattle.text.proofs.Writes.{put-two}
+use Rattle.line.specs.Writing.{nameField, numberField}
+use Rattle.line.proofs.writing.put_number_field.Statement.{statement}
+use Rattle.line.proofs.writing.put_number_field.Tie as tie
+
+returns : tie.Need-returns
+unfolding nameField numberField
+returns c =
+    let b = c .before .before in
+    let a = b .before .before .before .before .before in
+    put-two _ _ _ _ (a .put-number .ensures) (b .put-bytes .ensures) (a .before .before .before .pre)
+
+pub put-number-field-spec : {M : Type 1} → statement M
+put-number-field-spec =
+    tie.close (tie.spec (λ c κs. tt) (λ c. search needs) (λ c κs. tt) (λ c. search needs) returns)

@@ -1,0 +1,85 @@
+-- Event lines: "seven fields or eight, separated by commas: time, source, source instance, type, target, target instance, event, note".
+use Prim.Native.Nat.{ℕ}
+use mathlib.Core.Bool.{Bool, true, false, not, _&&_, _||_, cond}
+use mathlib.Core.List.{List, [], _∷_}
+use lib.Dec.{eqb, leb}
+use lib.ListN.{length}
+use Rattle.text.specs.Name.{isName}
+use Rattle.text.specs.Number.{numberOf}
+use Rattle.text.specs.declared.number.Number.{Number}
+use Rattle.text.specs.declared.number.Number.the-variants.{Value, Bad}
+use Rattle.words.specs.declared.kind.Kind.{Kind}
+use Rattle.words.specs.declared.action.Action.{Action}
+use Rattle.words.specs.declared.pair.Pair.{Pair}
+use Rattle.words.specs.declared.pair.Pair.the-variants.{Known, Unknown}
+use Rattle.line.specs.declared.note.Note.{Note}
+use Rattle.line.specs.declared.note.Note.the-variants.{Means, Wrong}
+use Rattle.line.specs.declared.event.Event.{Event}
+use Rattle.line.specs.declared.event.Numbers.{Numbers}
+use Rattle.line.specs.declared.event.Numbers.the-variants.{Are, Wrong as NoNumbers}
+use Rattle.line.specs.declared.reading.Reading.{Reading}
+use Rattle.line.specs.declared.reading.Reading.the-variants.{EventLine, Refused}
+use Rattle.line.specs.Part.{partsOf, fieldOf}
+use Rattle.words.specs.Pair.{namedBy}
+use Rattle.line.specs.Note.{maxInstance, noteOf}
+use Rattle.line.specs.Rule.{ruleBroken}
+
+-- "time: 72,057,594,037,927,935 (2^56 − 1)"
+abbrev pub maxTime : ℕ
+maxTime = 72057594037927935
+
+-- ---- the three numbers
+
+abbrev pub numbersAs : Number → Number → Number → Numbers
+numbersAs Bad f t = NoNumbers
+numbersAs (Value n) Bad t = NoNumbers
+numbersAs (Value n) (Value f) Bad = NoNumbers
+numbersAs (Value n) (Value f) (Value t) = Are n f t
+
+unfoldable pub numbersOf : List ℕ → List ℕ → List ℕ → Numbers
+numbersOf time from to = numbersAs (numberOf time maxTime) (numberOf from maxInstance) (numberOf to maxInstance)
+
+-- ---- the names; "any eighth field needs a name's bytes and length"
+
+unfoldable pub hasNames : List ℕ → List ℕ → List ℕ → Bool → Bool
+hasNames source target note noted = isName source && (isName target && (not noted || isName note))
+
+-- ---- what the fields say: first 5, then 6, then 5 for the note's closer form ("tested only where type and event are known"), then 7
+
+abbrev pub eventOf : ℕ → ℕ → Kind → ℕ → Action → Event
+eventOf time from k to a = record { time = time; «source_instance» = from; kind = k; «target_instance» = to; action = a }
+
+abbrev pub ruled : Note → Bool → Event → Reading
+ruled Wrong broken e = Refused 5
+ruled (Means count) true e = Refused 7
+ruled (Means count) false e = EventLine e count
+
+unfoldable pub knownReading : Kind → Action → ℕ → List ℕ → ℕ → List ℕ → ℕ → List ℕ → Reading
+knownReading k a time source from target to note = ruled (noteOf k note) (ruleBroken k a source from target to note) (eventOf time from k to a)
+
+abbrev pub pairReading : Pair → ℕ → List ℕ → ℕ → List ℕ → ℕ → List ℕ → Reading
+pairReading (Known k a) time source from target to note = knownReading k a time source from target to note
+pairReading Unknown time source from target to note = Refused 6
+
+abbrev pub numbersReading : Numbers → Pair → List ℕ → List ℕ → List ℕ → Reading
+numbersReading (Are time from to) p source target note = pairReading p time source from target to note
+numbersReading NoNumbers p source target note = Refused 5
+
+unfoldable pub fieldsReading : List ℕ → List ℕ → List ℕ → List ℕ → List ℕ → List ℕ → List ℕ → List ℕ → Bool → Reading
+fieldsReading time source from kind target to action note noted =
+    cond (hasNames source target note noted) (numbersReading (numbersOf time from to) (namedBy kind action) source target note) (Refused 5)
+
+unfoldable pub eventReading : List ℕ → Reading
+eventReading l =
+    cond (eqb (length (partsOf l)) 7 || eqb (length (partsOf l)) 8)
+    (fieldsReading
+    (fieldOf l 1)
+    (fieldOf l 2)
+    (fieldOf l 3)
+    (fieldOf l 4)
+    (fieldOf l 5)
+    (fieldOf l 6)
+    (fieldOf l 7)
+    (fieldOf l 8)
+    (eqb (length (partsOf l)) 8))
+    (Refused 5)

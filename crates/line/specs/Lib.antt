@@ -1,0 +1,11 @@
+-- What one line of a trace is, after document 01 and 000: its parts, its words, its rules, how it is read and how it is written.
+pub mod Part
+pub mod Note
+pub mod Rule
+pub mod Date
+pub mod Answer
+pub mod Parameter
+pub mod Event
+pub mod Reading
+pub mod Condition
+pub mod Writing

@@ -1,0 +1,47 @@
+-- The parts of a line that commas separate, and where they stand.
+use Prim.Native.Nat.{ℕ, zero, suc, _-_}
+use mathlib.Core.Bool.{Bool, true, false}
+use mathlib.Core.List.{List, [], _∷_}
+use lib.ListN.{getD, take, drop}
+use lib.Dec.{eqb}
+use Rattle.text.specs.Bytes.{findFrom}
+use Rattle.line.specs.declared.part.Commas.{Commas}
+
+-- the parts with the byte x before them: a comma (the test is true) starts a new part, any other byte goes to the front of the first
+abbrev pub before : Bool → ℕ → List (List ℕ) → List (List ℕ)
+before true x ps = [] ∷ ps
+before false x [] = (x ∷ []) ∷ []
+before false x (p ∷ ps) = (x ∷ p) ∷ ps
+
+-- the parts of a line; a line with no comma is one part
+unfoldable pub partsOf : List ℕ → List (List ℕ)
+partsOf [] = [] ∷ []
+partsOf (x ∷ s) = before (eqb x 44) x (partsOf s)
+
+-- "Fields count from 1. Any bytes and any field number may be asked; a missing field is an empty part."
+unfoldable pub fieldOf : List ℕ → ℕ → List ℕ
+fieldOf l zero = []
+fieldOf l (suc k) = getD (partsOf l) k []
+
+-- ---- where the parts stand
+
+-- the bytes from one index to just before another
+unfoldable pub partFrom : List ℕ → ℕ → ℕ → List ℕ
+partFrom l from to = take (to - from) (drop from l)
+
+-- the place of the comma after k others; past the end where there is none
+unfoldable pub commaAt : List ℕ → ℕ → ℕ
+commaAt l zero = findFrom 44 l 0
+commaAt l (suc k) = findFrom 44 l (suc (commaAt l k))
+
+abbrev pub commasOf : List ℕ → Commas
+commasOf l = record {
+  c1 = commaAt l 0;
+  c2 = commaAt l 1;
+  c3 = commaAt l 2;
+  c4 = commaAt l 3;
+  c5 = commaAt l 4;
+  c6 = commaAt l 5;
+  c7 = commaAt l 6;
+  c8 = commaAt l 7;
+}

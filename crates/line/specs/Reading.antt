@@ -1,0 +1,33 @@
+-- What a line is, from its bytes alone, and document 01's number for each reading.
+use Prim.Native.Nat.{ℕ}
+use mathlib.Core.Bool.{Bool, true, false, not, _||_, cond}
+use mathlib.Core.List.{List, [], _∷_}
+use lib.Dec.{eqb, ltb}
+use lib.ListN.{length}
+use Rattle.line.specs.declared.reading.Reading.{Reading}
+use Rattle.line.specs.declared.reading.Reading.the-variants.{Version, Comment, TimeScale, Creator, CreationDate, EventLine, Refused}
+use Rattle.line.specs.Event.{eventReading}
+use Rattle.line.specs.Parameter.{parameterReading}
+
+-- "byte 10 or 13 inside"
+unfoldable pub hasBreak : List ℕ → Bool
+hasBreak [] = false
+hasBreak (x ∷ l) = (eqb x 10 || eqb x 13) || hasBreak l
+
+-- "Every other line, the empty one too, is an event line": any that does not start with `#`, byte 35
+unfoldable pub isEventLine : List ℕ → Bool
+isEventLine [] = true
+isEventLine (x ∷ l) = not (eqb x 35)
+
+unfoldable pub readLine : List ℕ → Reading
+readLine l = cond (ltb 1023 (length l) || hasBreak l) (Refused 1) (cond (isEventLine l) (eventReading l) (parameterReading l))
+
+-- the number of document 01's table that a reading is
+unfoldable pub answerOf : Reading → ℕ
+answerOf Version = 0
+answerOf Comment = 0
+answerOf (TimeScale s) = 0
+answerOf Creator = 0
+answerOf CreationDate = 0
+answerOf (EventLine e count) = 0
+answerOf (Refused n) = n

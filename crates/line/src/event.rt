@@ -1,0 +1,157 @@
+// Event lines: seven fields or eight.
+ghost use mathlib.Core.Path.{_≡_};
+ghost use mathlib.Core.Bool.{Bool};
+ghost use Rattle.line.specs.Event.{numbersOf, hasNames, fieldsReading, knownReading, eventReading};
+use crate::note::Note;
+use crate::note::note_of;
+use crate::part::between;
+use crate::part::split;
+use crate::reading::Reading;
+use crate::rule::rule_broken;
+use text::name::name;
+use text::number::Number;
+use text::number::read_number;
+use words::action::Action;
+use words::kind::Kind;
+use words::pair::Pair;
+use words::pair::named;
+
+// What an event line says, but for its source, target and note, which are the parts 2, 5 and 8 of the line itself.
+pub struct Event {
+    pub time: u64,
+    pub source_instance: u32,
+    pub kind: Kind,
+    pub target_instance: u32,
+    pub action: Action,
+}
+
+// The time and the two instances of an event line, or that one of them is no number of its size.
+pub(crate) enum Numbers {
+    Are(u64, u32, u32),
+    Wrong,
+}
+
+// The three numbers of an event line.
+fn read_numbers(time: &[u8], from: &[u8], to: &[u8]) -> Numbers
+    ensures { λ r. ⌜ r ≡ numbersOf (now (time .entry)) (now («from» .entry)) (now (to .entry)) ⌝ }
+{
+    let t = read_number(time, 72057594037927935);
+    let Number::Value(time) = t else {
+        return Numbers::Wrong;
+    };
+    let f = read_number(from, 4294967295);
+    let Number::Value(from) = f else {
+        return Numbers::Wrong;
+    };
+    let g = read_number(to, 4294967295);
+    let Number::Value(to) = g else {
+        return Numbers::Wrong;
+    };
+    Numbers::Are(time, from as u32, to as u32)
+}
+
+// Whether source and target are names, and so is the note where there is one.
+fn names(source: &[u8], target: &[u8], note: &[u8], noted: bool) -> bool
+    ensures { λ r. ⌜ r ≡ hasNames (now (source .entry)) (now (target .entry)) (now (note .entry)) noted ⌝ }
+{
+    if !name(source) {
+        return false;
+    }
+    if !name(target) {
+        return false;
+    }
+    if !noted {
+        return true;
+    }
+    name(note)
+}
+
+// What an event line says whose fields have their form and whose type and event are known.
+fn read_known(
+    kind: Kind,
+    action: Action,
+    time: u64,
+    source: &[u8],
+    from: u32,
+    target: &[u8],
+    to: u32,
+    note: &[u8],
+) -> Reading
+    ensures { λ r. ⌜ r ≡ knownReading kind action time (now (source .entry)) «from» (now (target .entry)) to (now (note .entry)) ⌝ }
+{
+    let n = note_of(kind, note);
+    let Note::Means(count) = n else {
+        return Reading::Refused(5);
+    };
+    if rule_broken(kind, action, source, from, target, to, note) {
+        return Reading::Refused(7);
+    }
+    let event = Event {
+        time,
+        source_instance: from,
+        kind,
+        target_instance: to,
+        action,
+    };
+    Reading::EventLine(event, count)
+}
+
+// What an event line says that has these fields; `noted` tells whether it has the eighth.
+fn read_fields(
+    time: &[u8],
+    source: &[u8],
+    from: &[u8],
+    kind: &[u8],
+    target: &[u8],
+    to: &[u8],
+    action: &[u8],
+    note: &[u8],
+    noted: bool,
+) -> Reading
+    ensures { λ r. ⌜ r ≡ fieldsReading (now (time .entry)) (now (source .entry)) (now («from» .entry)) (now (kind .entry)) (now (target .entry)) (now (to .entry)) (now (action .entry)) (now (note .entry)) noted ⌝ }
+{
+    if !names(source, target, note, noted) {
+        return Reading::Refused(5);
+    }
+    let n = read_numbers(time, from, to);
+    let Numbers::Are(time, from, to) = n else {
+        return Reading::Refused(5);
+    };
+    let p = named(kind, action);
+    let Pair::Known(kind, action) = p else {
+        return Reading::Refused(6);
+    };
+    read_known(kind, action, time, source, from, target, to, note)
+}
+
+// What an event line says. It is split at its commas once.
+pub(crate) fn read_event(line: &[u8]) -> Reading
+    ensures { λ r. ⌜ r ≡ eventReading (now (line .entry)) ⌝ }
+{
+    let c = split(line);
+    let n = line.len();
+    let c1 = c.c1;
+    let c2 = c.c2;
+    let c3 = c.c3;
+    let c4 = c.c4;
+    let c5 = c.c5;
+    let c6 = c.c6;
+    let c7 = c.c7;
+    let c8 = c.c8;
+    if n <= c6 {
+        return Reading::Refused(5);
+    }
+    if c8 < n {
+        return Reading::Refused(5);
+    }
+    let time = &line[0..c1];
+    let source = between(line, c1, c2);
+    let from = between(line, c2, c3);
+    let kind = between(line, c3, c4);
+    let target = between(line, c4, c5);
+    let to = between(line, c5, c6);
+    let action = between(line, c6, c7);
+    let note = between(line, c7, c8);
+    let noted = c7 < n;
+    read_fields(time, source, from, kind, target, to, action, note, noted)
+}

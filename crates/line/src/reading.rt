@@ -1,0 +1,61 @@
+// Reading one line.
+ghost use mathlib.Core.Path.{_≡_};
+ghost use Rattle.line.specs.Reading.{readLine, hasBreak, isEventLine};
+use crate::event::Event;
+use crate::event::read_event;
+use crate::parameter::read_parameter;
+use words::scale::Scale;
+
+// What a line is. An event line's count is what the note of a semaphore's line means, and 0 on any other.
+pub enum Reading {
+    Version,
+    Comment,
+    TimeScale(Scale),
+    Creator,
+    CreationDate,
+    EventLine(Event, u32),
+    Refused(u8),
+}
+
+// Whether a byte 10 or 13 stands in the line.
+fn has_break(line: &[u8]) -> bool
+    ensures { λ r. ⌜ r ≡ hasBreak (now (line .entry)) ⌝ }
+{
+    let mut i = 0;
+    while i < line.len() {
+        if line[i] == 10 {
+            return true;
+        }
+        if line[i] == 13 {
+            return true;
+        }
+        i += 1;
+    }
+    false
+}
+
+// Whether the line is an event line: any that does not start with `#`, the empty one too.
+fn event_line(line: &[u8]) -> bool
+    ensures { λ r. ⌜ r ≡ isEventLine (now (line .entry)) ⌝ }
+{
+    if line.len() == 0 {
+        return true;
+    }
+    line[0] != b'#'
+}
+
+// What a line is, from its bytes alone; it comes without its end.
+pub fn read(line: &[u8]) -> Reading
+    ensures { λ r. ⌜ r ≡ readLine (now (line .entry)) ⌝ }
+{
+    if 1023 < line.len() {
+        return Reading::Refused(1);
+    }
+    if has_break(line) {
+        return Reading::Refused(1);
+    }
+    if event_line(line) {
+        return read_event(line);
+    }
+    read_parameter(line)
+}

@@ -1,0 +1,149 @@
+// The rules on sources, instances and the presence of a note.
+ghost use mathlib.Core.Path.{_≡_};
+ghost use Rattle.line.specs.Rule.{isProcess, zeroSource, zeroTarget, isOwn, sourceBroken, targetBroken, ownBroken, noteBroken, ruleBroken};
+use text::bytes::same;
+use words::action::Action;
+use words::class::class_of;
+use words::kind::Kind;
+
+// Whether a type is T or I.
+fn process(kind: Kind) -> bool
+    ensures { λ r. ⌜ r ≡ isProcess kind ⌝ }
+{
+    match kind {
+        Kind::Stimulus => false,
+        Kind::Task => true,
+        Kind::Interrupt => true,
+        Kind::Runnable => false,
+        Kind::Scheduler => false,
+        Kind::OsEvent => false,
+        Kind::Signal => false,
+        Kind::Semaphore => false,
+    }
+}
+
+// Whether the source instance has to be 0.
+fn zero_source(kind: Kind, action: Action) -> bool
+    ensures { λ r. ⌜ r ≡ zeroSource kind action ⌝ }
+{
+    let class = class_of(action);
+    if class == 5 {
+        return true;
+    }
+    if class == 7 {
+        return true;
+    }
+    if class < 2 {
+        return false;
+    }
+    if 3 < class {
+        return false;
+    }
+    process(kind)
+}
+
+// Whether the target instance has to be 0.
+fn zero_target(kind: Kind) -> bool
+    ensures { λ r. ⌜ r ≡ zeroTarget kind ⌝ }
+{
+    match kind {
+        Kind::Stimulus => false,
+        Kind::Task => false,
+        Kind::Interrupt => false,
+        Kind::Runnable => false,
+        Kind::Scheduler => true,
+        Kind::OsEvent => true,
+        Kind::Signal => true,
+        Kind::Semaphore => true,
+    }
+}
+
+// Whether the event is one of its target's own: schedule, and a semaphore's state events.
+fn own(action: Action) -> bool
+    ensures { λ r. ⌜ r ≡ isOwn action ⌝ }
+{
+    let class = class_of(action);
+    if class == 7 {
+        return true;
+    }
+    class == 13
+}
+
+// Whether the source instance is not 0 where it has to be.
+fn source_broken(kind: Kind, action: Action, instance: u32) -> bool
+    ensures { λ r. ⌜ r ≡ sourceBroken kind action instance ⌝ }
+{
+    if instance == 0 {
+        return false;
+    }
+    zero_source(kind, action)
+}
+
+// Whether the target instance is not 0 where it has to be.
+fn target_broken(kind: Kind, instance: u32) -> bool
+    ensures { λ r. ⌜ r ≡ targetBroken kind instance ⌝ }
+{
+    if instance == 0 {
+        return false;
+    }
+    zero_target(kind)
+}
+
+// Whether an event of its target's own has another source, or an instance that is not 0.
+fn own_broken(action: Action, source: &[u8], from: u32, target: &[u8], to: u32) -> bool
+    ensures { λ r. ⌜ r ≡ ownBroken action (now (source .entry)) «from» (now (target .entry)) to ⌝ }
+{
+    if !own(action) {
+        return false;
+    }
+    if from != 0 {
+        return true;
+    }
+    if to != 0 {
+        return true;
+    }
+    !same(source, target)
+}
+
+// Whether a note is missing where one is required, or there where none may be; n is its length, and 0 where there is none.
+fn note_broken(kind: Kind, action: Action, n: usize) -> bool
+    ensures { λ r. ⌜ r ≡ noteBroken kind action n ⌝ }
+{
+    if class_of(action) == 10 {
+        return n == 0;
+    }
+    match kind {
+        Kind::Stimulus => n != 0,
+        Kind::Task => n != 0,
+        Kind::Interrupt => n != 0,
+        Kind::Runnable => n != 0,
+        Kind::Scheduler => n != 0,
+        Kind::OsEvent => n != 0,
+        Kind::Signal => false,
+        Kind::Semaphore => n == 0,
+    }
+}
+
+// Whether an event breaks a rule on its source, its instances or the presence of its note. `from` and `to` are the instances.
+pub(crate) fn rule_broken(
+    kind: Kind,
+    action: Action,
+    source: &[u8],
+    from: u32,
+    target: &[u8],
+    to: u32,
+    note: &[u8],
+) -> bool
+    ensures { λ r. ⌜ r ≡ ruleBroken kind action (now (source .entry)) «from» (now (target .entry)) to (now (note .entry)) ⌝ }
+{
+    if source_broken(kind, action, from) {
+        return true;
+    }
+    if target_broken(kind, to) {
+        return true;
+    }
+    if own_broken(action, source, from, target, to) {
+        return true;
+    }
+    note_broken(kind, action, note.len())
+}

@@ -1,0 +1,39 @@
+-- The classes into which the code sorts events say what the lists of events say, at every type and event.
+use mathlib.Core.Path.{_≡_, refl}
+use mathlib.Core.Bool.{Bool, true, false, not, _&&_, _||_}
+use mathlib.Core.List.{List}
+use lib.Dec.{eqb}
+use Rattle.words.specs.declared.kind.Kind.{Kind}
+use Rattle.words.specs.declared.kind.Kind.the-variants.{Stimulus, Task, Interrupt, Runnable, Scheduler, OsEvent, Signal, Semaphore}
+use Rattle.words.specs.declared.action.Action.{Action}
+use Rattle.words.specs.Action.{actionCode, actionsOf, among, isOf}
+use Rattle.words.specs.Class.{classOf, classIsOf}
+use Rattle.words.proofs.Actions.{actions, all, every}
+
+-- two tests give the same answer
+abbrev pub agree : Bool → Bool → Bool
+agree true b = b
+agree false b = not b
+
+pub agreed : (a b : Bool) → agree a b ≡ true → a ≡ b
+agreed true true e = refl
+agreed true false e = cc
+agreed false true e = cc
+agreed false false e = refl
+
+abbrev right : Kind → Action → Bool
+right k a = agree (classIsOf k (classOf a)) (isOf k a)
+
+tested : (k : Kind) → all (right k) actions ≡ true
+unfolding actions classIsOf classOf isOf among actionsOf actionCode
+tested Stimulus = refl
+tested Task = refl
+tested Interrupt = refl
+tested Runnable = refl
+tested Scheduler = refl
+tested OsEvent = refl
+tested Signal = refl
+tested Semaphore = refl
+
+pub class-is-of : (k : Kind) (a : Action) → classIsOf k (classOf a) ≡ isOf k a
+class-is-of k a = agreed _ _ (every (right k) (tested k) a)

@@ -1,0 +1,33 @@
+-- `words::action::action_of` meets its contract: each type asks the chain of its own events.
+use mathlib.Core.Path.{ap, _∙_}
+use borrow.Author.Needs.{needs}
+use Rattle.words.specs.declared.action.ActionFound.{ActionFound}
+use Rattle.words.specs.Action.{actionOf, actionsOf, wordOf, actionFrom, semaphoreStates}
+use Rattle.words.proofs.Chains.{step}
+use Rattle.words.proofs.action.action_of.Statement.{statement}
+use Rattle.words.proofs.action.action_of.Tie as tie
+
+pub action-of-spec : {M : Type 1} → statement M
+unfolding actionOf actionsOf wordOf
+action-of-spec =
+    tie.close
+    (tie.spec
+    (λ c. search needs) (λ c. search needs) (λ c κs. tt)
+    (λ c. search needs) (λ c κs. tt) (λ c. search needs) (λ c κs. tt)
+    (λ c. search needs) (λ c κs. tt) (λ c. search needs) (λ c κs. tt)
+    (λ c. search needs) (λ c κs. tt)
+    (λ c. search needs) (λ c κs. tt)
+    (λ c. search needs) (λ c κs. tt)
+    (λ c. search needs) (λ c κs. tt)
+    (λ c. search needs) (λ c κs. tt) (λ c κs. tt)
+    (λ c. rw (c .before .before .enum-told .given .1) (c .action-named .ensures))
+    (λ c. rw (c .before .before .before .enum-told2 .given .1) (step _ _ (c .action-named2 .ensures) (c .before .before .process-action .ensures)))
+    (λ c. rw (c .before .before .before .enum-told3 .given .1) (step _ _ (c .action-named3 .ensures) (c .before .before .process-action2 .ensures)))
+    (λ c. rw (c .before .enum-told4 .given .1) (c .runnable-action .ensures))
+    (λ c. rw (c .before .enum-told5 .given .1) (c .scheduler-action .ensures))
+    (λ c. rw (c .before .enum-told6 .given .1) (c .os-event-action .ensures))
+    (λ c. rw (c .before .enum-told7 .given .1) (c .signal-action .ensures))
+    (λ c.
+    rw (c .before .before .enum-told8 .given .1)
+    (c .semaphore-state .ensures
+    ∙ ap (λ (o : ActionFound). actionFrom semaphoreStates o (c .before .before .before .before .before .args .s .now)) (c .before .semaphore-request .ensures))))

@@ -1,0 +1,349 @@
+// The 38 event words of 000's sections 2.3.1 to 2.3.7: read by their type, and written.
+ghost use mathlib.Core.Path.{_≡_};
+ghost use Prim.Native.Nat.{_-_, _≤_};
+ghost use lib.ListN.{length, take, drop};
+ghost use Rattle.text.specs.Bytes.{sameBytes};
+ghost use Rattle.text.specs.Put.{put, after};
+ghost use Rattle.words.specs.Named.{pick};
+ghost use Rattle.words.specs.Action.{actionOf, actionCode, wordOf, wordStart, actionFrom, processActions, runnableActions, schedulerActions, osEventActions, signalActions, semaphoreRequests, semaphoreStates};
+use crate::kind::Kind;
+use text::bytes::same;
+use text::put::put_bytes;
+
+pub enum Action {
+    Trigger,
+    Activate,
+    InterruptSuspended,
+    Mtalimitexceeded,
+    Park,
+    Poll,
+    PollParking,
+    Preempt,
+    Release,
+    ReleaseParking,
+    Resume,
+    Run,
+    Start,
+    Terminate,
+    Wait,
+    Suspend,
+    Schedule,
+    Schedulepoint,
+    ClearEvent,
+    SetEvent,
+    WaitEvent,
+    Read,
+    Write,
+    Assigned,
+    Decrement,
+    Free,
+    Full,
+    Increment,
+    Lock,
+    LockUsed,
+    Overfull,
+    Queued,
+    Released,
+    Requestsemaphore,
+    Unlock,
+    UnlockFull,
+    Used,
+    Waiting,
+}
+
+pub enum ActionFound {
+    ThisAction(Action),
+    NoAction,
+}
+
+// action where s is the word w, and other where it is not.
+fn action_named(s: &[u8], w: &[u8], action: Action, other: ActionFound) -> ActionFound
+    ensures { λ r. ⌜ r ≡ pick (sameBytes (now (s .entry)) (now (w .entry))) (ActionFound.ThisAction action) other ⌝ }
+{
+    if same(s, w) {
+        ActionFound::ThisAction(action)
+    } else {
+        other
+    }
+}
+
+// The event of T and I alike that s names, or other.
+fn process_action(s: &[u8], other: ActionFound) -> ActionFound
+    ensures { λ r. ⌜ r ≡ actionFrom processActions other (now (s .entry)) ⌝ }
+{
+    let a = other;
+    let a = action_named(s, b"wait", Action::Wait, a);
+    let a = action_named(s, b"terminate", Action::Terminate, a);
+    let a = action_named(s, b"start", Action::Start, a);
+    let a = action_named(s, b"run", Action::Run, a);
+    let a = action_named(s, b"resume", Action::Resume, a);
+    let a = action_named(s, b"release_parking", Action::ReleaseParking, a);
+    let a = action_named(s, b"release", Action::Release, a);
+    let a = action_named(s, b"preempt", Action::Preempt, a);
+    let a = action_named(s, b"poll_parking", Action::PollParking, a);
+    let a = action_named(s, b"poll", Action::Poll, a);
+    let a = action_named(s, b"park", Action::Park, a);
+    action_named(s, b"activate", Action::Activate, a)
+}
+
+// The event of R that s names, or other.
+fn runnable_action(s: &[u8], other: ActionFound) -> ActionFound
+    ensures { λ r. ⌜ r ≡ actionFrom runnableActions other (now (s .entry)) ⌝ }
+{
+    let a = other;
+    let a = action_named(s, b"terminate", Action::Terminate, a);
+    let a = action_named(s, b"suspend", Action::Suspend, a);
+    let a = action_named(s, b"start", Action::Start, a);
+    action_named(s, b"resume", Action::Resume, a)
+}
+
+// The event of SCHED that s names, or other.
+fn scheduler_action(s: &[u8], other: ActionFound) -> ActionFound
+    ensures { λ r. ⌜ r ≡ actionFrom schedulerActions other (now (s .entry)) ⌝ }
+{
+    let a = other;
+    let a = action_named(s, b"schedulepoint", Action::Schedulepoint, a);
+    action_named(s, b"schedule", Action::Schedule, a)
+}
+
+// The event of EVENT that s names, or other.
+fn os_event_action(s: &[u8], other: ActionFound) -> ActionFound
+    ensures { λ r. ⌜ r ≡ actionFrom osEventActions other (now (s .entry)) ⌝ }
+{
+    let a = other;
+    let a = action_named(s, b"wait_event", Action::WaitEvent, a);
+    let a = action_named(s, b"set_event", Action::SetEvent, a);
+    action_named(s, b"clear_event", Action::ClearEvent, a)
+}
+
+// The event of SIG that s names, or other.
+fn signal_action(s: &[u8], other: ActionFound) -> ActionFound
+    ensures { λ r. ⌜ r ≡ actionFrom signalActions other (now (s .entry)) ⌝ }
+{
+    let a = other;
+    let a = action_named(s, b"write", Action::Write, a);
+    action_named(s, b"read", Action::Read, a)
+}
+
+// The event of SEM that a process causes and that s names, or other.
+fn semaphore_request(s: &[u8], other: ActionFound) -> ActionFound
+    ensures { λ r. ⌜ r ≡ actionFrom semaphoreRequests other (now (s .entry)) ⌝ }
+{
+    let a = other;
+    let a = action_named(s, b"waiting", Action::Waiting, a);
+    let a = action_named(s, b"requestsemaphore", Action::Requestsemaphore, a);
+    let a = action_named(s, b"released", Action::Released, a);
+    let a = action_named(s, b"queued", Action::Queued, a);
+    let a = action_named(s, b"increment", Action::Increment, a);
+    let a = action_named(s, b"decrement", Action::Decrement, a);
+    action_named(s, b"assigned", Action::Assigned, a)
+}
+
+// The event of SEM that is a state of its own and that s names, or other.
+fn semaphore_state(s: &[u8], other: ActionFound) -> ActionFound
+    ensures { λ r. ⌜ r ≡ actionFrom semaphoreStates other (now (s .entry)) ⌝ }
+{
+    let a = other;
+    let a = action_named(s, b"used", Action::Used, a);
+    let a = action_named(s, b"unlock_full", Action::UnlockFull, a);
+    let a = action_named(s, b"unlock", Action::Unlock, a);
+    let a = action_named(s, b"overfull", Action::Overfull, a);
+    let a = action_named(s, b"lock_used", Action::LockUsed, a);
+    let a = action_named(s, b"lock", Action::Lock, a);
+    let a = action_named(s, b"full", Action::Full, a);
+    action_named(s, b"free", Action::Free, a)
+}
+
+// The event of the type that s names.
+pub fn action_of(kind: Kind, s: &[u8]) -> ActionFound
+    ensures { λ r. ⌜ r ≡ actionOf kind (now (s .entry)) ⌝ }
+{
+    let no = ActionFound::NoAction;
+    match kind {
+        Kind::Stimulus => action_named(s, b"trigger", Action::Trigger, no),
+        Kind::Task => {
+            let a = process_action(s, no);
+            action_named(s, b"mtalimitexceeded", Action::Mtalimitexceeded, a)
+        }
+        Kind::Interrupt => {
+            let a = process_action(s, no);
+            action_named(s, b"interrupt_suspended", Action::InterruptSuspended, a)
+        }
+        Kind::Runnable => runnable_action(s, no),
+        Kind::Scheduler => scheduler_action(s, no),
+        Kind::OsEvent => os_event_action(s, no),
+        Kind::Signal => signal_action(s, no),
+        Kind::Semaphore => {
+            let a = semaphore_request(s, no);
+            semaphore_state(s, a)
+        }
+    }
+}
+
+// The code of an event: its place among the 38, in the order of 000's sections.
+pub fn action_code(action: Action) -> usize
+    ensures { λ r. ⌜ r ≡ actionCode action ⌝ }
+{
+    match action {
+        Action::Trigger => 0,
+        Action::Activate => 1,
+        Action::InterruptSuspended => 2,
+        Action::Mtalimitexceeded => 3,
+        Action::Park => 4,
+        Action::Poll => 5,
+        Action::PollParking => 6,
+        Action::Preempt => 7,
+        Action::Release => 8,
+        Action::ReleaseParking => 9,
+        Action::Resume => 10,
+        Action::Run => 11,
+        Action::Start => 12,
+        Action::Terminate => 13,
+        Action::Wait => 14,
+        Action::Suspend => 15,
+        Action::Schedule => 16,
+        Action::Schedulepoint => 17,
+        Action::ClearEvent => 18,
+        Action::SetEvent => 19,
+        Action::WaitEvent => 20,
+        Action::Read => 21,
+        Action::Write => 22,
+        Action::Assigned => 23,
+        Action::Decrement => 24,
+        Action::Free => 25,
+        Action::Full => 26,
+        Action::Increment => 27,
+        Action::Lock => 28,
+        Action::LockUsed => 29,
+        Action::Overfull => 30,
+        Action::Queued => 31,
+        Action::Released => 32,
+        Action::Requestsemaphore => 33,
+        Action::Unlock => 34,
+        Action::UnlockFull => 35,
+        Action::Used => 36,
+        Action::Waiting => 37,
+    }
+}
+
+// Where each event's word begins among all words, which stand one after the other in the order of the codes, and how long it is.
+const STARTS: [usize; 38] = [
+    0,
+    7,
+    15,
+    34,
+    50,
+    54,
+    58,
+    70,
+    77,
+    84,
+    99,
+    105,
+    108,
+    113,
+    122,
+    126,
+    133,
+    141,
+    154,
+    165,
+    174,
+    184,
+    188,
+    193,
+    201,
+    210,
+    214,
+    218,
+    227,
+    231,
+    240,
+    248,
+    254,
+    262,
+    278,
+    284,
+    295,
+    299,
+];
+
+const LENGTHS: [usize; 38] = [
+    7,
+    8,
+    19,
+    16,
+    4,
+    4,
+    12,
+    7,
+    7,
+    15,
+    6,
+    3,
+    5,
+    9,
+    4,
+    7,
+    8,
+    13,
+    11,
+    9,
+    10,
+    4,
+    5,
+    8,
+    9,
+    4,
+    4,
+    9,
+    4,
+    9,
+    8,
+    6,
+    8,
+    16,
+    6,
+    11,
+    4,
+    7,
+];
+
+// Where an event's word begins among all words.
+fn word_start(action: Action) -> usize
+    ensures { λ r. ⌜ r ≡ wordStart action ⌝ }
+{
+    let code = action_code(action);
+    STARTS[code]
+}
+
+// How many bytes an event's word has.
+pub fn word_length(action: Action) -> usize
+    ensures { λ r. ⌜ r ≡ length (wordOf action) ⌝ }
+{
+    let code = action_code(action);
+    LENGTHS[code]
+}
+
+// Puts a part of s into out from the index at on.
+fn put_part(s: &[u8], from: usize, to: usize, out: &mut [u8], at: usize) -> usize
+    requires { ⌜ («from» ≤ to) × (to ≤ length (now s)) ⌝ }
+    ensures { λ r. ⌜ after r (now (out .exit)) ≡ put (now (out .entry)) at (take (to - «from») (drop «from» (now (s .entry)))) ⌝ }
+{
+    put_bytes(&s[from..to], out, at)
+}
+
+// Puts an event's word into out from the index at on.
+pub fn put_word(action: Action, out: &mut [u8], at: usize) -> usize
+    ensures { λ r. ⌜ after r (now (out .exit)) ≡ put (now (out .entry)) at (wordOf action) ⌝ }
+{
+    let from = word_start(action);
+    let to = from + word_length(action);
+    put_part(
+        b"triggeractivateinterrupt_suspendedmtalimitexceededparkpollpoll_parkingpreemptreleaserelease_parkingresumerunstartterminatewaitsuspendscheduleschedulepointclear_eventset_eventwait_eventreadwriteassigneddecrementfreefullincrementlocklock_usedoverfullqueuedreleasedrequestsemaphoreunlockunlock_fullusedwaiting",
+        from,
+        to,
+        out,
+        at,
+    )
+}
