@@ -1,3 +1,3 @@
 // The rules of events: the code of a chart step.
 pub mod chart;
-pub mod words;
+pub mod numbers;
