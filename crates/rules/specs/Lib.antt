@@ -10,3 +10,4 @@ pub mod Refusals
 pub mod Verdict
 pub mod Sheet
 pub mod Rows
+pub mod Lines

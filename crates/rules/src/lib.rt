@@ -1,3 +1,4 @@
-// The rules of events: the code of a chart step.
+// The rules of events: the code of a chart step, and the numbers of what a line says.
 pub mod chart;
+pub mod lines;
 pub mod numbers;

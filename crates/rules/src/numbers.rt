@@ -53,6 +53,20 @@ pub const UNLOCK_FULL: u32 = 22;
 
 pub const USED: u32 = 23;
 
+pub const REQUESTSEMAPHORE: u32 = 24;
+
+pub const QUEUED: u32 = 25;
+
+pub const ASSIGNED: u32 = 26;
+
+pub const WAITING: u32 = 27;
+
+pub const RELEASED: u32 = 28;
+
+pub const INCREMENT: u32 = 29;
+
+pub const DECREMENT: u32 = 30;
+
 pub const IS_TERMINATED: u32 = 1;
 
 pub const IS_ACTIVE: u32 = 2;

@@ -1,0 +1,27 @@
+-- `lines::kind_number` meets its contract: each arm gives the number of its type.
+use borrow.Author.Needs.{needs}
+use Rattle.rules.specs.Lines.{kindNumber}
+use Rattle.rules.proofs.lines.kind_number.Statement.{statement}
+use Rattle.rules.proofs.lines.kind_number.Tie as tie
+
+pub kind-number-spec : {M : Type 1} → statement M
+unfolding kindNumber
+kind-number-spec =
+    tie.close
+    (tie.spec
+    (λ c. search needs)
+    (λ c. search needs)
+    (λ c. search needs)
+    (λ c. search needs)
+    (λ c. search needs)
+    (λ c. search needs)
+    (λ c. search needs)
+    (λ c. search needs)
+    (λ c. rw (c .enum-told .given .1))
+    (λ c. rw (c .enum-told2 .given .1))
+    (λ c. rw (c .enum-told3 .given .1))
+    (λ c. rw (c .enum-told4 .given .1))
+    (λ c. rw (c .enum-told5 .given .1))
+    (λ c. rw (c .enum-told6 .given .1))
+    (λ c. rw (c .enum-told7 .given .1))
+    (λ c. rw (c .enum-told8 .given .1)))
