@@ -16,3 +16,4 @@ pub mod Tracked
 pub mod Charges
 pub mod Alone
 pub mod Laws
+pub mod Meets

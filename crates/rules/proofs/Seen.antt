@@ -15,10 +15,13 @@ use Rattle.rules.proofs.Sums.{any-new}
 use Rattle.rules.proofs.Changes.{state-other, state-own}
 use Rattle.rules.proofs.CoreWords.{isStep}
 
--- every T, I and R event has a step in its chart
+-- the word of a T, I or R event is a step of its chart
+abbrev pub OneWorded : Event → Type 0
+OneWorded e = hasInstances (e .kind) ≡ true → isStep (stepFor (chartOf (e .kind)) (e .word)) ≡ true
+
 abbrev pub Worded : List Event → Type 0
 Worded [] = Unit {0}
-Worded (e ∷ h) = (hasInstances (e .kind) ≡ true → isStep (stepFor (chartOf (e .kind)) (e .word)) ≡ true) × Worded h
+Worded (e ∷ h) = OneWorded e × Worded h
 
 pub first-seen : (h : List Event) → Worded h → (x : Instance) → hasInstances (x .kind) ≡ true → unseen (stateOf x h) ≡ not (any (sameInstance x) (instances h))
 unfolding instances isStep
