@@ -122,6 +122,15 @@ unended-append : (ps qs : List (List ℕ)) → 1 ≤ length qs → unended (ps +
 unended-append [] qs h = refl
 unended-append (p ∷ ps) qs h = unended-cons p (ps ++ qs) (rw length-append (omega arith)) ∙ unended-append ps qs h
 
+last-clean : (b : ℕ) (ps : List (List ℕ)) → ((k : ℕ) → without b (getD ps k []) ≡ true) → without b (unended ps) ≡ true
+unfolding unended without
+last-clean b [] h = refl
+last-clean b (p ∷ []) h = h 0
+last-clean b (p ∷ q ∷ ps) h = last-clean b (q ∷ ps) (λ k. h (suc k))
+
+pub unended-clean : (b : ℕ) (s : List ℕ) → without b (unended (pieces b s)) ≡ true
+unended-clean b s = last-clean b (pieces b s) (piece-clean b s)
+
 -- bytes are the pieces that the byte ends, with their ends, and the last piece
 joined-closed : (b : ℕ) (ps : List (List ℕ)) → joinedBy b ps ≡ closed b (ended ps) ++ unended ps
 unfolding joinedBy closed ended unended

@@ -1,0 +1,2 @@
+// The lines of a chunk, one after another.
+pub mod lines;
