@@ -3,3 +3,4 @@ pub mod Cuts
 pub mod Chunks
 pub mod Nexts
 pub mod Examples
+mod Held

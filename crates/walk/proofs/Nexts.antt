@@ -12,7 +12,7 @@ use Rattle.text.specs.Pieces.{pieces}
 use Rattle.text.proofs.Bools.{lt-or-ge}
 use Rattle.text.proofs.Pieces.{pieces-cut, pieces-one, pieces-some}
 use Rattle.walk.specs.declared.lines.Next.the-variants.{Line, Rest}
-use Rattle.walk.specs.Lines.{lineText, wholeLines, restOf, usedUp, lastLine, linesOf, nextOf, nextFrom}
+use Rattle.walk.specs.Lines.{lineText, wholeLines, restOf, usedUp, lastLine, linesOf, nextOf, nextFrom, startFrom}
 use Rattle.walk.proofs.Cuts.{text-cr, text-plain, text-front, cut-whole, cut-rest, cut-used, none-whole, none-rest, none-used}
 
 -- ---- with a byte 10 from the index on, and with none
@@ -84,6 +84,7 @@ pub record Stepped (s : List ℕ) (at e n : ℕ) : Type 0 where
   pub starts : at ≤ e
   pub ends : e < n
   pub within : n ≤ length s
+  pub after : startFrom s at ≡ n
   pub whole : wholeLines (drop at s) ≡ take (e - at) (drop at s) ∷ wholeLines (drop n s)
   pub lines : linesOf (drop at s) ≡ take (e - at) (drop at s) ∷ linesOf (drop n s)
   pub rest : restOf (drop at s) ≡ restOf (drop n s)
@@ -91,6 +92,7 @@ pub record Stepped (s : List ℕ) (at e n : ℕ) : Type 0 where
 
 -- no whole line from `at` on
 pub record Rested (s : List ℕ) (at : ℕ) : Type 0 where
+  pub after : startFrom s at ≡ at
   pub whole : wholeLines (drop at s) ≡ []
   pub lines : linesOf (drop at s) ≡ lastLine (drop at s)
   pub rest : restOf (drop at s) ≡ drop at s
@@ -101,7 +103,7 @@ module _ (s : List ℕ) (at : ℕ) (h : before s at < length (left s at)) where
   text = lineText (take (before s at) (left s at))
 
   stepped : Stepped s at (at + length text) (at + suc (before s at))
-  unfolding linesOf
+  unfolding linesOf startFrom
   stepped =
       let p = take (before s at) (left s at) in
       let l : length p ≡ before s at = length-take-le (before s at) (left s at) (omega arith) in
@@ -115,6 +117,7 @@ module _ (s : List ℕ) (at : ℕ) (h : before s at < length (left s at)) where
         starts = omega arith;
         ends = omega arith;
         within = omega (arith, length-drop at s);
+        after = rw (next-some s at h);
         whole = w;
         lines = rw (w, r);
         rest = r;
@@ -134,13 +137,14 @@ line-step s at e n q =
     (lt-or-ge (before s at) (length (left s at)))
 
 pub rest-step : (s : List ℕ) (at : ℕ) → nextFrom s at ≡ Rest → Rested s at
-unfolding linesOf
+unfolding linesOf startFrom
 rest-step s at q =
     ⊎-elim
     (λ h. let p = next-some s at h in
     let z : _≡_ {A = ℕ} 0 1 = cc in
     let no-rest : ⊥ = omega arith in absurd no-rest)
     (λ h. record {
+      after = rw q;
       whole = none-whole (left s at) h;
       lines = rw (none-whole (left s at) h, none-rest (left s at) h);
       rest = none-rest (left s at) h;

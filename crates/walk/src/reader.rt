@@ -3,13 +3,16 @@
 // `line_from`, whose parameters are plain.
 ghost use mathlib.Core.Path.{_≡_};
 ghost use Rattle.walk.specs.Lines.{nextFrom, startFrom};
-use crate::lines::{next_line, next_start, Next};
+use crate::lines::Next;
+use crate::lines::next_line;
+use crate::lines::next_start;
 
 pub struct Reader<'a> {
     pub chunk: &'a [u8],
     pub at: usize,
 }
 
+// A reader at an index of a chunk; any index will do.
 pub fn new<'a>(chunk: &'a [u8], at: usize) -> Reader<'a>
     ensures { λ r. ⌜ (r .chunk ≡ chunk .entry) × (r .at ≡ at) ⌝ }
 {
