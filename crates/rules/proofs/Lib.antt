@@ -17,3 +17,5 @@ pub mod Charges
 pub mod Alone
 pub mod Laws
 pub mod Meets
+pub mod Told
+pub mod Places
