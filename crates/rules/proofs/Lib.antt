@@ -19,3 +19,4 @@ pub mod Laws
 pub mod Meets
 pub mod Told
 pub mod Places
+pub mod Traces
