@@ -20,3 +20,4 @@ pub mod Meets
 pub mod Told
 pub mod Places
 pub mod Traces
+pub mod TraceExamples
