@@ -87,7 +87,7 @@ unfolding verdictOn
 sound-zero [] h s = scaled-end h (s .scaled)
 sound-zero (l ∷ ls) h s = rw (kept-before h l (earlier-kept ls (l ∷ h) s) .0, verdictOn) (sound-zero ls (l ∷ h) s)
 
-pub nothing-kept : Kept []
+nothing-kept : Kept []
 unfolding eventsOf
 nothing-kept = record { in-place = tt; accepted = tt }
 
