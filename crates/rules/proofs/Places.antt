@@ -12,9 +12,9 @@ use borrow.Author.Tests.{eqb-true, leb-true, ne-eqb, le-leb, lt-leb}
 use Rattle.line.specs.declared.reading.Reading.{Reading}
 use Rattle.line.specs.declared.reading.Reading.the-variants.{Version, Comment, TimeScale, Creator, CreationDate, EventLine, Refused}
 use Rattle.line.specs.Answer.{test, lowest}
-use Rattle.line.specs.Parameter.{isVersion, isVersionLine, timeScale, isCreator, isCreationDate}
-use Rattle.line.specs.Reading.{isEventLine, readLine, answerOf}
-use Rattle.line.specs.Condition.{refuses1, refuses2, isScale, refuses3, refuses5, refuses6, refuses7, readerTests}
+use Rattle.line.specs.Parameter.{isCreator, isCreationDate}
+use Rattle.line.specs.Reading.{readLine, answerOf}
+use Rattle.line.specs.Condition.{refuses1, refuses2, isScale, refuses3, refuses5, refuses6, refuses7}
 use Rattle.line.proofs.Lowest.{holds, lowest-exactly, lowest-none}
 use Rattle.line.proofs.Answers.{answer-lowest}
 use Rattle.rules.specs.declared.place.Place.{Place}

@@ -9,7 +9,7 @@ use Prim.Native.Nat.{ℕ, zero, suc, _+_, _≤_, _<_}
 use native.Mathlib.Omega.{arith}
 use lib.Dec.{eqb}
 use lib.ListN.{length}
-use borrow.Author.Tests.{eqb-true, eqb-false, eq-eqb, ne-eqb}
+use borrow.Author.Tests.{eqb-false, ne-eqb}
 use Rattle.line.proofs.Lowest.{holds}
 use Rattle.rules.specs.Lists.{ifZero}
 use Rattle.rules.specs.Event.{Event}
