@@ -11,3 +11,4 @@ pub mod Verdict
 pub mod Sheet
 pub mod Rows
 pub mod Lines
+pub mod Trace

@@ -2,3 +2,4 @@
 pub mod chart;
 pub mod lines;
 pub mod numbers;
+pub mod place;

@@ -1,0 +1,105 @@
+// A line in its place: the refusals 1 to 7 from its reading and what the lines before it said.
+ghost use mathlib.Core.Path.{_≡_};
+ghost use mathlib.Core.Bool.{cond};
+ghost use lib.Dec.{leb};
+ghost use Rattle.rules.specs.Trace.{scaleNumber, seldom, needsScale, firstAnswer, readAnswer, placed};
+use line::reading::Reading;
+use words::scale::Scale;
+
+// How many lines were taken, the number of the time scale (0 where there is none yet), and whether a creator, a creation date, an event was
+// given.
+pub struct Place {
+    pub lines: u32,
+    pub scale: u32,
+    pub creator: bool,
+    pub date: bool,
+    pub started: bool,
+}
+
+// A time scale's number, from 1.
+pub fn scale_number(scale: Scale) -> u32
+    ensures { λ r. ⌜ r ≡ scaleNumber scale ⌝ }
+{
+    match scale {
+        Scale::Picoseconds => 1,
+        Scale::Nanoseconds => 2,
+        Scale::Microseconds => 3,
+        Scale::Milliseconds => 4,
+        Scale::Seconds => 5,
+    }
+}
+
+// 3 for a parameter that was given before or comes after the first event.
+fn at_most_one(seen: bool, late: bool) -> u32
+    ensures { λ r. ⌜ r ≡ seldom seen late ⌝ }
+{
+    if seen {
+        return 3;
+    }
+    if late { 3 } else { 0 }
+}
+
+// 4 for an event line without a time scale before it, else n.
+fn needs_scale(scale: u32, n: u32) -> u32
+    ensures { λ r. ⌜ r ≡ needsScale scale n ⌝ }
+{
+    if scale == 0 { 4 } else { n }
+}
+
+// A refused reading's own number, but 4 comes before 5, 6 and 7.
+fn refused_answer(scale: u32, n: u32) -> u32
+    ensures { λ r. ⌜ r ≡ cond (leb n 3) n (needsScale scale n) ⌝ }
+{
+    if n <= 3 {
+        return n;
+    }
+    needs_scale(scale, n)
+}
+
+// The answer to the first line.
+fn first_answer(r: Reading) -> u32
+    ensures { λ n. ⌜ n ≡ firstAnswer r ⌝ }
+{
+    match r {
+        Reading::Version => 0,
+        Reading::Comment => 2,
+        Reading::TimeScale(_) => 2,
+        Reading::Creator => 2,
+        Reading::CreationDate => 2,
+        Reading::EventLine(_, _) => 2,
+        Reading::Refused(n) => {
+            if n == 1 {
+                return 1;
+            }
+            2
+        }
+    }
+}
+
+// The answer to a later line.
+fn later_answer(p: Place, r: Reading) -> u32
+    ensures { λ n. ⌜ n ≡ readAnswer p r ⌝ }
+{
+    match r {
+        Reading::Version => 2,
+        Reading::Comment => 0,
+        Reading::TimeScale(_) => at_most_one(p.scale != 0, p.started),
+        Reading::Creator => at_most_one(p.creator, p.started),
+        Reading::CreationDate => at_most_one(p.date, p.started),
+        Reading::EventLine(_, _) => needs_scale(p.scale, 0),
+        Reading::Refused(n) => refused_answer(p.scale, n as u32),
+    }
+}
+
+// The lowest of 1 to 7 that applies to a line in its place, 0 where none does.
+pub fn answer_in_place(p: Place, r: Reading) -> u32
+    ensures { λ n. ⌜ n ≡ placed p r ⌝ }
+{
+    if 1000000000 <= p.lines {
+        return 1;
+    }
+    if p.lines == 0 {
+        return first_answer(r);
+    }
+    later_answer(p, r)
+}
