@@ -1,0 +1,129 @@
+-- What the look-ups find, for any test: the first number that passes, the last number that passes; and what the tests of a row mean.
+use mathlib.Core.Path.{_≡_, refl, sym, ap, subst, _∙_}
+use mathlib.Core.Bool.{Bool, true, false, cond}
+use mathlib.Core.List.{List}
+use mathlib.Core.Logic.{⊎-elim}
+use Prim.Native.Nat.{ℕ, zero, suc, _+_, _-_, _≤_, _<_}
+use native.Mathlib.Nat.{not-suc-le-zero, le-of-suc-le-suc, eq-or-lt-of-le}
+use native.Mathlib.Numerals.{add-one}
+use native.Mathlib.Omega.{arith}
+use lib.ListN.{length, length-take, length-drop}
+use borrow.Author.Tests.{eq-eqb}
+use Rattle.text.specs.Bytes.{sameBytes}
+use Rattle.text.proofs.Words.{same-eq, eq-same}
+use Rattle.tables.specs.declared.find.Found.{Found}
+use Rattle.tables.specs.declared.find.Found.the-variants.{At, Nothing}
+use Rattle.tables.specs.Entry.{namesSize, numsSize, nameCount, lengthAt, nameAt, instanceCount, ownerAt, instanceAt}
+use Rattle.tables.specs.Find.{firstFrom, lastBelow, rowIs, findName, instanceIs, findInstance}
+use Rattle.tables.proofs.Means.{Means, means-le, means-lt, means-eq, means-and}
+
+-- what a search says: the number found is the first that passes of n from i on, or none of them passes
+abbrev First : (ℕ → Bool) → ℕ → ℕ → Found → Type 0
+First f i n (At k) = (i ≤ k) × (k < i + n) × (f k ≡ true) × ((m : ℕ) → i ≤ m → m < k → f m ≡ false)
+First f i n Nothing = (m : ℕ) → i ≤ m → m < i + n → f m ≡ false
+
+-- the number found is the last that passes below n, or none does
+abbrev Last : (ℕ → Bool) → ℕ → Found → Type 0
+Last f n (At k) = (k < n) × (f k ≡ true) × ((m : ℕ) → k < m → m < n → f m ≡ false)
+Last f n Nothing = (m : ℕ) → m < n → f m ≡ false
+
+module _ (f : ℕ → Bool) where
+  -- ---- the steps of a search, as code takes them
+
+  less : (i n : ℕ) → i < n → n - i ≡ suc (n - (i + 1))
+  less i n h = omega arith
+
+  pub first-hit : (i n : ℕ) → i < n → f i ≡ true → firstFrom f i (n - i) ≡ At i
+  unfolding firstFrom
+  first-hit i n h e = rw (less i n h, firstFrom, e)
+
+  pub first-miss : (i n : ℕ) → i < n → f i ≡ false → firstFrom f i (n - i) ≡ firstFrom f (i + 1) (n - (i + 1))
+  unfolding firstFrom
+  first-miss i n h e = rw (less i n h, firstFrom, e) (ap (λ k. firstFrom f k (n - (i + 1))) (sym (add-one i)))
+
+  pub first-end : (i n : ℕ) → n ≤ i → firstFrom f i (n - i) ≡ Nothing
+  unfolding firstFrom
+  first-end i n h = let e : n - i ≡ 0 = omega arith in rw (e, firstFrom)
+
+  back : (n : ℕ) → 0 < n → n ≡ suc (n - 1)
+  back n h = omega arith
+
+  pub last-hit : (n : ℕ) → 0 < n → f (n - 1) ≡ true → lastBelow f n ≡ At (n - 1)
+  unfolding lastBelow
+  last-hit n h e = ap (lastBelow f) (back n h) ∙ rw (lastBelow, e)
+
+  pub last-miss : (n : ℕ) → 0 < n → f (n - 1) ≡ false → lastBelow f n ≡ lastBelow f (n - 1)
+  unfolding lastBelow
+  last-miss n h e = ap (lastBelow f) (back n h) ∙ rw (lastBelow, e)
+
+  pub last-end : (n : ℕ) → n ≤ 0 → lastBelow f n ≡ Nothing
+  unfolding lastBelow
+  last-end n h = let e : n ≡ 0 = omega arith in rw (e, lastBelow)
+
+  -- ---- what was found
+
+  first-step : (b : Bool) (i n : ℕ) (r : Found) → f i ≡ b → First f (suc i) n r → First f i (suc n) (cond b (At i) r)
+  first-step true i n r e h = (omega arith, omega arith, e, λ m lo hi. absurd (omega arith))
+  first-step false i n (At k) e h = (omega arith, omega arith, h .2, λ m lo hi. ⊎-elim (λ q. rw q at e) (λ l. h .3 m l hi) (eq-or-lt-of-le lo))
+  first-step false i n Nothing e h = λ m lo hi. ⊎-elim (λ q. rw q at e) (λ l. h m l (omega arith)) (eq-or-lt-of-le lo)
+
+  first : (i n : ℕ) → First f i n (firstFrom f i n)
+  unfolding firstFrom
+  first i zero = λ m lo hi. absurd (omega arith)
+  first i (suc n) = first-step (f i) i n (firstFrom f (suc i) n) refl (first (suc i) n)
+
+  pub first-at : (n i : ℕ) → firstFrom f 0 n ≡ At i → (i < n) × (f i ≡ true) × ((k : ℕ) → k < i → f k ≡ false)
+  first-at n i e = let r = subst (First f 0 n) e (first 0 n) in (omega arith, r .2, λ k h. r .3 k (omega arith) h)
+
+  pub first-none : (n : ℕ) → firstFrom f 0 n ≡ Nothing → (k : ℕ) → k < n → f k ≡ false
+  first-none n e k h = subst (First f 0 n) e (first 0 n) k (omega arith) (omega arith)
+
+  last-step : (b : Bool) (n : ℕ) (r : Found) → f n ≡ b → Last f n r → Last f (suc n) (cond b (At n) r)
+  last-step true n r e h = (omega arith, e, λ m lo hi. absurd (omega arith))
+  last-step false n (At k) e h = (omega arith, h .1, λ m lo hi. ⊎-elim (λ q. rw q e) (λ l. h .2 m lo l) (eq-or-lt-of-le (le-of-suc-le-suc hi)))
+  last-step false n Nothing e h = λ m hi. ⊎-elim (λ q. rw q e) (λ l. h m l) (eq-or-lt-of-le (le-of-suc-le-suc hi))
+
+  last : (n : ℕ) → Last f n (lastBelow f n)
+  unfolding lastBelow
+  last zero = λ m hi. absurd (not-suc-le-zero hi)
+  last (suc n) = last-step (f n) n (lastBelow f n) refl (last n)
+
+  pub last-at : (n i : ℕ) → lastBelow f n ≡ At i → (i < n) × (f i ≡ true) × ((k : ℕ) → i < k → k < n → f k ≡ false)
+  last-at n i e = subst (Last f n) e (last n)
+
+  pub last-none : (n : ℕ) → lastBelow f n ≡ Nothing → (k : ℕ) → k < n → f k ≡ false
+  last-none n e = subst (Last f n) e (last n)
+
+-- ---- the two look-ups, in tables of their sizes
+
+pub name-found : (names nums name : List ℕ) → length names ≡ namesSize → length nums ≡ numsSize → findName names nums name ≡ firstFrom (rowIs names nums name) 0 (nameCount nums)
+unfolding findName
+name-found names nums name h k = rw (eq-eqb (length names) namesSize h, eq-eqb (length nums) numsSize k)
+
+pub instance-found : (nums : List ℕ) (owner number : ℕ) → length nums ≡ numsSize → findInstance nums owner number ≡ lastBelow (instanceIs nums owner number) (instanceCount nums)
+unfolding findInstance
+instance-found nums owner number h = rw (eq-eqb (length nums) numsSize h)
+
+-- ---- what the tests of a row mean
+
+means-same : (s t : List ℕ) → Means (sameBytes s t) (s ≡ t)
+means-same s t = record { holds = same-eq s t; shows = eq-same s t }
+
+pub row-means : (names nums name : List ℕ) (i : ℕ)
+    → Means (rowIs names nums name i) ((i < 256) × ((lengthAt nums i ≡ length name) × ((lengthAt nums i ≤ 64) × (nameAt names nums i ≡ name))))
+unfolding rowIs
+row-means names nums name i =
+    means-and (means-lt i 256) (means-and (means-eq (lengthAt nums i) (length name)) (means-and (means-le (lengthAt nums i) 64) (means-same (nameAt names nums i) name)))
+
+pub row-name : (names nums name : List ℕ) (i : ℕ) → rowIs names nums name i ≡ true → nameAt names nums i ≡ name
+row-name names nums name i e = row-means names nums name i .holds e .1 .1 .1
+
+pub name-size : (names nums : List ℕ) (i : ℕ) → length names ≡ namesSize → i < 256 → lengthAt nums i ≤ 64 → length (nameAt names nums i) ≡ lengthAt nums i
+name-size names nums i s h k = simp (length-take, length-drop) (omega arith)
+
+pub name-row : (names nums name : List ℕ) (i : ℕ) → length names ≡ namesSize → i < 256 → lengthAt nums i ≤ 64 → nameAt names nums i ≡ name → rowIs names nums name i ≡ true
+name-row names nums name i s h k e = row-means names nums name i .shows (h, (sym (name-size names nums i s h k) ∙ ap length e, (k, e)))
+
+pub instance-means : (nums : List ℕ) (owner number j : ℕ) → Means (instanceIs nums owner number j) ((j < 1024) × ((instanceAt nums j ≡ number) × (ownerAt nums j ≡ owner)))
+unfolding instanceIs
+instance-means nums owner number j = means-and (means-lt j 1024) (means-and (means-eq (instanceAt nums j) number) (means-eq (ownerAt nums j) owner))
