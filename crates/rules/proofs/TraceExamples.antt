@@ -5,6 +5,7 @@ use mathlib.Core.List.{List, [], _∷_, _++_, map}
 use Prim.Native.Nat.{ℕ}
 use lib.ListN.{replicate}
 use Rattle.text.specs.Literal.{bytes}
+use Rattle.text.specs.Pieces.{pieces}
 use Rattle.text.specs.Bytes.{sameBytes, startsWith}
 use Rattle.text.specs.Name.{isNameByte, allNameBytes, isName}
 use Rattle.text.specs.Number.{numberOf}
@@ -103,5 +104,5 @@ examples =
     ∷ []
 
 pub traces-right : map (λ x. verdictOn [] (x .lines)) examples ≡ map (λ x. x .verdict) examples
-unfolding fitsByte fitsPattern digitAt twoAt isLeap daysIn isDay isTime isMoment verdictOn atEnd answerAt answerInPlace placeTests tooMuch versionWrong parameterWrong unscaled placeOf scaleNumber eventOfLine eventsOf kindNumber wordNumber refuses1 refuses3 refuses5 refuses6 refuses7 countWrong numberWrong nameWrong noteWrong readLine hasBreak isEventLine eventReading fieldsReading hasNames numbersOf knownReading partsOf fieldOf noteOf countNote isProcessLine zeroSource zeroTarget isOwn sourceBroken targetBroken ownBroken presence noteBroken ruleBroken isVersion isVersionLine isComment timeScale isCreator isCreationDate otherReading parameterReading sameBytes startsWith isNameByte allNameBytes isName numberOf pick scaleWord scaleOf kindWord kindOf wordOf actionCode actionsOf actionOf among namedBy answerTo rules timeFalls secondKind sourceClash targetClash noRoom offChart notNext coreBroken countBroken names instances chartOf processChart runnableChart semaphoreChart isProcess takes gives keeps onCore hasInstances isTracked named kindIn activates lastNumber lastCount fixed countFollows
+unfolding fitsByte fitsPattern digitAt twoAt isLeap daysIn isDay isTime isMoment verdictOn atEnd answerAt answerInPlace placeTests tooMuch versionWrong parameterWrong unscaled placeOf scaleNumber eventOfLine eventsOf kindNumber wordNumber refuses1 refuses3 refuses5 refuses6 refuses7 countWrong numberWrong nameWrong noteWrong readLine hasBreak isEventLine eventReading fieldsReading hasNames numbersOf knownReading partsOf pieces fieldOf noteOf countNote isProcessLine zeroSource zeroTarget isOwn sourceBroken targetBroken ownBroken presence noteBroken ruleBroken isVersion isVersionLine isComment timeScale isCreator isCreationDate otherReading parameterReading sameBytes startsWith isNameByte allNameBytes isName numberOf pick scaleWord scaleOf kindWord kindOf wordOf actionCode actionsOf actionOf among namedBy answerTo rules timeFalls secondKind sourceClash targetClash noRoom offChart notNext coreBroken countBroken names instances chartOf processChart runnableChart semaphoreChart isProcess takes gives keeps onCore hasInstances isTracked named kindIn activates lastNumber lastCount fixed countFollows
 traces-right = refl
