@@ -3,11 +3,11 @@ use mathlib.Core.Path.{_≡_, refl, sym, ap, subst, _∙_}
 use mathlib.Core.Bool.{Bool, true, false, cond}
 use mathlib.Core.List.{List}
 use mathlib.Core.Logic.{⊎-elim}
-use Prim.Native.Nat.{ℕ, zero, suc, _+_, _-_, _≤_, _<_}
+use Prim.Native.Nat.{ℕ, zero, suc, _+_, _-_, _*_, _≤_, _<_}
 use native.Mathlib.Nat.{not-suc-le-zero, le-of-suc-le-suc, eq-or-lt-of-le}
 use native.Mathlib.Numerals.{add-one}
 use native.Mathlib.Omega.{arith}
-use lib.ListN.{length, length-take, length-drop}
+use lib.ListN.{length, take, drop, length-take, length-drop}
 use borrow.Author.Tests.{eq-eqb}
 use Rattle.text.specs.Bytes.{sameBytes}
 use Rattle.text.proofs.Words.{same-eq, eq-same}
@@ -114,6 +114,10 @@ pub row-means : (names nums name : List ℕ) (i : ℕ)
 unfolding rowIs
 row-means names nums name i =
     means-and (means-lt i 256) (means-and (means-eq (lengthAt nums i) (length name)) (means-and (means-le (lengthAt nums i) 64) (means-same (nameAt names nums i) name)))
+
+-- the part of the names that code lends for row i is its name
+pub lent-name : (names nums : List ℕ) (i : ℕ) → take ((64 * i + lengthAt nums i) - 64 * i) (drop (64 * i) names) ≡ nameAt names nums i
+lent-name names nums i = let e : (64 * i + lengthAt nums i) - 64 * i ≡ lengthAt nums i = omega arith in rw e
 
 pub row-name : (names nums name : List ℕ) (i : ℕ) → rowIs names nums name i ≡ true → nameAt names nums i ≡ name
 row-name names nums name i e = row-means names nums name i .holds e .1 .1 .1

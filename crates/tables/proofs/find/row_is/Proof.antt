@@ -1,13 +1,15 @@
 -- `tables::find::row_is` meets its contract: at each exit the tests passed say what the definition's tests say.
 -- Assumes nothing.
-use mathlib.Core.Path.{_≡_, _∙_}
-use Prim.Native.Nat.{_+_, _-_, _*_}
+use mathlib.Core.Path.{ap, _∙_}
+use mathlib.Core.List.{List}
+use Prim.Native.Nat.{ℕ, _+_}
 use native.Mathlib.Omega.{arith}
 use borrow.Author.Needs.{needs}
 use borrow.Author.Tests.{le-leb, lt-leb, lt-ltb, le-ltb, eq-eqb, ne-eqb}
-use Rattle.tables.specs.Entry.{lengthAt}
+use Rattle.text.specs.Bytes.{sameBytes}
 use Rattle.tables.specs.Find.{rowIs}
 use Rattle.tables.proofs.Chains.{pass, stop}
+use Rattle.tables.proofs.Found.{lent-name}
 use Rattle.tables.proofs.find.row_is.Statement.{statement}
 use Rattle.tables.proofs.find.row_is.Tie as tie
 
@@ -28,10 +30,9 @@ unfolding rowIs
 returns-4 c =
     let p = c .before .before in
     let a = p .before .before .before .before .before .before .before .args in
-    let e : (64 * a .i + lengthAt (a .nums .now) (a .i)) - 64 * a .i ≡ lengthAt (a .nums .now) (a .i) = omega arith in
     pass (lt-ltb _ _ (p .before .before .before .if1 .left))
     (pass (eq-eqb _ _ (p .before .if2 .left))
-    (pass (le-leb _ _ (p .if3 .left)) (c .same .ensures ∙ rw e)))
+    (pass (le-leb _ _ (p .if3 .left)) (c .same .ensures ∙ ap (λ (s : List ℕ). sameBytes s (a .name .now)) (lent-name (a .names .now) (a .nums .now) (a .i)))))
 
 pub row-is-spec : {M : Type 1} → statement M
 row-is-spec =
