@@ -1,0 +1,70 @@
+-- 15: "lent output or table of the wrong size". 16: "table holding an index, state, kind, count, name or time outside its range, a first time
+-- above the last, or a tick sum above 2^62".
+use mathlib.Core.Bool.{Bool, true, false, _&&_, cond}
+use mathlib.Core.List.{List, [], _∷_}
+use Prim.Native.Nat.{ℕ, zero, suc, _+_}
+use lib.Dec.{eqb, leb, ltb}
+use lib.ListN.{length}
+use Rattle.text.specs.Name.{isName}
+use Rattle.tables.specs.Entry.{namesSize, numsSize, ticksSize}
+use Rattle.tables.specs.Entry.{verdictNumber, verdictLine, lineCount, scaleEntry, creatorEntry, dateEntry, startedEntry, nameCount, coreCount, instanceCount}
+use Rattle.tables.specs.Entry.{kindAt, lengthAt, markAt, numberedAt, ownerAt, stateAt, firstTime, lastTime, heldAt, idleAt, unknownAt, sinceAt, nameAt}
+
+unfoldable pub isSized : ℕ → ℕ → ℕ → Bool
+isSized names nums ticks = eqb names namesSize && (eqb nums numsSize && eqb ticks ticksSize)
+
+-- the verdict is one of 0 to 14, at a line up to the one past the last; at most 1,000,000,000 lines; the line level's entries
+unfoldable pub headsOk : List ℕ → Bool
+headsOk nums =
+    leb (verdictNumber nums) 14
+    && (leb (verdictLine nums) 1000000001
+    && (leb (lineCount nums) 1000000000 && (leb (scaleEntry nums) 5 && (leb (creatorEntry nums) 1 && leb (dateEntry nums) 1))))
+
+-- "tracked names .. 256, of them 64 cores; process and runnable instances 1,024"
+unfoldable pub countsOk : List ℕ → Bool
+countsOk nums = leb (startedEntry nums) 1 && (leb (nameCount nums) 256 && (leb (coreCount nums) 64 && leb (instanceCount nums) 1024))
+
+-- "time: 2^56 − 1"; "a first time above the last"
+unfoldable pub timesOk : List ℕ → Bool
+timesOk ticks = leb (lastTime ticks) 72057594037927935 && leb (firstTime ticks) (lastTime ticks)
+
+-- the state of a name by its kind: a core (1) is idle, 1, or held by instance j, 2 + j; a semaphore (5) has none yet, 0, or one of four;
+-- any other name has none
+unfoldable pub markOk : ℕ → ℕ → ℕ → Bool
+markOk kind mark instances = cond (eqb kind 1) (leb 1 mark && leb mark (instances + 1)) (cond (eqb kind 5) (leb mark 4) (eqb mark 0))
+
+-- "a tick sum above 2^62"
+abbrev pub maxSum : ℕ
+maxSum = 0x4000_0000_0000_0000
+
+unfoldable pub sumsOk : List ℕ → ℕ → Bool
+sumsOk ticks i = leb (heldAt ticks i) maxSum && (leb (idleAt ticks i) maxSum && (leb (unknownAt ticks i) maxSum && leb (sinceAt ticks i) (lastTime ticks)))
+
+unfoldable pub bytesOk : List ℕ → List ℕ → ℕ → Bool
+bytesOk names nums i = leb (lengthAt nums i) 64 && isName (nameAt names nums i)
+
+-- the row of name i
+unfoldable pub nameOk : List ℕ → List ℕ → List ℕ → ℕ → Bool
+nameOk names nums ticks i =
+    leb 1 (kindAt nums i)
+    && (leb (kindAt nums i) 5
+    && (leb (numberedAt nums i) 1
+    && (markOk (kindAt nums i) (markAt nums i) (instanceCount nums) && (bytesOk names nums i && sumsOk ticks i))))
+
+-- the row of instance j: the row of its name, and one of eight states
+unfoldable pub instanceOk : List ℕ → ℕ → Bool
+instanceOk nums j = ltb (ownerAt nums j) (nameCount nums) && (leb 1 (stateAt nums j) && leb (stateAt nums j) 8)
+
+-- the test passes at each number below n
+unfoldable pub upTo : (ℕ → Bool) → ℕ → Bool
+upTo f zero = true
+upTo f (suc n) = upTo f n && f n
+
+unfoldable pub inRange : List ℕ → List ℕ → List ℕ → Bool
+inRange names nums ticks =
+    headsOk nums
+    && (countsOk nums && (timesOk ticks && (upTo (nameOk names nums ticks) (nameCount nums) && upTo (instanceOk nums) (instanceCount nums))))
+
+-- "the judge tests 15 and 16 before all others, 15 first"
+unfoldable pub tableAnswer : List ℕ → List ℕ → List ℕ → ℕ
+tableAnswer names nums ticks = cond (isSized (length names) (length nums) (length ticks)) (cond (inRange names nums ticks) 0 16) 15

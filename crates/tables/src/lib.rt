@@ -1,0 +1,10 @@
+// The judge's whole state in three lent tables: names in bytes, numbers and states in u32, times and tick sums in u64.
+pub mod entry;
+pub mod find;
+pub mod fresh;
+pub mod range;
+
+pub use find::find_instance;
+pub use find::find_name;
+pub use fresh::clear;
+pub use range::table_answer;

@@ -1,0 +1,244 @@
+// The sizes of lent tables, 15, and the ranges of their entries, 16.
+ghost use mathlib.Core.Path.{_≡_};
+ghost use Prim.Native.Nat.{_<_, _≤_};
+ghost use lib.ListN.{length};
+ghost use Rattle.tables.specs.Range.{isSized, countsOk, headsOk, timesOk, markOk, sumsOk, bytesOk, nameOk, instanceOk, upTo, inRange, tableAnswer};
+ghost use Rattle.tables.specs.Entry.{instanceCount};
+use crate::entry::CORES;
+use crate::entry::CREATOR;
+use crate::entry::DATE;
+use crate::entry::FIRST;
+use crate::entry::HELD;
+use crate::entry::IDLE;
+use crate::entry::INSTANCES;
+use crate::entry::KIND;
+use crate::entry::LAST;
+use crate::entry::LENGTH;
+use crate::entry::LINES;
+use crate::entry::MARK;
+use crate::entry::NAMES;
+use crate::entry::NAMES_SIZE;
+use crate::entry::NUMBERED;
+use crate::entry::NUMS_SIZE;
+use crate::entry::OWNER;
+use crate::entry::SCALE;
+use crate::entry::SINCE;
+use crate::entry::STARTED;
+use crate::entry::STATE;
+use crate::entry::TICKS_SIZE;
+use crate::entry::UNKNOWN;
+use crate::entry::VERDICT;
+use crate::entry::VERDICT_LINE;
+use text::name::name;
+
+// Whether the three tables have their sizes.
+pub(crate) fn sized(names: usize, nums: usize, ticks: usize) -> bool
+    ensures { λ r. ⌜ r ≡ isSized names nums ticks ⌝ }
+{
+    if names != NAMES_SIZE {
+        return false;
+    }
+    if nums != NUMS_SIZE {
+        return false;
+    }
+    ticks == TICKS_SIZE
+}
+
+// The verdict and the line level's entries.
+fn heads_ok(nums: &[u32]) -> bool
+    requires { ⌜ length (now nums) ≡ 4362 ⌝ }
+    ensures { λ r. ⌜ r ≡ headsOk (now (nums .entry)) ⌝ }
+{
+    if 14 < nums[VERDICT] {
+        return false;
+    }
+    if 1000000001 < nums[VERDICT_LINE] {
+        return false;
+    }
+    if 1000000000 < nums[LINES] {
+        return false;
+    }
+    if 5 < nums[SCALE] {
+        return false;
+    }
+    if 1 < nums[CREATOR] {
+        return false;
+    }
+    nums[DATE] <= 1
+}
+
+// How many names, cores and instances there are.
+fn counts_ok(nums: &[u32]) -> bool
+    requires { ⌜ length (now nums) ≡ 4362 ⌝ }
+    ensures { λ r. ⌜ r ≡ countsOk (now (nums .entry)) ⌝ }
+{
+    if 1 < nums[STARTED] {
+        return false;
+    }
+    if 256 < nums[NAMES] {
+        return false;
+    }
+    if 64 < nums[CORES] {
+        return false;
+    }
+    nums[INSTANCES] <= 1024
+}
+
+// The first and the last time.
+fn times_ok(ticks: &[u64]) -> bool
+    requires { ⌜ length (now ticks) ≡ 1026 ⌝ }
+    ensures { λ r. ⌜ r ≡ timesOk (now (ticks .entry)) ⌝ }
+{
+    if 72057594037927935 < ticks[LAST] {
+        return false;
+    }
+    ticks[FIRST] <= ticks[LAST]
+}
+
+// The state of a name by its kind: a core is idle (1) or held by instance j (2 + j), a semaphore has none yet (0) or one of four, any other
+// name has none.
+fn mark_ok(kind: u32, mark: u32, instances: u32) -> bool
+    requires { ⌜ instances ≤ 1024 ⌝ }
+    ensures { λ r. ⌜ r ≡ markOk kind mark instances ⌝ }
+{
+    if kind == 1 {
+        if mark < 1 {
+            return false;
+        }
+        return mark <= instances + 1;
+    }
+    if kind == 5 {
+        return mark <= 4;
+    }
+    mark == 0
+}
+
+// The tick sums and the time since of name i.
+fn sums_ok(ticks: &[u64], i: usize) -> bool
+    requires { ⌜ (i < 256) × (length (now ticks) ≡ 1026) ⌝ }
+    ensures { λ r. ⌜ r ≡ sumsOk (now (ticks .entry)) i ⌝ }
+{
+    if 0x4000_0000_0000_0000 < ticks[HELD + i] {
+        return false;
+    }
+    if 0x4000_0000_0000_0000 < ticks[IDLE + i] {
+        return false;
+    }
+    if 0x4000_0000_0000_0000 < ticks[UNKNOWN + i] {
+        return false;
+    }
+    ticks[SINCE + i] <= ticks[LAST]
+}
+
+// Whether the bytes of row i are a name of its length.
+fn bytes_ok(names: &[u8], nums: &[u32], i: usize) -> bool
+    requires { ⌜ (i < 256) × ((length (now names) ≡ 16384) × (length (now nums) ≡ 4362)) ⌝ }
+    ensures { λ r. ⌜ r ≡ bytesOk (now (names .entry)) (now (nums .entry)) i ⌝ }
+{
+    let n = nums[LENGTH + i] as usize;
+    if 64 < n {
+        return false;
+    }
+    let at = 64 * i;
+    let to = at + n;
+    name(&names[at..to])
+}
+
+// The whole row of name i.
+fn name_ok(names: &[u8], nums: &[u32], ticks: &[u64], i: usize) -> bool
+    requires { ⌜ (i < 256) × ((length (now names) ≡ 16384) × ((length (now nums) ≡ 4362) × ((length (now ticks) ≡ 1026) × (instanceCount (now nums) ≤ 1024)))) ⌝ }
+    ensures { λ r. ⌜ r ≡ nameOk (now (names .entry)) (now (nums .entry)) (now (ticks .entry)) i ⌝ }
+{
+    let kind = nums[KIND + i];
+    if kind < 1 {
+        return false;
+    }
+    if 5 < kind {
+        return false;
+    }
+    if 1 < nums[NUMBERED + i] {
+        return false;
+    }
+    if !mark_ok(kind, nums[MARK + i], nums[INSTANCES]) {
+        return false;
+    }
+    if !bytes_ok(names, nums, i) {
+        return false;
+    }
+    sums_ok(ticks, i)
+}
+
+// The whole row of instance j.
+fn instance_ok(nums: &[u32], j: usize) -> bool
+    requires { ⌜ (j < 1024) × (length (now nums) ≡ 4362) ⌝ }
+    ensures { λ r. ⌜ r ≡ instanceOk (now (nums .entry)) j ⌝ }
+{
+    if nums[NAMES] <= nums[OWNER + j] {
+        return false;
+    }
+    let state = nums[STATE + j];
+    if state < 1 {
+        return false;
+    }
+    state <= 8
+}
+
+fn names_ok(names: &[u8], nums: &[u32], ticks: &[u64], n: usize) -> bool
+    requires { ⌜ (n ≤ 256) × ((length (now names) ≡ 16384) × ((length (now nums) ≡ 4362) × ((length (now ticks) ≡ 1026) × (instanceCount (now nums) ≤ 1024)))) ⌝ }
+    ensures { λ r. ⌜ r ≡ upTo (nameOk (now (names .entry)) (now (nums .entry)) (now (ticks .entry))) n ⌝ }
+{
+    let mut i = 0;
+    while i < n {
+        if !name_ok(names, nums, ticks, i) {
+            return false;
+        }
+        i += 1;
+    }
+    true
+}
+
+fn instances_ok(nums: &[u32], n: usize) -> bool
+    requires { ⌜ (n ≤ 1024) × (length (now nums) ≡ 4362) ⌝ }
+    ensures { λ r. ⌜ r ≡ upTo (instanceOk (now (nums .entry))) n ⌝ }
+{
+    let mut j = 0;
+    while j < n {
+        if !instance_ok(nums, j) {
+            return false;
+        }
+        j += 1;
+    }
+    true
+}
+
+// Whether every entry is in its range.
+fn in_range(names: &[u8], nums: &[u32], ticks: &[u64]) -> bool
+    requires { ⌜ (length (now names) ≡ 16384) × ((length (now nums) ≡ 4362) × (length (now ticks) ≡ 1026)) ⌝ }
+    ensures { λ r. ⌜ r ≡ inRange (now (names .entry)) (now (nums .entry)) (now (ticks .entry)) ⌝ }
+{
+    if !heads_ok(nums) {
+        return false;
+    }
+    if !counts_ok(nums) {
+        return false;
+    }
+    if !times_ok(ticks) {
+        return false;
+    }
+    let n = nums[NAMES] as usize;
+    if !names_ok(names, nums, ticks, n) {
+        return false;
+    }
+    let m = nums[INSTANCES] as usize;
+    instances_ok(nums, m)
+}
+
+// 15 for tables of a wrong size, 16 for an entry out of its range, else 0.
+pub fn table_answer(names: &[u8], nums: &[u32], ticks: &[u64]) -> u32
+    ensures { λ r. ⌜ r ≡ tableAnswer (now (names .entry)) (now (nums .entry)) (now (ticks .entry)) ⌝ }
+{
+    if !sized(names.len(), nums.len(), ticks.len()) {
+        return 15;
+    }
+    if in_range(names, nums, ticks) { 0 } else { 16 }
+}
