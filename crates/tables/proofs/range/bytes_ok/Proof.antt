@@ -1,0 +1,40 @@
+-- `tables::range::bytes_ok` meets its contract: at each exit the tests passed say what the definition's tests say.
+-- Assumes nothing.
+use mathlib.Core.Path.{_≡_, _∙_}
+use Prim.Native.Nat.{_+_, _-_, _*_}
+use native.Mathlib.Omega.{arith}
+use borrow.Author.Needs.{needs}
+use borrow.Author.Tests.{le-leb, lt-leb}
+use Rattle.tables.specs.Entry.{lengthAt}
+use Rattle.tables.specs.Range.{bytesOk}
+use Rattle.tables.proofs.Chains.{pass, stop}
+use Rattle.tables.proofs.range.bytes_ok.Statement.{statement}
+use Rattle.tables.proofs.range.bytes_ok.Tie as tie
+
+returns : tie.Need-returns
+unfolding bytesOk
+returns c = stop _ (lt-leb _ _ (c .if1 .taken))
+
+returns-2 : tie.Need-returns-2
+unfolding bytesOk
+returns-2 c =
+    let a = c .before .before .before .before .before .before .args in
+    let e : (64 * a .i + lengthAt (a .nums .now) (a .i)) - 64 * a .i ≡ lengthAt (a .nums .now) (a .i) = omega arith in
+    pass (le-leb _ _ (c .before .before .if1 .left)) (c .name .ensures ∙ rw e)
+
+pub bytes-ok-spec : {M : Type 1} → statement M
+bytes-ok-spec =
+    tie.close
+    (tie.spec
+    (λ c. search needs)
+    (λ c. search needs)
+    (λ c. search needs)
+    (λ c. omega (arith, c .shared-slice-known3 .given (266 + c .before .before .before .args .i)))
+    returns
+    (λ c. search needs)
+    (λ c. search needs)
+    (λ c. search needs)
+    (λ c. search needs)
+    (λ c. search needs)
+    (λ c κs. search needs)
+    returns-2)

@@ -1,0 +1,36 @@
+-- `tables::range::table_answer` meets its contract: 15 by the sizes, else 0 or 16 by the ranges.
+-- Assumes nothing.
+use borrow.Author.Needs.{needs}
+use Rattle.tables.specs.Range.{tableAnswer}
+use Rattle.tables.proofs.Chains.{passed, failed}
+use Rattle.tables.proofs.Valid.{sizes-mean}
+use Rattle.tables.proofs.range.table_answer.Statement.{statement}
+use Rattle.tables.proofs.range.table_answer.Tie as tie
+
+returns : tie.Need-returns
+unfolding tableAnswer
+returns c = rw (failed (c .before .sized .ensures) (c .if1 .taken))
+
+in-range-requires : tie.Need-in-range-requires
+in-range-requires c κs =
+    let a = c .before .before .before .before .before .args in
+    let s = sizes-mean (a .names .now) (a .nums .now) (a .ticks .now) .holds (passed (c .before .sized .ensures) (c .if1 .left)) in
+    (s .names-size, (s .nums-size, s .ticks-size))
+
+returns-2 : tie.Need-returns-2
+unfolding tableAnswer
+returns-2 c = rw (passed (c .before .before .before .sized .ensures) (c .before .before .if1 .left), ← c .before .in-range .ensures, c .if2 .taken)
+
+returns-3 : tie.Need-returns-3
+unfolding tableAnswer
+returns-3 c = rw (passed (c .before .before .before .sized .ensures) (c .before .before .if1 .left), ← c .before .in-range .ensures, c .if2 .left)
+
+pub table-answer-spec : {M : Type 1} → statement M
+table-answer-spec =
+    tie.close
+    (tie.spec
+    (λ c κs. search needs)
+    returns
+    in-range-requires
+    returns-2
+    returns-3)
