@@ -95,9 +95,12 @@ fn no_room(nums: &[u32], s: Sight, kind: u32) -> bool
     requires { ⌜ length (now nums) ≡ 4362 ⌝ }
     ensures { λ r. ⌜ r ≡ noRoomIn (now (nums .entry)) s kind ⌝ }
 {
-    let core = one_new(s.class != 0, s.source);
-    let name = one_new(tracked(kind), s.target);
-    let instance = one_new(with_instances(kind), s.instance);
+    let source_row = s.source;
+    let target_row = s.target;
+    let instance_row = s.instance;
+    let core = one_new(s.class != 0, source_row);
+    let name = one_new(tracked(kind), target_row);
+    let instance = one_new(with_instances(kind), instance_row);
     if 256 < nums[NAMES] as u64 + core + name {
         return true;
     }
@@ -167,8 +170,9 @@ fn core_broken(nums: &[u32], s: Sight, kind: u32) -> bool
         return false;
     }
     let row = s.source;
+    let instance = s.instance;
     let first = state_in(nums, s, kind) == 0;
-    !core_serves(s.class, mark_in(nums, row), s.instance, first)
+    !core_serves(s.class, mark_in(nums, row), instance, first)
 }
 
 // Whether a semaphore's count follows the one before.
