@@ -3,3 +3,4 @@ pub mod decide;
 pub mod happening;
 pub mod known;
 pub mod sight;
+pub mod store;
