@@ -8,6 +8,7 @@ use Prim.Native.String.{String}
 use lib.ListN.{length, replicate}
 use Rattle.text.specs.Literal.{bytes}
 use Rattle.text.specs.Bytes.{sameBytes, startsWith}
+use Rattle.text.specs.Pieces.{pieces}
 use Rattle.text.specs.Name.{isNameByte, allNameBytes, isName}
 use Rattle.text.specs.Number.{numberOf, digitsOf}
 use Rattle.text.specs.Put.{written}
@@ -78,5 +79,5 @@ lines =
     ∷ []
 
 pub examples : map (λ x. outcomeOf (x .line)) lines ≡ map (λ x. x .becomes) lines
-unfolding outcomeOf backOf readLine answerOf hasBreak isEventLine eventReading fieldsReading hasNames numbersOf knownReading partsOf fieldOf noteOf isProcess zeroSource zeroTarget isOwn sourceBroken targetBroken ownBroken presence noteBroken ruleBroken isVersion isVersionLine parameterReading sameBytes startsWith isNameByte allNameBytes isName numberOf digitsOf written pick kindWord kindOf wordOf actionCode actionsOf actionOf among isOf namedBy nameField numberField noteText textOf hasSizes hasInstances recordRefusal writeLine writtenAnswer
+unfolding outcomeOf backOf readLine answerOf hasBreak isEventLine eventReading fieldsReading hasNames numbersOf knownReading pieces partsOf fieldOf noteOf isProcess zeroSource zeroTarget isOwn sourceBroken targetBroken ownBroken presence noteBroken ruleBroken isVersion isVersionLine parameterReading sameBytes startsWith isNameByte allNameBytes isName numberOf digitsOf written pick kindWord kindOf wordOf actionCode actionsOf actionOf among isOf namedBy nameField numberField noteText textOf hasSizes hasInstances recordRefusal writeLine writtenAnswer
 examples = refl

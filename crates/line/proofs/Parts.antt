@@ -1,69 +1,42 @@
 -- Laws of the parts of a line: the fields stand between the commas, there is one part more than commas, a line is its parts joined by
 -- commas, and no part has one.
-use mathlib.Core.Path.{_≡_, refl, sym, ap, _∙_}
-use mathlib.Core.Bool.{Bool, true, false, not, _&&_, _||_}
-use mathlib.Core.Logic.{_⊎_, inl, inr, ⊎-elim}
+use mathlib.Core.Path.{_≡_, refl, sym, _∙_}
+use mathlib.Core.Bool.{Bool, true, false, _||_}
+use mathlib.Core.Logic.{⊎-elim}
 use mathlib.Core.List.{List, [], _∷_, _++_}
 use Prim.Native.Nat.{ℕ, zero, suc, _+_, _-_, _≤_, _<_}
-use native.Mathlib.Nat.{le-of-suc-le-suc, not-suc-le-zero, eq-or-lt-of-le}
+use native.Mathlib.Nat.{not-suc-le-zero, eq-or-lt-of-le}
 use native.Mathlib.Numerals.{add-one}
 use native.Mathlib.Omega.{arith}
 use lib.Dec.{eqb, ltb}
 use lib.ListN.{length, getD, take, drop, length-drop, drop-of-length-le, List·getD-eq-default}
 use lib.Seq.{take-all, take-nil, drop-drop, getD-drop}
-use borrow.Author.Tests.{eq-eqb, ne-eqb, eqb-true, lt-ltb, le-ltb, ltb-true, ltb-false}
-use Rattle.text.specs.Bytes.{count, toByte, findFrom}
+use borrow.Author.Tests.{eq-eqb, ne-eqb, lt-ltb, le-ltb}
+use Rattle.text.specs.Bytes.{toByte, findFrom}
 use Rattle.text.specs.Name.{isNameByte, allNameBytes, isName}
 use Rattle.text.specs.Number.{digitsOf}
-use Rattle.text.proofs.Bools.{and-l, and-r}
+use Rattle.text.proofs.Bools.{and-l, and-r, lt-or-ge}
 use Rattle.text.proofs.Finds.{find-ge, find-le}
+use Rattle.text.proofs.Pieces.{pieces-cut, pieces-one, pieces-some, pieces-join, pieces-last, join-pieces, piece-clean, without, joinedBy}
 use Rattle.text.proofs.Digits.{digits-all}
 use Rattle.text.proofs.Names.{name-byte, name-bytes, digits-names}
-use Rattle.line.specs.Part.{before, partsOf, fieldOf, partFrom, commaAt}
-
--- two numbers compared
-either : (b : Bool) (m n : ℕ) → ltb m n ≡ b → (m < n) ⊎ (n ≤ m)
-either true m n e = inl (ltb-true m n e)
-either false m n e = inr (ltb-false m n e)
-
-lt-or-ge : (m n : ℕ) → (m < n) ⊎ (n ≤ m)
-lt-or-ge m n = either (ltb m n) m n refl
+use Rattle.line.specs.Part.{partsOf, fieldOf, partFrom, commaAt}
 
 -- ---- the first part, and the parts after it
 
 -- with a comma the parts are what stands before it, and the parts of what stands after it
-has-step : (b : Bool) (x : ℕ) (s : List ℕ) → (toByte 44 s < length s → partsOf s ≡ take (toByte 44 s) s ∷ partsOf (drop (suc (toByte 44 s)) s))
-    → count b (toByte 44 s) < suc (length s)
-    → before b x (partsOf s) ≡ take (count b (toByte 44 s)) (x ∷ s) ∷ partsOf (drop (suc (count b (toByte 44 s))) (x ∷ s))
-has-step true x s ih h = refl
-has-step false x s ih h = ap (before false x) (ih (le-of-suc-le-suc h))
-
 has-comma : (s : List ℕ) → toByte 44 s < length s → partsOf s ≡ take (toByte 44 s) s ∷ partsOf (drop (suc (toByte 44 s)) s)
-unfolding partsOf toByte
-has-comma [] h = absurd (not-suc-le-zero h)
-has-comma (x ∷ s) h = has-step (eqb x 44) x s (has-comma s) h
+unfolding partsOf
+has-comma s h = pieces-cut 44 s h
 
 -- with none the line is its one part
-none-step : (b : Bool) (x : ℕ) (s : List ℕ) → (length s ≤ toByte 44 s → partsOf s ≡ s ∷ []) → suc (length s) ≤ count b (toByte 44 s) → before b x (partsOf s) ≡ (x ∷ s) ∷ []
-none-step true x s ih h = absurd (not-suc-le-zero h)
-none-step false x s ih h = ap (before false x) (ih (le-of-suc-le-suc h))
-
 no-comma : (s : List ℕ) → length s ≤ toByte 44 s → partsOf s ≡ s ∷ []
-unfolding partsOf toByte
-no-comma [] h = refl
-no-comma (x ∷ s) h = none-step (eqb x 44) x s (no-comma s) h
-
-some-step : (b : Bool) (x : ℕ) (ps : List (List ℕ)) → 1 ≤ length (before b x ps)
-some-step true x ps = omega arith
-some-step false x [] = omega arith
-some-step false x (p ∷ ps) = omega arith
+unfolding partsOf
+no-comma s h = pieces-one 44 s h
 
 some-part : (l : List ℕ) → 1 ≤ length (partsOf l)
 unfolding partsOf
-some-part [] = omega arith
-some-part (x ∷ s) = some-step (eqb x 44) x (partsOf s)
-
--- ---- where a search for a comma ends
+some-part l = pieces-some 44 l
 
 -- ---- the parts from an index on
 
@@ -212,68 +185,36 @@ parts-eight l h k =
 
 -- no byte is a comma
 unfoldable pub noComma : List ℕ → Bool
-noComma [] = true
-noComma (x ∷ s) = not (eqb x 44) && noComma s
+noComma s = without 44 s
 
 -- a part with no comma, a comma and a line are that part and the line's parts
-join-step : (b c : Bool) (x : ℕ) (p : List ℕ) (t ps : List (List ℕ)) → not b && c ≡ true → (c ≡ true → ps ≡ p ∷ t) → before b x ps ≡ (x ∷ p) ∷ t
-join-step true c x p t ps e ih = cc
-join-step false c x p t ps e ih = ap (before false x) (ih e)
-
 pub parts-join : (p t : List ℕ) → noComma p ≡ true → partsOf (p ++ 44 ∷ t) ≡ p ∷ partsOf t
 unfolding partsOf noComma
-parts-join [] t e = refl
-parts-join (x ∷ p) t e = join-step (eqb x 44) (noComma p) x p (partsOf t) (partsOf (p ++ 44 ∷ t)) e (parts-join p t)
+parts-join p t e = pieces-join 44 p t e
 
 pub parts-last : (p : List ℕ) → noComma p ≡ true → partsOf p ≡ p ∷ []
 unfolding partsOf noComma
-parts-last [] e = refl
-parts-last (x ∷ p) e = join-step (eqb x 44) (noComma p) x p [] (partsOf p) e (parts-last p)
+parts-last p e = pieces-last 44 p e
 
 -- the line that parts make
 unfoldable pub joined : List (List ℕ) → List ℕ
-joined [] = []
-joined (p ∷ []) = p
-joined (p ∷ q ∷ ps) = p ++ 44 ∷ joined (q ∷ ps)
-
-joined-step : (b : Bool) (x : ℕ) (ps : List (List ℕ)) → eqb x 44 ≡ b → 1 ≤ length ps → joined (before b x ps) ≡ x ∷ joined ps
-unfolding joined
-joined-step b x [] e h = absurd (not-suc-le-zero h)
-joined-step true x (p ∷ ps) e h = rw (eqb-true x 44 e)
-joined-step false x (p ∷ []) e h = refl
-joined-step false x (p ∷ q ∷ ps) e h = refl
+joined ps = joinedBy 44 ps
 
 pub join-parts : (l : List ℕ) → joined (partsOf l) ≡ l
 unfolding partsOf joined
-join-parts [] = refl
-join-parts (x ∷ s) = joined-step (eqb x 44) x (partsOf s) refl (some-part s) ∙ ap (λ (t : List ℕ). x ∷ t) (join-parts s)
+join-parts l = join-pieces 44 l
 
 -- ---- what has no comma
 
 -- no part of a line has one
-part-step : (b : Bool) (x : ℕ) (ps : List (List ℕ)) → eqb x 44 ≡ b → ((k : ℕ) → noComma (getD ps k []) ≡ true) → (k : ℕ) → noComma (getD (before b x ps) k []) ≡ true
-unfolding noComma
-part-step true x ps e ih zero = refl
-part-step true x ps e ih (suc k) = ih k
-part-step false x [] e ih zero = rw e
-part-step false x [] e ih (suc k) = refl
-part-step false x (p ∷ ps) e ih zero = rw e (ih zero)
-part-step false x (p ∷ ps) e ih (suc k) = ih (suc k)
-
-part-clean : (l : List ℕ) (k : ℕ) → noComma (getD (partsOf l) k []) ≡ true
-unfolding partsOf noComma
-part-clean [] zero = refl
-part-clean [] (suc k) = refl
-part-clean (x ∷ s) k = part-step (eqb x 44) x (partsOf s) refl (part-clean s) k
-
 pub field-clean : (l : List ℕ) (k : ℕ) → noComma (fieldOf l k) ≡ true
-unfolding fieldOf noComma
+unfolding fieldOf partsOf noComma without
 field-clean l zero = refl
-field-clean l (suc k) = part-clean l k
+field-clean l (suc k) = piece-clean 44 l k
 
 -- a name has none, and digits have none
 names-clean : (s : List ℕ) → allNameBytes s ≡ true → noComma s ≡ true
-unfolding allNameBytes noComma
+unfolding allNameBytes noComma without
 names-clean [] e = refl
 names-clean (x ∷ s) e = rw (ne-eqb x 44 (name-byte x (and-l (isNameByte x) (allNameBytes s) e) .2), names-clean s (and-r (isNameByte x) (allNameBytes s) e))
 

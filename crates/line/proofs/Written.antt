@@ -10,6 +10,7 @@ use borrow.Author.Tests.{ne-eqb, le-leb}
 use Rattle.text.specs.Name.{isNameByte, allNameBytes, isName}
 use Rattle.text.specs.Number.{isDigit, allDigits, digitsOf}
 use Rattle.text.proofs.Bools.{and-l, and-r}
+use Rattle.text.proofs.Pieces.{joinedBy}
 use Rattle.text.proofs.Digits.{digits-all, digits-at-most, length-pos, digit-low}
 use Rattle.text.proofs.Names.{name-byte, name-length, name-bytes, digits-names}
 use Rattle.words.specs.Kind.{kindWord}
@@ -34,7 +35,7 @@ recordParts e source target note =
     digitsOf (e .time) ∷ source ∷ digitsOf (e .«source_instance») ∷ kindWord (e .kind) ∷ target ∷ digitsOf (e .«target_instance») ∷ wordOf (e .action) ∷ noteParts note
 
 pub text-joined : (e : Event) (source target note : List ℕ) → textOf e source target note ≡ joined (recordParts e source target note)
-unfolding textOf nameField numberField noteText recordParts joined
+unfolding textOf nameField numberField noteText recordParts joined joinedBy
 text-joined e source target [] = simp (append-assoc, append-nil)
 text-joined e source target (x ∷ s) = simp append-assoc
 
@@ -51,14 +52,14 @@ joined-ind P last more p [] e = last p (and-l (isName p) true e)
 joined-ind P last more p (q ∷ ps) e = more p q ps (and-l (isName p) _ e) (joined-ind P last more q ps (and-r (isName p) _ e))
 
 joined-parts : (p : List ℕ) (ps : List (List ℕ)) → allNames (p ∷ ps) ≡ true → partsOf (joined (p ∷ ps)) ≡ p ∷ ps
-unfolding joined
+unfolding joined joinedBy
 joined-parts =
     joined-ind (λ ps. partsOf (joined ps) ≡ ps)
     (λ p e. parts-last p (name-clean p e))
     (λ p q ps e ih. parts-join p (joined (q ∷ ps)) (name-clean p e) ∙ ap (λ (t : List (List ℕ)). p ∷ t) ih)
 
 joined-length : (p : List ℕ) (ps : List (List ℕ)) → allNames (p ∷ ps) ≡ true → length (joined (p ∷ ps)) ≤ 65 * length (p ∷ ps)
-unfolding joined
+unfolding joined joinedBy
 joined-length =
     joined-ind (λ ps. length (joined ps) ≤ 65 * length ps)
     (λ p e. omega (arith, name-length p e))
@@ -72,7 +73,7 @@ break-append (x ∷ s) t e h =
     rw (ne-eqb x 10 (λ q. omega (arith, q)), ne-eqb x 13 (λ q. omega (arith, q))) (break-append s t (and-r (isNameByte x) (allNameBytes s) e) h)
 
 joined-break : (p : List ℕ) (ps : List (List ℕ)) → allNames (p ∷ ps) ≡ true → hasBreak (joined (p ∷ ps)) ≡ false
-unfolding joined hasBreak
+unfolding joined joinedBy hasBreak
 joined-break =
     joined-ind (λ ps. hasBreak (joined ps) ≡ false)
     (λ p e. rw append-nil at (break-append p [] (name-bytes p e) refl))
@@ -129,5 +130,5 @@ module _ (e : Event) (source target note : List ℕ) (count : ℕ) (a : Allowed 
   text-break = rw text-joined (joined-break _ _ record-names)
 
   pub text-event : isEventLine (textOf e source target note) ≡ true
-  unfolding recordParts joined
+  unfolding recordParts joined joinedBy
   text-event = rw text-joined (digits-event (digitsOf (e .time)) _ (digits-all (e .time)))

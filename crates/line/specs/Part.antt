@@ -1,22 +1,14 @@
 -- The parts of a line that commas separate, and where they stand.
 use Prim.Native.Nat.{ℕ, zero, suc, _-_}
-use mathlib.Core.Bool.{Bool, true, false}
-use mathlib.Core.List.{List, [], _∷_}
+use mathlib.Core.List.{List, []}
 use lib.ListN.{getD, take, drop}
-use lib.Dec.{eqb}
 use Rattle.text.specs.Bytes.{findFrom}
+use Rattle.text.specs.Pieces.{pieces}
 use Rattle.line.specs.declared.part.Commas.{Commas}
 
--- the parts with the byte x before them: a comma (the test is true) starts a new part, any other byte goes to the front of the first
-abbrev pub before : Bool → ℕ → List (List ℕ) → List (List ℕ)
-before true x ps = [] ∷ ps
-before false x [] = (x ∷ []) ∷ []
-before false x (p ∷ ps) = (x ∷ p) ∷ ps
-
--- the parts of a line; a line with no comma is one part
+-- the parts of a line, which commas separate; a line with no comma is one part
 unfoldable pub partsOf : List ℕ → List (List ℕ)
-partsOf [] = [] ∷ []
-partsOf (x ∷ s) = before (eqb x 44) x (partsOf s)
+partsOf l = pieces 44 l
 
 -- "Fields count from 1. Any bytes and any field number may be asked; a missing field is an empty part."
 unfoldable pub fieldOf : List ℕ → ℕ → List ℕ

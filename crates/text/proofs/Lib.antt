@@ -2,6 +2,7 @@
 pub mod Bools
 pub mod Words
 pub mod Finds
+pub mod Pieces
 pub mod Numbers
 pub mod Digits
 pub mod Names
