@@ -4,3 +4,4 @@ pub mod Sight
 pub mod Known
 pub mod Decide
 pub mod Store
+pub mod Feed
