@@ -17,3 +17,7 @@ pub mod Charges
 pub mod Alone
 pub mod Laws
 pub mod Meets
+pub mod Told
+pub mod Places
+pub mod Traces
+pub mod TraceExamples

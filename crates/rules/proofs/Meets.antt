@@ -1,13 +1,14 @@
 -- Where lines and rules meet: a line that reads as an event becomes an event whose word is one of its type for these rules, and whose numbers are
 -- within their sizes. So the rules see no word that its chart lacks, but for the requests of a semaphore.
-use mathlib.Core.Path.{_≡_, refl, subst, _∙_}
+use mathlib.Core.Path.{_≡_, refl, subst}
 use mathlib.Core.Bool.{Bool, true, false, not, _&&_, _||_, cond}
 use mathlib.Core.List.{List, [], _∷_}
 use Prim.Native.Nat.{ℕ, zero, suc, _≤_}
 use native.Mathlib.Omega.{arith}
-use lib.Dec.{eqb, ltb}
+use lib.Dec.{eqb}
 use lib.ListN.{length}
 use borrow.Author.Tests.{le-ltb}
+use Rattle.text.specs.Name.{isName}
 use Rattle.text.specs.Number.{numberOf}
 use Rattle.text.specs.declared.number.Number.{Number}
 use Rattle.text.specs.declared.number.Number.the-variants.{Value, Bad}
@@ -44,7 +45,7 @@ use Rattle.rules.proofs.Seen.{OneWorded, Worded, first-seen}
 
 -- ---- the words: one computed test for each type
 
--- what holds of an event of the type
+-- where the first test passes, so does the second
 abbrev implies : Bool → Bool → Bool
 implies a b = not a || b
 
@@ -52,6 +53,7 @@ implied : (a b : Bool) → implies a b ≡ true → a ≡ true → b ≡ true
 implied true b t e = t
 implied false b t e = cc
 
+-- a type's number and a word's: what is asked of T, I and R, and what of SEM
 abbrev stepped : ℕ → ℕ → Bool
 stepped k a = implies (hasInstances k) (isStep (stepFor (chartOf k) a))
 
@@ -72,7 +74,7 @@ tested OsEvent = refl
 tested Signal = refl
 tested Semaphore = refl
 
--- ---- the count: "the note is a semaphore's count, and 0 elsewhere"
+-- ---- the count: at most "4,294,967,295", and 0 but for SEM
 
 abbrev Counted : Kind → Note → Type 0
 Counted k (Means n) = (n ≤ maxInstance) × (eqb (kindNumber k) semaphore ≡ false → n ≡ 0)
@@ -105,11 +107,15 @@ pub record Met (e : Event) : Type 0 where
   pub worded : OneWorded e
   -- on SEM a step of the chart, or one of the seven requests
   pub semaphore-word : eqb (e .kind) semaphore ≡ true → isStep (stepFor (chartOf (e .kind)) (e .word)) || member (e .word) requests ≡ true
+  -- "name, note: 1 to 64 bytes"
+  pub source-name : isName (e .source) ≡ true
+  pub target-name : isName (e .target) ≡ true
   -- "time: 72,057,594,037,927,935 (2^56 − 1)"; "instance, semaphore count: 4,294,967,295"
   pub time-size : e .time ≤ maxTime
   pub from-size : e .sourceInstance ≤ maxInstance
   pub to-size : e .targetInstance ≤ maxInstance
   pub count-size : e .count ≤ maxInstance
+  -- and 0 where there is no semaphore
   pub no-count : eqb (e .kind) semaphore ≡ false → e .count ≡ 0
 
 pub line-meets : (l : List ℕ) (e : ReadEvent) (count : ℕ) → readLine l ≡ EventLine e count → Met (eventFrom e (fieldOf l 2) (fieldOf l 5) count)
@@ -120,6 +126,8 @@ line-meets l e count q =
     record {
       worded = implied (hasInstances (kindNumber (e .kind))) _ (w .0);
       semaphore-word = implied (eqb (kindNumber (e .kind)) semaphore) _ (w .1);
+      source-name = a .source-name;
+      target-name = a .target-name;
       time-size = a .time-size;
       from-size = a .from-size;
       to-size = a .to-size;
@@ -161,7 +169,7 @@ only-time h a e source target count j =
 
 -- ---- any lines
 
--- the events of lines, whichever they are
+-- the events of the lines that read as events, in any order of the lines
 pub read-worded : (ls : List (List ℕ)) → Worded (eventsOf ls)
 unfolding eventsOf eventOfLine
 read-worded [] = tt

@@ -1,8 +1,7 @@
 -- `lines::word_number` meets its contract: one computed test says that the definition's numbers, in the order of the codes, stand each at its
 -- word's code, and the checker compares the code's table with them entry by entry.
 use mathlib.Core.Path.{_≡_, refl}
-use mathlib.Core.List.{List, map}
-use Prim.Native.Nat.{ℕ}
+use mathlib.Core.List.{map}
 use native.Mathlib.Omega.{arith}
 use lib.Dec.{eqb}
 use lib.ListN.{getD}

@@ -8,6 +8,6 @@ pub refused-answer-spec : {M : Type 1} → statement M
 refused-answer-spec =
     tie.close
     (tie.spec
-    (λ c. rw (le-leb _ _ (c .if1 .taken)))
+    (λ c. rw (le-leb _ 3 (c .if1 .taken)))
     (λ c κs. search needs)
-    (λ c. rw (lt-leb _ _ (c .before .if1 .left)) (c .needs-scale .ensures)))
+    (λ c. rw (lt-leb _ 3 (c .before .if1 .left)) (c .needs-scale .ensures)))

@@ -1,11 +1,9 @@
 -- `tables::find::find_instance` meets its contract. The invariant: the last row of the instance is the last such row below `j`.
 -- Assumes nothing.
-use mathlib.Core.Path.{_≡_, refl, sym, ap, _∙_}
-use Prim.Native.Nat.{ℕ}
+use mathlib.Core.Path.{_≡_, sym, _∙_}
 use native.Mathlib.Omega.{arith}
 use borrow.Author.Needs.{needs}
 use borrow.Author.Tests.{ne-eqb}
-use lib.ListN.{length}
 use Rattle.tables.specs.Find.{instanceIs, lastBelow, findInstance}
 use Rattle.tables.proofs.Found.{last-hit, last-miss, last-end, instance-found}
 use Rattle.tables.proofs.find.find_instance.Statement.{statement}

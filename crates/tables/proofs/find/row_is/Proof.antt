@@ -29,7 +29,9 @@ returns-4 c =
     let p = c .before .before in
     let a = p .before .before .before .before .before .before .before .args in
     let e : (64 * a .i + lengthAt (a .nums .now) (a .i)) - 64 * a .i ≡ lengthAt (a .nums .now) (a .i) = omega arith in
-    pass (lt-ltb _ _ (p .before .before .before .if1 .left)) (pass (eq-eqb _ _ (p .before .if2 .left)) (pass (le-leb _ _ (p .if3 .left)) (c .same .ensures ∙ rw e)))
+    pass (lt-ltb _ _ (p .before .before .before .if1 .left))
+    (pass (eq-eqb _ _ (p .before .if2 .left))
+    (pass (le-leb _ _ (p .if3 .left)) (c .same .ensures ∙ rw e)))
 
 pub row-is-spec : {M : Type 1} → statement M
 row-is-spec =

@@ -18,11 +18,22 @@ returns-2 c = pass (le-leb _ _ (c .before .before .if1 .left)) (stop _ (lt-leb _
 
 returns-3 : tie.Need-returns-3
 unfolding sumsOk
-returns-3 c = pass (le-leb _ _ (c .before .before .before .before .if1 .left)) (pass (le-leb _ _ (c .before .before .if2 .left)) (stop _ (lt-leb _ _ (c .if3 .taken))))
+returns-3 c =
+    let d2 = c .before .before in
+    let d1 = d2 .before .before in
+    pass (le-leb _ _ (d1 .if1 .left))
+    (pass (le-leb _ _ (d2 .if2 .left))
+    (stop _ (lt-leb _ _ (c .if3 .taken))))
 
 returns-4 : tie.Need-returns-4
 unfolding sumsOk
-returns-4 c = pass (le-leb _ _ (c .before .before .before .before .before .before .if1 .left)) (pass (le-leb _ _ (c .before .before .before .before .if2 .left)) (pass (le-leb _ _ (c .before .before .if3 .left)) refl))
+returns-4 c =
+    let d3 = c .before .before in
+    let d2 = d3 .before .before in
+    let d1 = d2 .before .before in
+    pass (le-leb _ _ (d1 .if1 .left))
+    (pass (le-leb _ _ (d2 .if2 .left))
+    (pass (le-leb _ _ (d3 .if3 .left)) refl))
 
 pub sums-ok-spec : {M : Type 1} → statement M
 sums-ok-spec =

@@ -1,0 +1,174 @@
+-- A line in its place: deciding 1 to 7 from the reading gives the lowest of them that applies to the line, and what a line that is taken changes of the place.
+use mathlib.Core.Path.{_≡_, refl, sym, ap, _∙_}
+use mathlib.Core.Bool.{Bool, true, false, not, _&&_, _||_, cond}
+use mathlib.Core.Logic.{_↔_}
+use mathlib.Core.List.{List, [], _∷_}
+use Prim.Native.Nat.{ℕ, _+_, _<_}
+use native.Mathlib.Numerals.{add-one}
+use native.Mathlib.Omega.{arith}
+use lib.Dec.{eqb, leb}
+use lib.ListN.{length}
+use borrow.Author.Tests.{eqb-true, leb-true, ne-eqb, le-leb, lt-leb}
+use Rattle.line.specs.declared.reading.Reading.{Reading}
+use Rattle.line.specs.declared.reading.Reading.the-variants.{Version, Comment, TimeScale, Creator, CreationDate, EventLine, Refused}
+use Rattle.line.specs.Answer.{test, lowest}
+use Rattle.line.specs.Parameter.{isCreator, isCreationDate}
+use Rattle.line.specs.Reading.{readLine, answerOf}
+use Rattle.line.specs.Condition.{refuses1, refuses2, isScale, refuses3, refuses5, refuses6, refuses7}
+use Rattle.line.proofs.Lowest.{holds, lowest-exactly, lowest-none}
+use Rattle.line.proofs.Answers.{answer-lowest}
+use Rattle.rules.specs.declared.place.Place.{Place}
+use Rattle.rules.specs.Lists.{any, latest, orElse}
+use Rattle.rules.specs.Lines.{eventIn, eventOfLine}
+use Rattle.rules.specs.Trace.{scaleNumber, scaleIn, orZero, isSome, placeOf, tooMuch, versionWrong, parameterWrong, unscaled, placeTests, answerInPlace, firstAnswer, readAnswer, placed}
+use Rattle.rules.proofs.Tests.{neither}
+use Rattle.rules.proofs.Told.{Told, testsOf, toldBy, told-right}
+
+-- ---- "given exactly when": the conditions of the table, in the order of their numbers
+
+pub place-exactly : (p : Place) (l : List ℕ) (n : ℕ) → 0 < n →
+    (answerInPlace p l ≡ n) ↔ ((holds n (placeTests p l) ≡ true) × ((m : ℕ) → m < n → holds m (placeTests p l) ≡ false))
+unfolding answerInPlace placeTests
+place-exactly p l n pos = lowest-exactly (placeTests p l) refl n pos
+
+pub place-none : (p : Place) (l : List ℕ) → (answerInPlace p l ≡ 0) ↔ ((m : ℕ) → holds m (placeTests p l) ≡ false)
+unfolding answerInPlace placeTests
+place-none p l = lowest-none (placeTests p l) refl
+
+-- ---- the answers, from the tests of the line and the lowest of 5 to 7
+
+abbrev own : List ℕ → ℕ
+own l = lowest (test 5 (refuses5 l) ∷ test 6 (refuses6 l) ∷ test 7 (refuses7 l) ∷ [])
+
+abbrev unknown : Told → Bool
+unknown t = not (t .event) && not (t .version-line || (t .comment || (isScale (t .scale) || (t .creator || t .date))))
+
+-- what the reader answers to a line that 1 does not refuse
+abbrev alone : Told → ℕ → ℕ
+alone t low = cond (t .version-line && not (t .version)) 2 (cond (unknown t) 3 low)
+
+-- what is answered to it in its place, after 2
+abbrev fromThree : Place → Told → ℕ → ℕ
+fromThree p t low =
+    cond
+    (unknown t
+    || ((isScale (t .scale) && (not (eqb (p .scale) 0) || p .started))
+    || ((t .creator && (p .creator || p .started)) || (t .date && (p .date || p .started)))))
+    3
+    (cond (t .event && eqb (p .scale) 0) 4 low)
+
+-- the answer to a first line and to a later one
+record Answers (p : Place) (r : Reading) (low : ℕ) : Type 0 where
+  first : firstAnswer r ≡ cond (not (toldBy r .version)) 2 (fromThree p (toldBy r) low)
+  later : readAnswer p r ≡ cond (toldBy r .version-line) 2 (fromThree p (toldBy r) low)
+
+seldom-three : (b : Bool) (low : ℕ) → 0 ≡ low → cond b 3 0 ≡ cond (b || false) 3 low
+seldom-three true low q = refl
+seldom-three false low q = q
+
+module _ (p : Place) (low : ℕ) where
+  -- a refused reading is one of 2, 3, and 5 to 7
+  refused-answers : (n : ℕ) (two event : Bool) → eqb n 2 ≡ two → leb 4 n ≡ event → n ≡ cond (two && true) 2 (cond (not event && not (two || false)) 3 low) → Answers p (Refused n) low
+  refused-answers n true event e f q =
+      let k = eqb-true n 2 e in
+      record { first = rw (ne-eqb n 1 (λ w. omega arith)); later = rw (e, le-leb n 3 (omega arith)) k }
+  refused-answers n false true e f q =
+      let k = leb-true 4 n f in
+      record { first = rw (ne-eqb n 1 (λ w. omega arith)); later = rw (e, f, lt-leb n 3 (omega arith), q) }
+  refused-answers n false false e f q = record { first = rw (ne-eqb n 1 (λ w. omega arith)); later = rw (e, f, le-leb n 3 (omega arith)) q }
+
+  answers : (r : Reading) → answerOf r ≡ alone (toldBy r) low → Answers p r low
+  unfolding answerOf
+  answers Version q = record { first = q; later = refl }
+  answers Comment q = record { first = refl; later = q }
+  answers (TimeScale s) q = record { first = refl; later = seldom-three (not (eqb (p .scale) 0) || p .started) low q }
+  answers Creator q = record { first = refl; later = seldom-three (p .creator || p .started) low q }
+  answers CreationDate q = record { first = refl; later = rw q }
+  answers (EventLine e count) q = record { first = refl; later = rw q }
+  answers (Refused n) q = refused-answers n (eqb n 2) (leb 4 n) refl refl q
+
+-- ---- any line
+
+in-order : (many first v w : Bool) (f g x : ℕ) → f ≡ cond (not v) 2 x → g ≡ cond w 2 x → cond many 1 (cond first f g) ≡ cond (many || false) 1 (cond (cond first (not v) w) 2 x)
+in-order true first v w f g x p q = refl
+in-order false true v w f g x p q = p
+in-order false false v w f g x p q = q
+
+-- 1 comes before all others
+too-long : (p : Place) (l : List ℕ) → refuses1 l ≡ true → placed p (readLine l) ≡ answerInPlace p l
+unfolding placed readLine answerInPlace placeTests tooMuch refuses1
+too-long p l q = rw q (by-count (leb 1000000000 (p .lines)) (eqb (p .lines) 0) _)
+  where
+    by-count : (many first : Bool) (x : ℕ) → cond many 1 (cond first (firstAnswer (Refused 1)) (readAnswer p (Refused 1))) ≡ cond (many || true) 1 x
+    by-count true first x = refl
+    by-count false true x = refl
+    by-count false false x = refl
+
+-- the line's tests are those that its reading tells
+tested : (p : Place) (l : List ℕ) → refuses1 l ≡ false →
+    answerInPlace p l
+    ≡ cond (leb 1000000000 (p .lines) || false) 1
+    (cond (cond (eqb (p .lines) 0) (not (toldBy (readLine l) .version)) (toldBy (readLine l) .version-line)) 2 (fromThree p (toldBy (readLine l)) (own l)))
+unfolding answerInPlace placeTests tooMuch versionWrong parameterWrong unscaled refuses3 testsOf
+tested p l q = rw (← (told-right l q), q)
+
+alone-right : (l : List ℕ) → refuses1 l ≡ false → answerOf (readLine l) ≡ alone (toldBy (readLine l)) (own l)
+unfolding refuses2 refuses3 testsOf
+alone-right l q = answer-lowest l ∙ rw (← (told-right l q), q)
+
+pub placed-right : (p : Place) (l : List ℕ) → placed p (readLine l) ≡ answerInPlace p l
+unfolding placed
+placed-right p l = by-length (refuses1 l) refl
+  where
+    by-length : (b : Bool) → refuses1 l ≡ b → placed p (readLine l) ≡ answerInPlace p l
+    by-length true q = too-long p l q
+    by-length false q =
+        let t = toldBy (readLine l) in
+        let a = answers p (own l) (readLine l) (alone-right l q) in
+        in-order (leb 1000000000 (p .lines)) (eqb (p .lines) 0) (t .version) (t .version-line) _ _ _ (a .first) (a .later) ∙ sym (tested p l q)
+
+-- ---- the place after a line
+
+-- one line more: its number, and the time scale, whether a creator, a creation date, an event was given
+abbrev oneMore : Place → ℕ → Bool → Bool → Bool → Place
+oneMore p scale creator date started = record { lines = p .lines + 1; scale = scale; creator = creator; date = date; started = started }
+
+abbrev pub nextPlace : Place → Reading → Place
+nextPlace p Version = oneMore p (p .scale) (p .creator) (p .date) (p .started)
+nextPlace p Comment = oneMore p (p .scale) (p .creator) (p .date) (p .started)
+nextPlace p (TimeScale s) = oneMore p (scaleNumber s) (p .creator) (p .date) (p .started)
+nextPlace p Creator = oneMore p (p .scale) true (p .date) (p .started)
+nextPlace p CreationDate = oneMore p (p .scale) (p .creator) true (p .started)
+nextPlace p (EventLine e count) = oneMore p (p .scale) (p .creator) (p .date) true
+nextPlace p (Refused n) = oneMore p (p .scale) (p .creator) (p .date) (p .started)
+
+-- a line that 1 does not refuse
+line-next : (h : List (List ℕ)) (l : List ℕ) → refuses1 l ≡ false → placeOf (l ∷ h) ≡ nextPlace (placeOf h) (readLine l)
+unfolding placeOf eventOfLine testsOf
+line-next h l q =
+    let e = told-right l q in
+    rw (ap (λ (t : Told). t .creator) e, ap (λ (t : Told). t .date) e) (by-reading (readLine l))
+  where
+    by-reading : (r : Reading) →
+        record {
+          lines = length (l ∷ h);
+          scale = orZero (orElse (scaleIn r) (latest (λ k. scaleIn (readLine k)) h));
+          creator = toldBy r .creator || any isCreator h;
+          date = toldBy r .date || any isCreationDate h;
+          started = isSome (eventIn r l) || any (λ k. isSome (eventOfLine k)) h;
+        }
+        ≡ nextPlace (placeOf h) r
+    by-reading Version = rw add-one
+    by-reading Comment = rw add-one
+    by-reading (TimeScale s) = rw add-one
+    by-reading Creator = rw add-one
+    by-reading CreationDate = rw add-one
+    by-reading (EventLine e count) = rw add-one
+    by-reading (Refused n) = rw add-one
+
+-- a line that is well formed and in its place
+pub place-next : (h : List (List ℕ)) (l : List ℕ) → answerInPlace (placeOf h) l ≡ 0 → placeOf (l ∷ h) ≡ nextPlace (placeOf h) (readLine l)
+unfolding placeTests tooMuch
+place-next h l q =
+    let short = neither (tooMuch (placeOf h) l) false (place-none (placeOf h) l .0 q 1) .0 in
+    line-next h l (neither (leb 1000000000 (placeOf h .lines)) (refuses1 l) short .1)
