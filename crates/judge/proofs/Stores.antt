@@ -18,8 +18,8 @@ use Rattle.tables.specs.Entry.{startedEntry, nameCount, firstTime}
 use Rattle.tables.proofs.Stores.{other}
 use Rattle.judge.specs.declared.happening.Happening.{Happening}
 use Rattle.judge.specs.declared.sight.Sight.{Sight}
-use Rattle.judge.specs.Known.{oneNew, newCore, newName}
-use Rattle.judge.specs.Store.{targetRow, storeName, storeRow, storeSums, storeInstance, storeMark, storeNumber, takenNames, withRows, withTarget, withCore, withHeads, takenNums, settled, withTimes, withSums, takenTicks}
+use Rattle.judge.specs.Known.{oneNew, newCore, newName, newInstance}
+use Rattle.judge.specs.Store.{coreRow, targetRow, instanceRow, storeName, storeRow, storeSums, storeInstance, storeMark, storeNumber, takenNames, withRows, withTarget, withCore, withHeads, takenNums, settled, withTimes, withSums, takenTicks}
 
 -- ---- how many are new
 
@@ -50,6 +50,12 @@ heads-stored {a} {b} {d} {e} nums names cores instances p q r t =
     let r' : d ≡ (getD nums 8 0 + cores) % 2 ^ 32 = rw (skip l 7 8 b (omega arith), f 8 (omega arith)) at r in
     let t' : e ≡ (getD nums 9 0 + instances) % 2 ^ 32 = rw (skip (set l 7 b) 8 9 d (omega arith), skip l 7 9 b (omega arith), f 9 (omega arith)) at t in
     rw (p, q', r', t')
+
+-- ---- the stores to nums after one another, with the rows and counts as they were before them
+
+pub nums-taken : {i p j x y z : ℕ} {a b d e : List ℕ} (nums : List ℕ) (s : Sight) (t : ℕ) (h : Happening) (n m : ℕ) → i ≡ coreRow nums s → p ≡ targetRow nums s → j ≡ instanceRow nums s → x ≡ newCore s → y ≡ newName s (h .kind) → z ≡ newInstance s (h .kind) → a ≡ withRows nums s (h .kind) n m → b ≡ withTarget a p j t h → d ≡ withCore b (s .class) i j → e ≡ withHeads d (x + y) x z → e ≡ takenNums nums s t h n m
+unfolding takenNums
+nums-taken nums s t h n m pi pp pj px py pz pa pb pd pe = pe ∙ rw (pd, pb, pa, pi, pp, pj, px, py, pz)
 
 -- ---- lengths
 

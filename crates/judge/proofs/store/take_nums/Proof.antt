@@ -1,11 +1,9 @@
 -- `judge::store::take_nums` meets its contract: the stores one after another, with the rows as they were before them. Assumes nothing.
-use mathlib.Core.Path.{_∙_}
 use mathlib.Core.Bool.{not}
 use native.Mathlib.Omega.{arith}
 use lib.Dec.{eqb}
 use borrow.Author.Needs.{needs}
-use Rattle.judge.specs.Store.{takenNums}
-use Rattle.judge.proofs.Stores.{new-small}
+use Rattle.judge.proofs.Stores.{new-small, nums-taken}
 use Rattle.rules.specs.History.{isTracked}
 use Rattle.judge.proofs.store.take_nums.Statement.{statement}
 use Rattle.judge.proofs.store.take_nums.Tie as tie
@@ -25,25 +23,23 @@ small c =
     )
 
 returns : tie.Need-returns
-unfolding takenNums
 returns c =
     let h = c .before .before in
     let d = h .before .before .before .before in
     let t = d .before .before .before .before in
     let r = t .before .before .before .before in
     let n = counted (h .before) in
-    h .store-heads .ensures
-    ∙ rw (
-      d .store-core .ensures,
-      t .store-target .ensures,
-      r .store-rows .ensures,
-      n .new-instance .ensures,
-      n .before .new-name .ensures,
-      n .before .before .new-core .ensures,
-      n .before .before .before .instance-row .ensures,
-      n .before .before .before .before .before .target-row .ensures,
-      n .before .before .before .before .before .before .before .core-row .ensures,
-    )
+    nums-taken _ _ _ _ _ _
+    (n .before .before .before .before .before .before .before .core-row .ensures)
+    (n .before .before .before .before .before .target-row .ensures)
+    (n .before .before .before .instance-row .ensures)
+    (n .before .before .new-core .ensures)
+    (n .before .new-name .ensures)
+    (n .new-instance .ensures)
+    (r .store-rows .ensures)
+    (t .store-target .ensures)
+    (d .store-core .ensures)
+    (h .store-heads .ensures)
 
 pub take-nums-spec : {M : Type 1} → statement M
 take-nums-spec =
