@@ -1,5 +1,7 @@
 // The refusals 8 to 14 of an event line, from the tables as they are. Nothing is stored here.
 ghost use mathlib.Core.Path.{_≡_};
+ghost use Prim.Native.Nat.{_+_};
+ghost use lib.Dec.{eqb};
 ghost use lib.ListN.{length};
 ghost use Rattle.rules.specs.History.{activates};
 ghost use Rattle.rules.specs.Refusals.{fixed};
@@ -35,12 +37,6 @@ pub enum Plan {
 }
 
 const CORE: u32 = 1;
-
-fn wide(n: usize) -> u64
-    ensures { λ r. ⌜ r ≡ n ⌝ }
-{
-    n as u64
-}
 
 // 8: whether the time is less than that of the event line before.
 fn time_falls(nums: &[u32], ticks: &[u64], time: u64) -> bool
@@ -144,6 +140,16 @@ fn not_next(nums: &[u32], s: Sight, h: Happening) -> bool
     h.number as u64 != number_in(nums, row) as u64 + 1
 }
 
+// Whether a core's state names the instance in row j.
+fn names_row(mark: u32, j: usize) -> bool
+    ensures { λ r. ⌜ r ≡ eqb mark (j + 2) ⌝ }
+{
+    if mark < 2 {
+        return false;
+    }
+    mark as usize - 2 == j
+}
+
 // Whether a core in the state mark serves an event of the class: 0 unknown, 1 idle, 2 + j held by instance j. `first` tells whether the
 // instance is seen for the first time.
 fn core_serves(class: u32, mark: u32, instance: Found, first: bool) -> bool
@@ -158,7 +164,7 @@ fn core_serves(class: u32, mark: u32, instance: Found, first: bool) -> bool
     let Found::At(j) = instance else {
         return false;
     };
-    mark as u64 == wide(j) + 2
+    names_row(mark, j)
 }
 
 // 13: whether the core rule is broken.
