@@ -6,11 +6,11 @@ use Prim.Native.Nat.{ℕ, zero, suc, _+_, _≤_, _<_}
 use native.Mathlib.Omega.{arith}
 use lib.Dec.{eqb}
 use lib.ListN.{getD}
-use borrow.Author.Tests.{ne-eqb}
 use Rattle.rules.specs.Charts.{isProcess}
 use Rattle.rules.specs.Core.{takes, gives, keeps, onCore}
 use Rattle.rules.specs.Event.{Event}
 use Rattle.judge.specs.Sight.{coreClass}
+use Rattle.judge.proofs.Ranges.{above}
 
 -- ---- the entries of a list that is computed from a function
 
@@ -35,22 +35,19 @@ computed : valuesFrom wordClass 0 31 ≡ classes
 unfolding wordClass takes gives keeps
 computed = refl
 
-off : (a w : ℕ) → w < a → eqb a w ≡ false
-off a w h = ne-eqb a w (λ q. omega arith)
-
 beyond : (a : ℕ) → 30 < a → wordClass a ≡ 0
 unfolding wordClass takes gives keeps
 beyond a h =
     rw (
-      off a 2 (omega arith),
-      off a 4 (omega arith),
-      off a 11 (omega arith),
-      off a 3 (omega arith),
-      off a 5 (omega arith),
-      off a 10 (omega arith),
-      off a 7 (omega arith),
-      off a 8 (omega arith),
-      off a 9 (omega arith),
+      above 2 a (omega arith),
+      above 4 a (omega arith),
+      above 11 a (omega arith),
+      above 3 a (omega arith),
+      above 5 a (omega arith),
+      above 10 a (omega arith),
+      above 7 a (omega arith),
+      above 8 a (omega arith),
+      above 9 a (omega arith),
     )
 
 pub class-off : (k a : ℕ) → isProcess k ≡ false → 0 ≡ coreClass k a

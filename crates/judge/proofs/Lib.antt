@@ -3,3 +3,4 @@ pub mod Ranges
 pub mod Classes
 pub mod Counts
 pub mod Plans
+pub mod Decided

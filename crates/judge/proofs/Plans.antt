@@ -3,7 +3,7 @@ use mathlib.Core.Path.{_≡_, refl, sym, ap, _∙_}
 use mathlib.Core.Bool.{Bool, true, false, not, _&&_, _||_, cond}
 use mathlib.Core.Option.{none, some}
 use mathlib.Core.List.{List}
-use Prim.Native.Nat.{ℕ, zero, suc, _+_, _≤_}
+use Prim.Native.Nat.{ℕ, zero, suc, _+_}
 use native.Mathlib.Omega.{arith}
 use lib.Dec.{eqb, ltb, eqb·suc-zero}
 use borrow.Author.Tests.{ne-eqb, lt-leb}
@@ -12,7 +12,7 @@ use Rattle.rules.specs.Chart.{stepFor, allowed}
 use Rattle.rules.specs.Charts.{chartOf}
 use Rattle.rules.specs.Words.{semaphore}
 use Rattle.rules.specs.History.{activates}
-use Rattle.rules.specs.Core.{Core, held, takes, onCore}
+use Rattle.rules.specs.Core.{held, takes, onCore}
 use Rattle.rules.specs.Event.{Event, Instance, sameInstance, instanceOf}
 use Rattle.rules.specs.Rows.{opened, leadsTo, moveIf, moveBy}
 use Rattle.rules.specs.Refusals.{

@@ -8,7 +8,8 @@ use borrow.Author.Tests.{ne-eqb, lt-leb}
 use Rattle.rules.specs.Charts.{isProcess}
 use Rattle.rules.specs.History.{hasInstances, isTracked}
 
-above : (m n : ℕ) → m < n → eqb n m ≡ false
+-- a number is none that is below it
+pub above : (m n : ℕ) → m < n → eqb n m ≡ false
 above m n h = ne-eqb n m (λ q. omega arith)
 
 pub process-range : (k : ℕ) → isProcess k ≡ not (ltb k 2) && leb k 3

@@ -1,6 +1,6 @@
 -- `judge::decide::decide` meets its contract: the tests in the order of their numbers, each by its own function, are the plan.
 use borrow.Author.Needs.{needs}
-use mathlib.Core.Path.{_≡_, _∙_}
+use mathlib.Core.Path.{_≡_}
 use Rattle.judge.specs.Happening.{asEvent}
 use Rattle.judge.specs.Decide.{testsPlan, planOf}
 use Rattle.judge.proofs.Plans.{tests-decide}

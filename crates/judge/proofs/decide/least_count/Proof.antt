@@ -16,4 +16,11 @@ least-count-spec =
     (λ c. rw (c .if5 .taken))
     (λ c. rw (c .if6 .taken))
     (λ c.
-    rw (ne-eqb _ 29 (c .before .before .before .before .before .if1 .left), ne-eqb _ 23 (c .before .before .before .before .if2 .left), ne-eqb _ 22 (c .before .before .before .if3 .left), ne-eqb _ 19 (c .before .before .if4 .left), ne-eqb _ 20 (c .before .if5 .left), ne-eqb _ 21 (c .if6 .left))))
+    rw (
+      ne-eqb _ 29 (c .before .before .before .before .before .if1 .left),
+      ne-eqb _ 23 (c .before .before .before .before .if2 .left),
+      ne-eqb _ 22 (c .before .before .before .if3 .left),
+      ne-eqb _ 19 (c .before .before .if4 .left),
+      ne-eqb _ 20 (c .before .if5 .left),
+      ne-eqb _ 21 (c .if6 .left),
+    )))

@@ -21,4 +21,5 @@ numbers-instance-spec =
     (λ c. rw (process-range, le-ltb _ 2 (c .before .if2 .left), lt-leb _ 3 (c .if3 .taken), ne-eqb _ 4 (c .before .before .if1 .left)))
     (λ c. rw (process-range, le-ltb _ 2 (c .before .before .if2 .left), le-leb _ 3 (c .before .if3 .left), eq-eqb _ 1 (c .if4 .taken)))
     (λ c.
-    rw (process-range, le-ltb _ 2 (c .before .before .if2 .left), le-leb _ 3 (c .before .if3 .left), ne-eqb _ 1 (c .if4 .left), ne-eqb _ 4 (c .before .before .before .if1 .left), or-false, or-false)))
+    rw (process-range, le-ltb _ 2 (c .before .before .if2 .left), le-leb _ 3 (c .before .if3 .left), ne-eqb _ 1 (c .if4 .left), ne-eqb _ 4 (c .before .before .before .if1 .left))
+    (simp or-false)))
