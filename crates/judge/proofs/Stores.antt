@@ -59,12 +59,12 @@ nums-taken nums s t h n m pi pp pj px py pz pa pb pd pe = pe ∙ rw (pd, pb, pa,
 
 -- ---- lengths
 
-pub length-cond : (b : Bool) (x y : List ℕ) {n : ℕ} → length x ≡ n → length y ≡ n → length (cond b x y) ≡ n
+length-cond : (b : Bool) (x y : List ℕ) {n : ℕ} → length x ≡ n → length y ≡ n → length (cond b x y) ≡ n
 length-cond true x y p q = p
 length-cond false x y p q = q
 
 -- a store that is made or not, and another after it
-pub length-two : (a b : Bool) (f : List ℕ → List ℕ) (x l : List ℕ) → ((m : List ℕ) → length (f m) ≡ length m) → length x ≡ length l → length (cond b (f (cond a x l)) (cond a x l)) ≡ length l
+length-two : (a b : Bool) (f : List ℕ → List ℕ) (x l : List ℕ) → ((m : List ℕ) → length (f m) ≡ length m) → length x ≡ length l → length (cond b (f (cond a x l)) (cond a x l)) ≡ length l
 length-two a b f x l h e =
     let i : length (cond a x l) ≡ length l = length-cond a x l e refl in
     length-cond b (f (cond a x l)) (cond a x l) (h (cond a x l) ∙ i) i
