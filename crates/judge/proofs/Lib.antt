@@ -5,3 +5,4 @@ pub mod Counts
 pub mod Plans
 pub mod Decided
 pub mod Stores
+pub mod Feeds
