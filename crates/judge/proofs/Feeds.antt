@@ -6,7 +6,8 @@ use mathlib.Core.List.{List, [], _∷_, _++_}
 use Prim.Native.Nat.{ℕ, zero, suc, _+_, _-_, _≤_, _<_}
 use native.Mathlib.Omega.{arith}
 use lib.Dec.{eqb}
-use lib.ListN.{length, set, take, drop, replicate, length-set}
+use lib.ListN.{length, set, take, drop, replicate, length-set, length-drop, length-replicate}
+use lib.Seq.{take-all}
 use borrow.Author.Tests.{eq-eqb, ne-eqb}
 use Rattle.walk.specs.Lines.{wholeLines, usedUp, restOf, lastLine, linesOf}
 use Rattle.walk.proofs.Chunks.{size, rest-drop}
@@ -22,7 +23,7 @@ use Rattle.rules.specs.Trace.{scaleNumber, placed}
 use Rattle.tables.specs.Entry.{namesSize, numsSize, ticksSize, verdictNumber}
 use Rattle.tables.specs.Range.{isSized, tableAnswer}
 use Rattle.tables.specs.Fresh.{Cleared, cleared, clearedOf}
-use Rattle.tables.proofs.Valid.{valid}
+use Rattle.tables.proofs.Valid.{valid, sizes-mean}
 use Rattle.judge.specs.declared.happening.Happening.{Happening}
 use Rattle.judge.specs.declared.decide.Plan.{Plan}
 use Rattle.judge.specs.declared.decide.Plan.the-variants.{Refuse, Take}
@@ -111,9 +112,28 @@ unfolding allLined
 allLined-alike t [] = same t
 allLined-alike t (l ∷ ls) = chain (lined-alike t l) (allLined-alike (lined t l .left) ls)
 
+-- the sizes that the format gives
+abbrev pub Sized : Tables → Type 0
+Sized t = (length (t .names) ≡ namesSize) × ((length (t .nums) ≡ numsSize) × (length (t .ticks) ≡ ticksSize))
+
+pub alike-sized : {t u : Tables} → Alike t u → Sized t → Sized u
+alike-sized a s = (a .names-kept ∙ s .0, (a .nums-kept ∙ s .1 .0, a .ticks-kept ∙ s .1 .1))
+
+pub sized-alike : (t u : Tables) → Sized t → Sized u → Alike t u
+sized-alike t u s z = record { names-kept = z .0 ∙ sym (s .0); nums-kept = z .1 .0 ∙ sym (s .1 .0); ticks-kept = z .1 .1 ∙ sym (s .1 .1) }
+
+pub fresh-sized : {t : Tables} → t ≡ freshTables → Sized t
+fresh-sized e = rw e (length-replicate {A = ℕ} namesSize 0, (length-replicate {A = ℕ} numsSize 0, length-replicate {A = ℕ} ticksSize 0))
+
 -- what a call left is as its contract says
 pub left-alike : {t : Tables} {x y : After} → x ≡ y → Alike t (y .left) → Alike t (x .left)
 left-alike e a = rw e a
+
+pub lines-alike : {t u : Tables} (ls : List (List ℕ)) → u ≡ allLined t ls → Alike t u
+lines-alike {t} ls e = rw e (allLined-alike t ls)
+
+pub same-tables : {a b d x y z : List ℕ} → a ≡ x → b ≡ y → d ≡ z → tables a b d ≡ tables x y z
+same-tables p q r = rw (p, q, r)
 
 -- ---- the two arms of a number
 
@@ -162,7 +182,7 @@ module _ (t : Tables) where
   abbrev answer : ℕ
   answer = tableAnswer (t .names) (t .nums) (t .ticks)
 
-  pub sized : {r : ℕ} → r ≡ answer → r ≡ 0 → (length (t .names) ≡ namesSize) × ((length (t .nums) ≡ numsSize) × (length (t .ticks) ≡ ticksSize))
+  pub sized : {r : ℕ} → r ≡ answer → r ≡ 0 → Sized t
   sized e z =
       let v = valid (t .names) (t .nums) (t .ticks) (sym e ∙ z) .sizes in
       (v .names-size, (v .nums-size, v .ticks-size))
@@ -241,10 +261,10 @@ module _ (t : Tables) (s : List ℕ) where
   unfolding linesOf
   lines-split e = rw e (sym (allLined-append t (wholeLines s) (lastLine (restOf s))))
 
-  pub rest-lined : {n : ℕ} {u : Tables} {x : After} → n ≡ usedUp s → u ≡ allLined t (wholeLines s) → n < length s → x ≡ lined u (drop n s) → x .left ≡ allLined t (linesOf s)
+  pub rest-lined : {n : ℕ} {u : Tables} {x : After} → n ≡ usedUp s → u ≡ allLined t (wholeLines s) → n < length s → x ≡ lined u (take (length s - n) (drop n s)) → x .left ≡ allLined t (linesOf s)
   rest-lined {n} {u} {x} pn pu h px =
-      let d : restOf s ≡ drop n s = rw pn (rest-drop s) in
-      ap (λ (y : After). y .left) px ∙ rw (← d) (sym (last-one u (restOf s) (omega (arith, size s)))) ∙ lines-split pu
+      let d : take (length s - n) (drop n s) ≡ restOf s = take-all (length s - n) (drop n s) (omega (arith, length-drop n s)) ∙ rw pn (sym (rest-drop s)) in
+      ap (λ (y : After). y .left) px ∙ rw d (sym (last-one u (restOf s) (omega (arith, size s)))) ∙ lines-split pu
 
   pub all-lined : {n : ℕ} {u : Tables} → n ≡ usedUp s → u ≡ allLined t (wholeLines s) → length s ≤ n → u ≡ allLined t (linesOf s)
   all-lined {n} {u} pn pu h = sym (last-none u (restOf s) (omega (arith, size s))) ∙ lines-split pu
@@ -277,6 +297,11 @@ module _ (t : Tables) where
     pub fresh-start : cleared r a b d ≡ clearedOf (t .names) (t .nums) (t .ticks) → r ≡ 0 → (fits ≡ true) × (tables a b d ≡ freshTables)
     unfolding clearedOf
     fresh-start e z = fresh-by fits e z
+
+  pub fits-sized : fits ≡ true → Sized t
+  fits-sized f =
+      let z = sizes-mean (t .names) (t .nums) (t .ticks) .holds f in
+      (z .names-size, (z .nums-size, z .ticks-size))
 
   pub judged-trace : {u : Tables} {v : Verdict} (s : List ℕ) → fits ≡ true → u ≡ allLined freshTables (linesOf s) → v ≡ verdictIn (u .nums) (u .ticks) → traced v (u .names) (u .nums) (u .ticks) ≡ judgedTrace t s
   unfolding judgedTrace

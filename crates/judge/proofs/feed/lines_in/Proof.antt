@@ -7,7 +7,7 @@ use lib.ListN.{length}
 use borrow.Author.Needs.{needs}
 use Rattle.walk.proofs.Nexts.{Stepped, line-step, rest-step}
 use Rattle.judge.specs.Feed.{tables}
-use Rattle.judge.proofs.Feeds.{Going, going-start, going-on, going-end}
+use Rattle.judge.proofs.Feeds.{alike-sized, Going, going-start, going-on, going-end}
 use Rattle.judge.proofs.feed.lines_in.Statement.{statement}
 use Rattle.judge.proofs.feed.lines_in.Tie as tie
 
@@ -45,6 +45,6 @@ lines-in-spec =
     (λ c. let s = step (c .before .before .before .before) in omega arith)
     (λ c. let s = step (c .before .before .before .before) in omega arith)
     (λ c. let s = step (c .before .before .before .before) in omega arith)
-    (λ c κs. let l = c .before .before .before .before .before .before .before .before in let p = l .before .before .before .before .before .pre in (l .loop .inv .alike .names-kept ∙ p .0, (l .loop .inv .alike .nums-kept ∙ p .1 .0, l .loop .inv .alike .ticks-kept ∙ p .1 .1)))
+    (λ c κs. let l = c .before .before .before .before .before .before .before .before in alike-sized (l .loop .inv .alike) (l .before .before .before .before .before .pre))
     (λ c. let s = step (c .before .before .before .before .before .before .before .before .before .before .before .before) in omega arith)
     again)
