@@ -65,7 +65,7 @@ length-counted nums = simp length-set
 only-nums : (t : Tables) (m : List ℕ) → length m ≡ length (t .nums) → Alike t (tables (t .names) m (t .ticks))
 only-nums t m e = record { names-kept = refl; nums-kept = e; ticks-kept = refl }
 
-pub carried-alike : (p : Plan) (t : Tables) (h : Happening) (source target : List ℕ) → Alike t (carried p t h source target .left)
+carried-alike : (p : Plan) (t : Tables) (h : Happening) (source target : List ℕ) → Alike t (carried p t h source target .left)
 carried-alike (Refuse n) t h source target = only-nums t (remembered (t .nums) n) (length-remembered (t .nums) n)
 carried-alike (Take s state) t h source target =
     record {
@@ -74,7 +74,7 @@ carried-alike (Take s state) t h source target =
       ticks-kept = length-takenTicks (t .ticks) (t .nums) s (h .kind) (h .time);
     }
 
-pub eventLined-alike : (t : Tables) (l : List ℕ) (e : ReadEvent) (count : ℕ) → Alike t (eventLined t l e count .left)
+eventLined-alike : (t : Tables) (l : List ℕ) (e : ReadEvent) (count : ℕ) → Alike t (eventLined t l e count .left)
 unfolding eventLined
 eventLined-alike t l e count =
     let h = happeningOf e count in
@@ -83,7 +83,7 @@ eventLined-alike t l e count =
 pub length-entry : (nums : List ℕ) (i v : ℕ) → length (counted (set nums i v)) ≡ length nums
 length-entry nums i v = length-counted (set nums i v) ∙ length-set nums i v
 
-pub readLined-alike : (r : Reading) (t : Tables) (l : List ℕ) → Alike t (readLined r t l .left)
+readLined-alike : (r : Reading) (t : Tables) (l : List ℕ) → Alike t (readLined r t l .left)
 readLined-alike Version t l = only-nums t (counted (t .nums)) (length-counted (t .nums))
 readLined-alike Comment t l = only-nums t (counted (t .nums)) (length-counted (t .nums))
 readLined-alike (TimeScale s) t l = only-nums t (counted (set (t .nums) 3 (scaleNumber s))) (length-entry (t .nums) 3 (scaleNumber s))
@@ -126,7 +126,7 @@ pub fresh-sized : {t : Tables} → t ≡ freshTables → Sized t
 fresh-sized e = rw e (length-replicate {A = ℕ} namesSize 0, (length-replicate {A = ℕ} numsSize 0, length-replicate {A = ℕ} ticksSize 0))
 
 -- what a call left is as its contract says
-pub left-alike : {t : Tables} {x y : After} → x ≡ y → Alike t (y .left) → Alike t (x .left)
+left-alike : {t : Tables} {x y : After} → x ≡ y → Alike t (y .left) → Alike t (x .left)
 left-alike e a = rw e a
 
 pub lines-alike : {t u : Tables} (ls : List (List ℕ)) → u ≡ allLined t ls → Alike t u
@@ -144,7 +144,8 @@ if-some (suc n) x y h = refl
 -- ---- an event line
 
 module _ (t : Tables) where
-  pub refused-carried : {p : Plan} {r n : ℕ} {m : List ℕ} (h : Happening) (source target : List ℕ) → p ≡ Refuse n → r ≡ n → m ≡ remembered (t .nums) n → after r (t .names) m (t .ticks) ≡ carried p t h source target
+  pub refused-carried : {p : Plan} {r n : ℕ} {m : List ℕ} (h : Happening) (source target : List ℕ) → p ≡ Refuse n → r ≡ n → m ≡ remembered (t .nums) n
+      → after r (t .names) m (t .ticks) ≡ carried p t h source target
   refused-carried h source target p r m = rw (p, r, m)
 
   pub taken-carried : {p : Plan} {s : Sight} {state : ℕ} {a b d : List ℕ} (h : Happening) (source target : List ℕ) → p ≡ Take s state
@@ -195,13 +196,17 @@ module _ (t : Tables) where
   unfolding fedLine
   lined-fed l e z p = rw (← e, z) p
 
-  pub refused-chunk : {r : ℕ} (s : List ℕ) → r ≡ answer → (r ≡ 0 → ⊥) → chunked (record { answer = r; used = 0 }) (t .names) (t .nums) (t .ticks) ≡ fedChunk t s
+  pub refused-chunk : {r : ℕ} (s : List ℕ) → r ≡ answer → (r ≡ 0 → ⊥)
+      → chunked (record { answer = r; used = 0 }) (t .names) (t .nums) (t .ticks) ≡ fedChunk t s
   unfolding fedChunk
   refused-chunk {r} s e h =
       let u = allLined t (wholeLines s) in
-      rw (← e) (if-some r (chunked (record { answer = verdictNumber (u .nums); used = usedUp s }) (u .names) (u .nums) (u .ticks)) (chunked (record { answer = r; used = 0 }) (t .names) (t .nums) (t .ticks)) h)
+      rw (← e)
+      (if-some r (chunked (record { answer = verdictNumber (u .nums); used = usedUp s }) (u .names) (u .nums) (u .ticks))
+      (chunked (record { answer = r; used = 0 }) (t .names) (t .nums) (t .ticks)) h)
 
-  pub lined-chunk : {r n : ℕ} {u : Tables} (s : List ℕ) → r ≡ answer → r ≡ 0 → n ≡ usedUp s → u ≡ allLined t (wholeLines s) → chunked (record { answer = verdictNumber (u .nums); used = n }) (u .names) (u .nums) (u .ticks) ≡ fedChunk t s
+  pub lined-chunk : {r n : ℕ} {u : Tables} (s : List ℕ) → r ≡ answer → r ≡ 0 → n ≡ usedUp s → u ≡ allLined t (wholeLines s)
+      → chunked (record { answer = verdictNumber (u .nums); used = n }) (u .names) (u .nums) (u .ticks) ≡ fedChunk t s
   unfolding fedChunk
   lined-chunk s e z pn pu = rw (← e, z, pn, pu)
 
@@ -240,7 +245,7 @@ going-end {t} {u} g r = (omega (arith, r .used, g .used), sym (ap (allLined u) (
 
 -- ---- a whole trace: the whole lines, and the rest where there is one
 
-allLined-append : (t : Tables) (ls ms : List (List ℕ)) → allLined t (ls ++ ms) ≡ allLined (allLined t ls) ms
+pub allLined-append : (t : Tables) (ls ms : List (List ℕ)) → allLined t (ls ++ ms) ≡ allLined (allLined t ls) ms
 unfolding allLined
 allLined-append t [] ms = refl
 allLined-append t (l ∷ ls) ms = allLined-append (lined t l .left) ls ms
@@ -261,7 +266,8 @@ module _ (t : Tables) (s : List ℕ) where
   unfolding linesOf
   lines-split e = rw e (sym (allLined-append t (wholeLines s) (lastLine (restOf s))))
 
-  pub rest-lined : {n : ℕ} {u : Tables} {x : After} → n ≡ usedUp s → u ≡ allLined t (wholeLines s) → n < length s → x ≡ lined u (take (length s - n) (drop n s)) → x .left ≡ allLined t (linesOf s)
+  pub rest-lined : {n : ℕ} {u : Tables} {x : After} → n ≡ usedUp s → u ≡ allLined t (wholeLines s) → n < length s → x ≡ lined u (take (length s - n) (drop n s))
+      → x .left ≡ allLined t (linesOf s)
   rest-lined {n} {u} {x} pn pu h px =
       let d : take (length s - n) (drop n s) ≡ restOf s = take-all (length s - n) (drop n s) (omega (arith, length-drop n s)) ∙ rw pn (sym (rest-drop s)) in
       ap (λ (y : After). y .left) px ∙ rw d (sym (last-one u (restOf s) (omega (arith, size s)))) ∙ lines-split pu
@@ -303,6 +309,7 @@ module _ (t : Tables) where
       let z = sizes-mean (t .names) (t .nums) (t .ticks) .holds f in
       (z .names-size, (z .nums-size, z .ticks-size))
 
-  pub judged-trace : {u : Tables} {v : Verdict} (s : List ℕ) → fits ≡ true → u ≡ allLined freshTables (linesOf s) → v ≡ verdictIn (u .nums) (u .ticks) → traced v (u .names) (u .nums) (u .ticks) ≡ judgedTrace t s
+  pub judged-trace : {u : Tables} {v : Verdict} (s : List ℕ) → fits ≡ true → u ≡ allLined freshTables (linesOf s) → v ≡ verdictIn (u .nums) (u .ticks)
+      → traced v (u .names) (u .nums) (u .ticks) ≡ judgedTrace t s
   unfolding judgedTrace
   judged-trace s f pu pv = rw (f, pv, pu)

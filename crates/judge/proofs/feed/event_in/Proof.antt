@@ -10,7 +10,8 @@ use Rattle.judge.proofs.feed.event_in.Tie as tie
 planned : (c : tie.After-decide) →
     let f = c .before .before .before .before in
     let a = f .before .before .before .before .before .before .before .args in
-    carried (c .decide .result) (tables (a .names .now) (a .nums .now) (a .ticks .now)) (f .before .before .to-rules .result) (f .before .field .result .now) (f .field2 .result .now) ≡ eventLined (tables (a .names .now) (a .nums .now) (a .ticks .now)) (a .l .now) (a .e) (a .count)
+    let t = tables (a .names .now) (a .nums .now) (a .ticks .now) in
+    carried (c .decide .result) t (f .before .before .to-rules .result) (f .before .field .result .now) (f .field2 .result .now) ≡ eventLined t (a .l .now) (a .e) (a .count)
 planned c =
     let f = c .before .before .before .before in
     carried-lined _ _ _ _ (f .before .before .to-rules .ensures) (f .before .field .ensures) (f .field2 .ensures) (c .decide .ensures)

@@ -4,6 +4,12 @@ use Rattle.judge.proofs.Feeds.{refused-fed, lined-fed, sized}
 use Rattle.judge.proofs.feed.feed.Statement.{statement}
 use Rattle.judge.proofs.feed.feed.Tie as tie
 
+returns-2 : tie.Need-returns-2
+returns-2 c =
+    let l = c .before .before .before .before .before .before in
+    let i = l .before .before .before .before in
+    lined-fed _ _ (i .before .table-answer .ensures) (i .if1 .left) (l .line-in .ensures)
+
 pub feed-spec : {M : Type 1} → statement M
 feed-spec =
     tie.close
@@ -17,4 +23,4 @@ feed-spec =
     (λ c. search needs)
     (λ c. search needs)
     (λ c. search needs)
-    (λ c. let l = c .before .before .before .before .before .before in let i = l .before .before .before .before in lined-fed _ _ (i .before .table-answer .ensures) (i .if1 .left) (l .line-in .ensures)))
+    returns-2)

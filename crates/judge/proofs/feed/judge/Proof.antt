@@ -59,7 +59,9 @@ judge-spec =
     (λ c. search needs)
     (λ c. search needs)
     (λ c. search needs)
-    (λ c κs. let l = c .before .before .before .before .before .before .before .before .before .before .before in alike-sized (lines-alike _ (l .lines-in .ensures .1)) (fresh-sized (started (l .before .before .before .before) .1)))
+    (λ c κs.
+    let l = c .before .before .before .before .before .before .before .before .before .before .before in
+    alike-sized (lines-alike _ (l .lines-in .ensures .1)) (fresh-sized (started (l .before .before .before .before) .1)))
     (λ c κs. sized (c .before .before) .1)
     (λ c. alike (c .before .before .before) .names-kept)
     (λ c. alike (c .before .before .before) .nums-kept)
