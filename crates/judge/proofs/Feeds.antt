@@ -1,0 +1,315 @@
+-- Laws of lines against the tables: every line keeps the sizes of the three tables, each return of the code is what the definitions say,
+-- and what the loop over the lines of a chunk goes by.
+use mathlib.Core.Path.{_≡_, refl, sym, ap, _∙_}
+use mathlib.Core.Bool.{Bool, true, false, cond}
+use mathlib.Core.List.{List, [], _∷_, _++_}
+use Prim.Native.Nat.{ℕ, zero, suc, _+_, _-_, _≤_, _<_}
+use native.Mathlib.Omega.{arith}
+use lib.Dec.{eqb}
+use lib.ListN.{length, set, take, drop, replicate, length-set, length-drop, length-replicate}
+use lib.Seq.{take-all}
+use borrow.Author.Tests.{eq-eqb, ne-eqb}
+use Rattle.walk.specs.Lines.{wholeLines, usedUp, restOf, lastLine, linesOf}
+use Rattle.walk.proofs.Chunks.{size, rest-drop}
+use Rattle.walk.proofs.Nexts.{Stepped, Rested}
+use Rattle.line.specs.declared.event.Event.{Event as ReadEvent}
+use Rattle.line.specs.declared.reading.Reading.{Reading}
+use Rattle.line.specs.declared.reading.Reading.the-variants.{Version, Comment, TimeScale, Creator, CreationDate, EventLine, Refused}
+use Rattle.line.specs.Part.{fieldOf}
+use Rattle.line.specs.Reading.{readLine}
+use Rattle.rules.specs.declared.place.Place.{Place}
+use Rattle.rules.specs.Lists.{ifZero}
+use Rattle.rules.specs.Trace.{scaleNumber, placed}
+use Rattle.tables.specs.Entry.{namesSize, numsSize, ticksSize, verdictNumber}
+use Rattle.tables.specs.Range.{isSized, tableAnswer}
+use Rattle.tables.specs.Fresh.{Cleared, cleared, clearedOf}
+use Rattle.tables.proofs.Valid.{valid, sizes-mean}
+use Rattle.judge.specs.declared.happening.Happening.{Happening}
+use Rattle.judge.specs.declared.decide.Plan.{Plan}
+use Rattle.judge.specs.declared.decide.Plan.the-variants.{Refuse, Take}
+use Rattle.judge.specs.declared.sight.Sight.{Sight}
+use Rattle.judge.specs.declared.feed.Verdict.{Verdict}
+use Rattle.judge.specs.Happening.{happeningOf, asEvent}
+use Rattle.judge.specs.Decide.{planOf}
+use Rattle.judge.specs.Store.{takenNames, takenNums, takenTicks}
+use Rattle.judge.specs.Feed.{Tables, tables, After, after, placeIn, remembered, counted, carried, eventLined, readLined, placedLine, lined, fedLine, allLined, chunked, fedChunk, verdict, verdictIn, verdictOf, freshTables, AfterTrace, traced, judgedTrace}
+use Rattle.judge.proofs.Stores.{length-takenNames, length-takenNums, length-takenTicks}
+
+-- ---- sizes
+
+pub record Alike (t u : Tables) : Type 0 where
+  pub names-kept : length (u .names) ≡ length (t .names)
+  pub nums-kept : length (u .nums) ≡ length (t .nums)
+  pub ticks-kept : length (u .ticks) ≡ length (t .ticks)
+
+same : (t : Tables) → Alike t t
+same t = record { names-kept = refl; nums-kept = refl; ticks-kept = refl }
+
+chain : {t u v : Tables} → Alike t u → Alike u v → Alike t v
+chain a b =
+    record {
+      names-kept = b .names-kept ∙ a .names-kept;
+      nums-kept = b .nums-kept ∙ a .nums-kept;
+      ticks-kept = b .ticks-kept ∙ a .ticks-kept;
+    }
+
+pub length-remembered : (nums : List ℕ) (n : ℕ) → length (remembered nums n) ≡ length nums
+unfolding remembered
+length-remembered nums n = simp length-set
+
+pub length-counted : (nums : List ℕ) → length (counted nums) ≡ length nums
+unfolding counted
+length-counted nums = simp length-set
+
+-- only nums changes
+only-nums : (t : Tables) (m : List ℕ) → length m ≡ length (t .nums) → Alike t (tables (t .names) m (t .ticks))
+only-nums t m e = record { names-kept = refl; nums-kept = e; ticks-kept = refl }
+
+carried-alike : (p : Plan) (t : Tables) (h : Happening) (source target : List ℕ) → Alike t (carried p t h source target .left)
+carried-alike (Refuse n) t h source target = only-nums t (remembered (t .nums) n) (length-remembered (t .nums) n)
+carried-alike (Take s state) t h source target =
+    record {
+      names-kept = length-takenNames (t .names) (t .nums) s (asEvent h source target);
+      nums-kept = length-takenNums (t .nums) s state h (length source) (length target);
+      ticks-kept = length-takenTicks (t .ticks) (t .nums) s (h .kind) (h .time);
+    }
+
+eventLined-alike : (t : Tables) (l : List ℕ) (e : ReadEvent) (count : ℕ) → Alike t (eventLined t l e count .left)
+unfolding eventLined
+eventLined-alike t l e count =
+    let h = happeningOf e count in
+    carried-alike (planOf (t .names) (t .nums) (t .ticks) (asEvent h (fieldOf l 2) (fieldOf l 5))) t h (fieldOf l 2) (fieldOf l 5)
+
+pub length-entry : (nums : List ℕ) (i v : ℕ) → length (counted (set nums i v)) ≡ length nums
+length-entry nums i v = length-counted (set nums i v) ∙ length-set nums i v
+
+readLined-alike : (r : Reading) (t : Tables) (l : List ℕ) → Alike t (readLined r t l .left)
+readLined-alike Version t l = only-nums t (counted (t .nums)) (length-counted (t .nums))
+readLined-alike Comment t l = only-nums t (counted (t .nums)) (length-counted (t .nums))
+readLined-alike (TimeScale s) t l = only-nums t (counted (set (t .nums) 3 (scaleNumber s))) (length-entry (t .nums) 3 (scaleNumber s))
+readLined-alike Creator t l = only-nums t (counted (set (t .nums) 4 1)) (length-entry (t .nums) 4 1)
+readLined-alike CreationDate t l = only-nums t (counted (set (t .nums) 5 1)) (length-entry (t .nums) 5 1)
+readLined-alike (EventLine e count) t l = eventLined-alike t l e count
+readLined-alike (Refused n) t l = same t
+
+placedLine-alike : (n : ℕ) (t : Tables) (l : List ℕ) → Alike t (placedLine n t l .left)
+unfolding placedLine
+placedLine-alike zero t l = readLined-alike (readLine l) t l
+placedLine-alike (suc n) t l = only-nums t (remembered (t .nums) (suc n)) (length-remembered (t .nums) (suc n))
+
+either-alike : (b : Bool) (t : Tables) (x y : After) → Alike t (x .left) → Alike t (y .left) → Alike t (cond b x y .left)
+either-alike true t x y p q = p
+either-alike false t x y p q = q
+
+pub lined-alike : (t : Tables) (l : List ℕ) → Alike t (lined t l .left)
+unfolding lined
+lined-alike t l =
+    let n = placed (placeIn (t .nums)) (readLine l) in
+    either-alike (eqb (verdictNumber (t .nums)) 0) t (placedLine n t l) (after (verdictNumber (t .nums)) (t .names) (t .nums) (t .ticks)) (placedLine-alike n t l) (same t)
+
+pub allLined-alike : (t : Tables) (ls : List (List ℕ)) → Alike t (allLined t ls)
+unfolding allLined
+allLined-alike t [] = same t
+allLined-alike t (l ∷ ls) = chain (lined-alike t l) (allLined-alike (lined t l .left) ls)
+
+-- the sizes that the format gives
+abbrev pub Sized : Tables → Type 0
+Sized t = (length (t .names) ≡ namesSize) × ((length (t .nums) ≡ numsSize) × (length (t .ticks) ≡ ticksSize))
+
+pub alike-sized : {t u : Tables} → Alike t u → Sized t → Sized u
+alike-sized a s = (a .names-kept ∙ s .0, (a .nums-kept ∙ s .1 .0, a .ticks-kept ∙ s .1 .1))
+
+pub sized-alike : (t u : Tables) → Sized t → Sized u → Alike t u
+sized-alike t u s z = record { names-kept = z .0 ∙ sym (s .0); nums-kept = z .1 .0 ∙ sym (s .1 .0); ticks-kept = z .1 .1 ∙ sym (s .1 .1) }
+
+pub fresh-sized : {t : Tables} → t ≡ freshTables → Sized t
+fresh-sized e = rw e (length-replicate {A = ℕ} namesSize 0, (length-replicate {A = ℕ} numsSize 0, length-replicate {A = ℕ} ticksSize 0))
+
+-- what a call left is as its contract says
+left-alike : {t : Tables} {x y : After} → x ≡ y → Alike t (y .left) → Alike t (x .left)
+left-alike e a = rw e a
+
+pub lines-alike : {t u : Tables} (ls : List (List ℕ)) → u ≡ allLined t ls → Alike t u
+lines-alike {t} ls e = rw e (allLined-alike t ls)
+
+pub same-tables : {a b d x y z : List ℕ} → a ≡ x → b ≡ y → d ≡ z → tables a b d ≡ tables x y z
+same-tables p q r = rw (p, q, r)
+
+-- ---- the two arms of a number
+
+if-some : {A : Type 0} (n : ℕ) (x y : A) → (n ≡ 0 → ⊥) → y ≡ ifZero n x y
+if-some zero x y h = absurd (h refl)
+if-some (suc n) x y h = refl
+
+-- ---- an event line
+
+module _ (t : Tables) where
+  pub refused-carried : {p : Plan} {r n : ℕ} {m : List ℕ} (h : Happening) (source target : List ℕ) → p ≡ Refuse n → r ≡ n → m ≡ remembered (t .nums) n
+      → after r (t .names) m (t .ticks) ≡ carried p t h source target
+  refused-carried h source target p r m = rw (p, r, m)
+
+  pub taken-carried : {p : Plan} {s : Sight} {state : ℕ} {a b d : List ℕ} (h : Happening) (source target : List ℕ) → p ≡ Take s state
+      → (a ≡ takenNames (t .names) (t .nums) s (asEvent h source target)) × ((b ≡ takenNums (t .nums) s state h (length source) (length target)) × (d ≡ takenTicks (t .ticks) (t .nums) s (h .kind) (h .time)))
+      → after 0 a b d ≡ carried p t h source target
+  taken-carried h source target p q = rw (p, q .0, q .1 .0, q .1 .1)
+
+  pub carried-lined : {p : Plan} {h : Happening} {source target : List ℕ} (l : List ℕ) (e : ReadEvent) (count : ℕ) → h ≡ happeningOf e count → source ≡ fieldOf l 2 → target ≡ fieldOf l 5
+      → p ≡ planOf (t .names) (t .nums) (t .ticks) (asEvent h source target) → carried p t h source target ≡ eventLined t l e count
+  unfolding eventLined
+  carried-lined l e count ph ps pt pp = rw (pp, ph, ps, pt)
+
+-- ---- a line
+
+module _ (t : Tables) (l : List ℕ) where
+  pub verdict-again : (verdictNumber (t .nums) ≡ 0 → ⊥) → after (verdictNumber (t .nums)) (t .names) (t .nums) (t .ticks) ≡ lined t l
+  unfolding lined
+  verdict-again h = rw (ne-eqb (verdictNumber (t .nums)) 0 h)
+
+  pub placed-lined : {p : Place} {r : Reading} {n : ℕ} → verdictNumber (t .nums) ≡ 0 → p ≡ placeIn (t .nums) → r ≡ readLine l → n ≡ placed p r → placedLine n t l ≡ lined t l
+  unfolding lined
+  placed-lined h pp pr pn = rw (eq-eqb (verdictNumber (t .nums)) 0 h, pn, pp, pr)
+
+  pub refused-placed : {r n : ℕ} {m : List ℕ} → (n ≡ 0 → ⊥) → r ≡ n → m ≡ remembered (t .nums) n → after r (t .names) m (t .ticks) ≡ placedLine n t l
+  unfolding placedLine
+  refused-placed {r} {n} h pr pm = rw (pr, pm) (if-some n (readLined (readLine l) t l) (after n (t .names) (remembered (t .nums) n) (t .ticks)) h)
+
+  pub read-placed : {x : After} {r : Reading} {n : ℕ} → n ≡ 0 → r ≡ readLine l → x ≡ readLined r t l → x ≡ placedLine n t l
+  unfolding placedLine
+  read-placed h pr px = rw (h, ← pr) px
+
+-- ---- the tables tested first
+
+module _ (t : Tables) where
+  abbrev answer : ℕ
+  answer = tableAnswer (t .names) (t .nums) (t .ticks)
+
+  pub sized : {r : ℕ} → r ≡ answer → r ≡ 0 → Sized t
+  sized e z =
+      let v = valid (t .names) (t .nums) (t .ticks) (sym e ∙ z) .sizes in
+      (v .names-size, (v .nums-size, v .ticks-size))
+
+  pub refused-fed : {r : ℕ} (l : List ℕ) → r ≡ answer → (r ≡ 0 → ⊥) → after r (t .names) (t .nums) (t .ticks) ≡ fedLine t l
+  unfolding fedLine
+  refused-fed {r} l e h = rw (← e) (if-some r (lined t l) (after r (t .names) (t .nums) (t .ticks)) h)
+
+  pub lined-fed : {r : ℕ} {x : After} (l : List ℕ) → r ≡ answer → r ≡ 0 → x ≡ lined t l → x ≡ fedLine t l
+  unfolding fedLine
+  lined-fed l e z p = rw (← e, z) p
+
+  pub refused-chunk : {r : ℕ} (s : List ℕ) → r ≡ answer → (r ≡ 0 → ⊥)
+      → chunked (record { answer = r; used = 0 }) (t .names) (t .nums) (t .ticks) ≡ fedChunk t s
+  unfolding fedChunk
+  refused-chunk {r} s e h =
+      let u = allLined t (wholeLines s) in
+      rw (← e)
+      (if-some r (chunked (record { answer = verdictNumber (u .nums); used = usedUp s }) (u .names) (u .nums) (u .ticks))
+      (chunked (record { answer = r; used = 0 }) (t .names) (t .nums) (t .ticks)) h)
+
+  pub lined-chunk : {r n : ℕ} {u : Tables} (s : List ℕ) → r ≡ answer → r ≡ 0 → n ≡ usedUp s → u ≡ allLined t (wholeLines s)
+      → chunked (record { answer = verdictNumber (u .nums); used = n }) (u .names) (u .nums) (u .ticks) ≡ fedChunk t s
+  unfolding fedChunk
+  lined-chunk s e z pn pu = rw (← e, z, pn, pu)
+
+  pub unsized-verdict : {r : ℕ} → r ≡ answer → (r ≡ 0 → ⊥) → verdict r 0 0 0 ≡ verdictOf t
+  unfolding verdictOf
+  unsized-verdict {r} e h = rw (← e) (if-some r (verdictIn (t .nums) (t .ticks)) (verdict r 0 0 0) h)
+
+  pub now-verdict : {r : ℕ} {v : Verdict} → r ≡ answer → r ≡ 0 → v ≡ verdictIn (t .nums) (t .ticks) → v ≡ verdictOf t
+  unfolding verdictOf
+  now-verdict e z p = rw (← e, z) p
+
+-- ---- the loop over the lines of a chunk: what is left to do from the index on gives what all lines give
+
+pub record Going (t u : Tables) (s : List ℕ) (at : ℕ) : Type 0 where
+  pub inside : at ≤ length s
+  pub alike : Alike t u
+  pub used : at + usedUp (drop at s) ≡ usedUp s
+  pub lines : allLined u (wholeLines (drop at s)) ≡ allLined t (wholeLines s)
+
+pub going-start : (t : Tables) (s : List ℕ) → Going t t s 0
+going-start t s = record { inside = omega arith; alike = same t; used = omega arith; lines = refl }
+
+pub going-on : {t u : Tables} {s : List ℕ} {at e n : ℕ} {x : After} → Going t u s at → Stepped s at e n → x ≡ lined u (take (e - at) (drop at s)) → Going t (x .left) s n
+unfolding allLined
+going-on {t} {u} {s} {at} {e} {n} {x} g d p =
+    record {
+      inside = d .within;
+      alike = chain (g .alike) (left-alike p (lined-alike u (take (e - at) (drop at s))));
+      used = sym (d .used) ∙ g .used;
+      lines = rw p (sym (ap (allLined u) (d .whole)) ∙ g .lines);
+    }
+
+pub going-end : {t u : Tables} {s : List ℕ} {at : ℕ} → Going t u s at → Rested s at → (at ≡ usedUp s) × (u ≡ allLined t (wholeLines s))
+unfolding allLined
+going-end {t} {u} g r = (omega (arith, r .used, g .used), sym (ap (allLined u) (r .whole)) ∙ g .lines)
+
+-- ---- a whole trace: the whole lines, and the rest where there is one
+
+pub allLined-append : (t : Tables) (ls ms : List (List ℕ)) → allLined t (ls ++ ms) ≡ allLined (allLined t ls) ms
+unfolding allLined
+allLined-append t [] ms = refl
+allLined-append t (l ∷ ls) ms = allLined-append (lined t l .left) ls ms
+
+-- a rest that is not empty is one line
+last-one : (t : Tables) (r : List ℕ) → 0 < length r → allLined t (lastLine r) ≡ lined t r .left
+unfolding allLined
+last-one t [] h = absurd (omega (arith, h))
+last-one t (x ∷ r) h = refl
+
+last-none : (t : Tables) (r : List ℕ) → length r ≤ 0 → allLined t (lastLine r) ≡ t
+unfolding allLined
+last-none t [] h = refl
+last-none t (x ∷ r) h = absurd (omega (arith, h))
+
+module _ (t : Tables) (s : List ℕ) where
+  lines-split : {u : Tables} → u ≡ allLined t (wholeLines s) → allLined u (lastLine (restOf s)) ≡ allLined t (linesOf s)
+  unfolding linesOf
+  lines-split e = rw e (sym (allLined-append t (wholeLines s) (lastLine (restOf s))))
+
+  pub rest-lined : {n : ℕ} {u : Tables} {x : After} → n ≡ usedUp s → u ≡ allLined t (wholeLines s) → n < length s → x ≡ lined u (take (length s - n) (drop n s))
+      → x .left ≡ allLined t (linesOf s)
+  rest-lined {n} {u} {x} pn pu h px =
+      let d : take (length s - n) (drop n s) ≡ restOf s = take-all (length s - n) (drop n s) (omega (arith, length-drop n s)) ∙ rw pn (sym (rest-drop s)) in
+      ap (λ (y : After). y .left) px ∙ rw d (sym (last-one u (restOf s) (omega (arith, size s)))) ∙ lines-split pu
+
+  pub all-lined : {n : ℕ} {u : Tables} → n ≡ usedUp s → u ≡ allLined t (wholeLines s) → length s ≤ n → u ≡ allLined t (linesOf s)
+  all-lined {n} {u} pn pu h = sym (last-none u (restOf s) (omega (arith, size s))) ∙ lines-split pu
+
+-- ---- a fresh start
+
+module _ (t : Tables) where
+  abbrev fits : Bool
+  fits = isSized (length (t .names)) (length (t .nums)) (length (t .ticks))
+
+  -- what `clear` left and answered, by its test
+  abbrev by-test : Bool → Cleared
+  by-test b = cond b (cleared 0 (replicate namesSize 0) (replicate numsSize 0) (replicate ticksSize 0)) (cleared 15 (t .names) (t .nums) (t .ticks))
+
+  module _ {r : ℕ} {a b d : List ℕ} where
+    refused-by : (f : Bool) (x : AfterTrace) → cleared r a b d ≡ by-test f → (r ≡ 0 → ⊥) → traced (verdict r 0 0 0) a b d ≡ cond f x (record { judged = verdict 15 0 0 0; left = t })
+    refused-by true x e h = absurd (h (ap (λ (c : Cleared). c .answer) e))
+    refused-by false x e h = ap (λ (c : Cleared). traced (verdict (c .answer) 0 0 0) (c .names) (c .nums) (c .ticks)) e
+
+    pub refused-trace : (s : List ℕ) → cleared r a b d ≡ clearedOf (t .names) (t .nums) (t .ticks) → (r ≡ 0 → ⊥) → traced (verdict r 0 0 0) a b d ≡ judgedTrace t s
+    unfolding clearedOf judgedTrace
+    refused-trace s e h =
+        let u = allLined freshTables (linesOf s) in
+        refused-by fits (traced (verdictIn (u .nums) (u .ticks)) (u .names) (u .nums) (u .ticks)) e h
+
+    fresh-by : (f : Bool) → cleared r a b d ≡ by-test f → r ≡ 0 → (f ≡ true) × (tables a b d ≡ freshTables)
+    fresh-by true e z = (refl, ap (λ (c : Cleared). tables (c .names) (c .nums) (c .ticks)) e)
+    fresh-by false e z = absurd (omega (arith, ap (λ (c : Cleared). c .answer) e, z))
+
+    pub fresh-start : cleared r a b d ≡ clearedOf (t .names) (t .nums) (t .ticks) → r ≡ 0 → (fits ≡ true) × (tables a b d ≡ freshTables)
+    unfolding clearedOf
+    fresh-start e z = fresh-by fits e z
+
+  pub fits-sized : fits ≡ true → Sized t
+  fits-sized f =
+      let z = sizes-mean (t .names) (t .nums) (t .ticks) .holds f in
+      (z .names-size, (z .nums-size, z .ticks-size))
+
+  pub judged-trace : {u : Tables} {v : Verdict} (s : List ℕ) → fits ≡ true → u ≡ allLined freshTables (linesOf s) → v ≡ verdictIn (u .nums) (u .ticks)
+      → traced v (u .names) (u .nums) (u .ticks) ≡ judgedTrace t s
+  unfolding judgedTrace
+  judged-trace s f pu pv = rw (f, pv, pu)

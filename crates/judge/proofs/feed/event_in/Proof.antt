@@ -1,0 +1,50 @@
+-- `judge::feed::event_in` meets its contract: the plan is the definition's, and either arm carries it out. Assumes nothing.
+use mathlib.Core.Path.{_≡_, _∙_}
+use borrow.Author.Needs.{needs}
+use Rattle.judge.specs.Feed.{tables, carried, eventLined}
+use Rattle.judge.proofs.Feeds.{refused-carried, taken-carried, carried-lined}
+use Rattle.judge.proofs.feed.event_in.Statement.{statement}
+use Rattle.judge.proofs.feed.event_in.Tie as tie
+
+-- the plan carried out
+planned : (c : tie.After-decide) →
+    let f = c .before .before .before .before in
+    let a = f .before .before .before .before .before .before .before .args in
+    let t = tables (a .names .now) (a .nums .now) (a .ticks .now) in
+    carried (c .decide .result) t (f .before .before .to-rules .result) (f .before .field .result .now) (f .field2 .result .now) ≡ eventLined t (a .l .now) (a .e) (a .count)
+planned c =
+    let f = c .before .before .before .before in
+    carried-lined _ _ _ _ (f .before .before .to-rules .ensures) (f .before .field .ensures) (f .field2 .ensures) (c .decide .ensures)
+
+returns : tie.Need-returns
+returns c =
+    let r = c .before .before in
+    let p = r .before .before .before in
+    refused-carried _ _ _ _ (p .p .given .1) (r .remember .ensures .0) (r .remember .ensures .1) ∙ planned (p .before .before)
+
+returns-2 : tie.Need-returns-2
+returns-2 c =
+    let t = c .before .before .before .before .before .before in
+    let p = t .before .before .before .before .before in
+    taken-carried _ _ _ _ (p .p2 .given .1) (t .take .ensures) ∙ planned (p .before .before)
+
+pub event-in-spec : {M : Type 1} → statement M
+event-in-spec =
+    tie.close
+    (tie.spec
+    (λ c κs. search needs)
+    (λ c κs. search needs)
+    (λ c κs. search needs)
+    (λ c κs. search needs)
+    (λ c. search needs)
+    (λ c κs. search needs)
+    (λ c. search needs)
+    (λ c κs. search needs)
+    (λ c. search needs)
+    (λ c. search needs)
+    (λ c. search needs)
+    returns
+    (λ c. search needs)
+    (λ c. search needs)
+    (λ c. search needs)
+    returns-2)

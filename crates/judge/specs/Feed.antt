@@ -1,0 +1,155 @@
+-- One line against the tables, many lines, and the verdict if the trace ended now.
+use mathlib.Core.Bool.{Bool, true, false, not, cond}
+use mathlib.Core.List.{List, [], _∷_}
+use Prim.Native.Nat.{ℕ, _+_, _-_, _%_, _^_}
+use lib.Dec.{eqb}
+use lib.ListN.{length, set, replicate}
+use Rattle.walk.specs.Lines.{wholeLines, usedUp, linesOf}
+use Rattle.line.specs.declared.event.Event.{Event as ReadEvent}
+use Rattle.line.specs.declared.reading.Reading.{Reading}
+use Rattle.line.specs.declared.reading.Reading.the-variants.{Version, Comment, TimeScale, Creator, CreationDate, EventLine, Refused}
+use Rattle.line.specs.Part.{fieldOf}
+use Rattle.line.specs.Reading.{readLine}
+use Rattle.rules.specs.declared.place.Place.{Place}
+use Rattle.rules.specs.Lists.{ifZero}
+use Rattle.rules.specs.Trace.{scaleNumber, placed}
+use Rattle.tables.specs.Entry.{namesSize, numsSize, ticksSize, verdictNumber, verdictLine, lineCount, scaleEntry, creatorEntry, dateEntry, startedEntry, firstTime, lastTime}
+use Rattle.tables.specs.Range.{isSized, tableAnswer}
+use Rattle.judge.specs.declared.happening.Happening.{Happening}
+use Rattle.judge.specs.declared.decide.Plan.{Plan}
+use Rattle.judge.specs.declared.decide.Plan.the-variants.{Refuse, Take}
+use Rattle.judge.specs.declared.feed.Fed.{Fed}
+use Rattle.judge.specs.declared.feed.Verdict.{Verdict}
+use Rattle.judge.specs.Happening.{happeningOf, asEvent}
+use Rattle.judge.specs.Decide.{planOf}
+use Rattle.judge.specs.Store.{takenNames, takenNums, takenTicks}
+
+-- the three tables, and an answer with the three tables afterwards
+pub record Tables : Type 0 where
+  pub names : List ℕ
+  pub nums : List ℕ
+  pub ticks : List ℕ
+
+abbrev pub tables : List ℕ → List ℕ → List ℕ → Tables
+tables names nums ticks = record { names = names; nums = nums; ticks = ticks }
+
+pub record After : Type 0 where
+  pub answer : ℕ
+  pub left : Tables
+
+abbrev pub after : ℕ → List ℕ → List ℕ → List ℕ → After
+after r names nums ticks = record { answer = r; left = tables names nums ticks }
+
+-- ---- one line
+
+-- what the lines taken say of the next line's place
+unfoldable pub placeIn : List ℕ → Place
+placeIn nums = record {
+  lines = lineCount nums;
+  scale = scaleEntry nums;
+  creator = not (eqb (creatorEntry nums) 0);
+  date = not (eqb (dateEntry nums) 0);
+  started = not (eqb (startedEntry nums) 0);
+}
+
+-- "A refused line changes nothing but the remembered verdict: number and line, counted from 1."
+unfoldable pub remembered : List ℕ → ℕ → List ℕ
+remembered nums n = set (set nums 0 n) 1 ((lineCount nums + 1) % 2 ^ 32)
+
+unfoldable pub counted : List ℕ → List ℕ
+counted nums = set nums 2 ((lineCount nums + 1) % 2 ^ 32)
+
+-- an event line decided and stored
+abbrev pub carried : Plan → Tables → Happening → List ℕ → List ℕ → After
+carried (Refuse n) t h source target = after n (t .names) (remembered (t .nums) n) (t .ticks)
+carried (Take s state) t h source target =
+    after 0
+    (takenNames (t .names) (t .nums) s (asEvent h source target))
+    (takenNums (t .nums) s state h (length source) (length target))
+    (takenTicks (t .ticks) (t .nums) s (h .kind) (h .time))
+
+unfoldable pub eventLined : Tables → List ℕ → ReadEvent → ℕ → After
+eventLined t l e count =
+    let h = happeningOf e count in
+    carried (planOf (t .names) (t .nums) (t .ticks) (asEvent h (fieldOf l 2) (fieldOf l 5))) t h (fieldOf l 2) (fieldOf l 5)
+
+-- a line in its place, by its reading
+abbrev pub readLined : Reading → Tables → List ℕ → After
+readLined Version t l = after 0 (t .names) (counted (t .nums)) (t .ticks)
+readLined Comment t l = after 0 (t .names) (counted (t .nums)) (t .ticks)
+readLined (TimeScale s) t l = after 0 (t .names) (counted (set (t .nums) 3 (scaleNumber s))) (t .ticks)
+readLined Creator t l = after 0 (t .names) (counted (set (t .nums) 4 1)) (t .ticks)
+readLined CreationDate t l = after 0 (t .names) (counted (set (t .nums) 5 1)) (t .ticks)
+readLined (EventLine e count) t l = eventLined t l e count
+readLined (Refused n) t l = after 0 (t .names) (t .nums) (t .ticks)
+
+unfoldable pub placedLine : ℕ → Tables → List ℕ → After
+placedLine n t l = ifZero n (readLined (readLine l) t l) (after n (t .names) (remembered (t .nums) n) (t .ticks))
+
+-- "Further lines get that verdict again."
+unfoldable pub lined : Tables → List ℕ → After
+lined t l =
+    cond (eqb (verdictNumber (t .nums)) 0) (placedLine (placed (placeIn (t .nums)) (readLine l)) t l)
+    (after (verdictNumber (t .nums)) (t .names) (t .nums) (t .ticks))
+
+-- "the judge tests 15 and 16 before all others"; "15 and 16 write nothing and are not remembered"
+unfoldable pub fedLine : Tables → List ℕ → After
+fedLine t l = ifZero (tableAnswer (t .names) (t .nums) (t .ticks)) (lined t l) (after (tableAnswer (t .names) (t .nums) (t .ticks)) (t .names) (t .nums) (t .ticks))
+
+-- ---- many lines
+
+unfoldable pub allLined : Tables → List (List ℕ) → Tables
+allLined t [] = t
+allLined t (l ∷ ls) = allLined (lined t l .left) ls
+
+-- every whole line of a chunk; the answer is the remembered verdict, 0 where there is none
+pub record AfterChunk : Type 0 where
+  pub fed : Fed
+  pub left : Tables
+
+abbrev pub chunked : Fed → List ℕ → List ℕ → List ℕ → AfterChunk
+chunked f names nums ticks = record { fed = f; left = tables names nums ticks }
+
+unfoldable pub fedChunk : Tables → List ℕ → AfterChunk
+fedChunk t chunk =
+    ifZero (tableAnswer (t .names) (t .nums) (t .ticks))
+    (record {
+      fed = record { answer = verdictNumber (allLined t (wholeLines chunk) .nums); used = usedUp chunk };
+      left = allLined t (wholeLines chunk);
+    })
+    (record { fed = record { answer = tableAnswer (t .names) (t .nums) (t .ticks); used = 0 }; left = t })
+
+-- ---- the verdict if the trace ended now
+
+abbrev pub verdict : ℕ → ℕ → ℕ → ℕ → Verdict
+verdict n l scale span = record { number = n; line = l; scale = scale; span = span }
+
+-- "An empty trace is refusal 2 at line 1. A trace of n taken lines that ends without a scale is refusal 4 at line n + 1."
+unfoldable pub verdictIn : List ℕ → List ℕ → Verdict
+verdictIn nums ticks =
+    let span = lastTime ticks - firstTime ticks in
+    cond (eqb (verdictNumber nums) 0)
+    (cond (eqb (lineCount nums) 0) (verdict 2 1 0 span)
+    (cond (eqb (scaleEntry nums) 0) (verdict 4 ((lineCount nums + 1) % 2 ^ 32) 0 span) (verdict 0 0 (scaleEntry nums) span)))
+    (verdict (verdictNumber nums) (verdictLine nums) (scaleEntry nums) span)
+
+unfoldable pub verdictOf : Tables → Verdict
+verdictOf t = ifZero (tableAnswer (t .names) (t .nums) (t .ticks)) (verdictIn (t .nums) (t .ticks)) (verdict (tableAnswer (t .names) (t .nums) (t .ticks)) 0 0 0)
+
+-- ---- a whole trace from a fresh start
+
+abbrev pub freshTables : Tables
+freshTables = tables (replicate namesSize 0) (replicate numsSize 0) (replicate ticksSize 0)
+
+pub record AfterTrace : Type 0 where
+  pub judged : Verdict
+  pub left : Tables
+
+abbrev pub traced : Verdict → List ℕ → List ℕ → List ℕ → AfterTrace
+traced v names nums ticks = record { judged = v; left = tables names nums ticks }
+
+unfoldable pub judgedTrace : Tables → List ℕ → AfterTrace
+judgedTrace t trace =
+    cond (isSized (length (t .names)) (length (t .nums)) (length (t .ticks)))
+    (let u = allLined freshTables (linesOf trace) in record { judged = verdictIn (u .nums) (u .ticks); left = u })
+    (record { judged = verdict 15 0 0 0; left = t })
