@@ -81,7 +81,7 @@ unseen-opened (suc n) = eqb·suc-zero n
 
 -- ---- the core rule: any core's state, and any class that takes it or not
 
-another-differs : (x : Instance) → sameInstance (another x) x ≡ false
+pub another-differs : (x : Instance) → sameInstance (another x) x ≡ false
 another-differs x = rw (ne-eqb (suc (x .kind)) (x .kind) (λ q. omega arith))
 
 holds-none : (f : Found) → holds f 1 ≡ false

@@ -14,7 +14,7 @@ unfolding ticks
 ticks-add v w [] = refl
 ticks-add v w (e ∷ h) = let i = ticks-add v w h in omega arith
 
-first-le : (e : Event) (h : List Event) → Accepted (e ∷ h) → firstTime e h ≤ e .time
+pub first-le : (e : Event) (h : List Event) → Accepted (e ∷ h) → firstTime e h ≤ e .time
 first-le e [] a = omega arith
 first-le e (d ∷ h) a = omega (arith, first-le d h (a .1), neighbours e d h a)
 

@@ -40,7 +40,7 @@ with-accepted (some e) es = (λ a. a, λ p. p)
 
 -- one more line is kept exactly if it is answered 0
 module _ (h : List (List ℕ)) (l : List ℕ) where
-  kept-next : Kept h → answerAt h l ≡ 0 → Kept (l ∷ h)
+  pub kept-next : Kept h → answerAt h l ≡ 0 → Kept (l ∷ h)
   unfolding answerAt eventsOf
   kept-next k q =
       let z = both-zero (answerInPlace (placeOf h) l) (eventAnswer (eventOfLine l) (eventsOf h)) q in
@@ -87,7 +87,7 @@ unfolding verdictOn
 sound-zero [] h s = scaled-end h (s .scaled)
 sound-zero (l ∷ ls) h s = rw (kept-before h l (earlier-kept ls (l ∷ h) s) .0, verdictOn) (sound-zero ls (l ∷ h) s)
 
-nothing-kept : Kept []
+pub nothing-kept : Kept []
 unfolding eventsOf
 nothing-kept = record { in-place = tt; accepted = tt }
 

@@ -18,7 +18,7 @@ use Rattle.rules.specs.Refusals.{look, secondKind, sourceClash, targetCl
 use Rattle.rules.specs.Verdict.{Accepted}
 use Rattle.rules.proofs.Tests.{both, neither}
 use Rattle.rules.proofs.Sums.{any-more, any-less, any-added, Once, once-added}
-use Rattle.rules.proofs.Answers.{Passed, passed}
+use Rattle.rules.proofs.Answers.{passed}
 use Rattle.rules.proofs.CoreWords.{on-process}
 
 -- the history as it stood after some event of it
@@ -32,48 +32,57 @@ process-tracked : (k : ℕ) → isProcess k ≡ true → isTracked k ≡ true
 unfolding isTracked hasInstances
 process-tracked k p = rw p
 
--- what 9 leaves: a name keeps its kind, and a core line names two things
-agrees : (o : Option ℕ) (j k : ℕ) → differs o k ≡ false → o ≡ some j → j ≡ k
-agrees o j k q r = eqb-true j k (not-false (eqb j k) (rw r at q))
+agrees : (o : Option ℕ) (k j : ℕ) → differs o k ≡ false → o ≡ some j → j ≡ k
+agrees o k j q r = eqb-true j k (not-false (eqb j k) (rw r at q))
 
-module _ (h : List Event) (e : Event) (f : Passed h e) where
+pub target-kind : (h : List Event) (e : Event) → isTracked (e .kind) ≡ true → kindOf (e .target) (e ∷ h) ≡ some (e .kind)
+unfolding kindIn
+target-kind h e t = rw (t, same-refl (e .target))
+
+-- what 9 leaves: the source and the target of a core line are two names, its source is a core, and a name that has a kind keeps it
+module _ (h : List Event) (e : Event) (k : secondKind (look h e) e ≡ false) where
   no-clash : (sourceClash (look h e) e ≡ false) × (targetClash (look h e) e ≡ false)
   unfolding secondKind
-  no-clash = neither (sourceClash (look h e) e) (targetClash (look h e) e) (f .kinds)
+  no-clash = neither (sourceClash (look h e) e) (targetClash (look h e) e) k
 
-  on-core-line : onCore e ≡ true → (differs (kindOf (e .source) h) core ≡ false) × (sameBytes (e .source) (e .target) ≡ false)
+  source-fits : onCore e ≡ true → (differs (kindOf (e .source) h) core ≡ false) × (sameBytes (e .source) (e .target) ≡ false)
   unfolding sourceClash
-  on-core-line o = neither _ _ (rw o at no-clash .0)
+  source-fits o = neither (differs (kindOf (e .source) h) core) _ (rw o at no-clash .0)
 
-  on-target : isTracked (e .kind) ≡ true → differs (kindOf (e .target) h) (e .kind) ≡ false
+  target-fits : isTracked (e .kind) ≡ true → differs (kindOf (e .target) h) (e .kind) ≡ false
   unfolding targetClash
-  on-target t = rw t at no-clash .1
+  target-fits t = rw t at no-clash .1
 
-  pub kind-stays : (n : List ℕ) (k : ℕ) → kindOf n h ≡ some k → kindOf n (e ∷ h) ≡ some k
-  unfolding kindIn
-  kind-stays n k q = by-test (isTracked (e .kind) && sameBytes n (e .target)) refl (onCore e && sameBytes n (e .source)) refl
-    where
-      by-test : (a : Bool) → isTracked (e .kind) && sameBytes n (e .target) ≡ a → (b : Bool) → onCore e && sameBytes n (e .source) ≡ b →
-          orElse (orElse (when a (e .kind)) (when b core)) (kindOf n h) ≡ some k
-      by-test true t b u =
-          let p = both (isTracked (e .kind)) (sameBytes n (e .target)) t in
-          ap some (sym (agrees (kindOf (e .target) h) k (e .kind) (on-target (p .0)) (rw (same-eq n (e .target) (p .1)) at q)))
-      by-test false t true u =
-          let p = both (onCore e) (sameBytes n (e .source)) u in
-          ap some (sym (agrees (kindOf (e .source) h) k core (on-core-line (p .0) .0) (rw (same-eq n (e .source) (p .1)) at q)))
-      by-test false t false u = q
+  pub two-names : onCore e ≡ true → sameBytes (e .source) (e .target) ≡ false
+  two-names o = source-fits o .1
 
-  core-kind : onCore e ≡ true → kindOf (e .source) (e ∷ h) ≡ some core
+  pub source-kind : onCore e ≡ true → kindOf (e .source) (e ∷ h) ≡ some core
   unfolding kindIn
-  core-kind o = rw (on-core-line o .1, o, same-refl (e .source)) (by-test (isTracked (e .kind)))
+  source-kind o = rw (two-names o, o, same-refl (e .source)) (by-test (isTracked (e .kind)))
     where
       by-test : (b : Bool) → orElse (orElse (when (b && false) (e .kind)) (some core)) (kindOf (e .source) h) ≡ some core
       by-test true = refl
       by-test false = refl
 
-  target-kind : onCore e ≡ true → kindOf (e .target) (e ∷ h) ≡ some (e .kind)
+  pub target-is : isTracked (e .kind) ≡ true → (j : ℕ) → kindOf (e .target) h ≡ some j → j ≡ e .kind
+  target-is t j q = agrees (kindOf (e .target) h) (e .kind) j (target-fits t) q
+
+  pub source-is : onCore e ≡ true → (j : ℕ) → kindOf (e .source) h ≡ some j → j ≡ core
+  source-is o j q = agrees (kindOf (e .source) h) core j (source-fits o .0) q
+
+  pub kind-stays : (n : List ℕ) (j : ℕ) → kindOf n h ≡ some j → kindOf n (e ∷ h) ≡ some j
   unfolding kindIn
-  target-kind o = rw (process-tracked (e .kind) (on-process e o), same-refl (e .target))
+  kind-stays n j q = by-test (isTracked (e .kind) && sameBytes n (e .target)) refl (onCore e && sameBytes n (e .source)) refl
+    where
+      by-test : (a : Bool) → isTracked (e .kind) && sameBytes n (e .target) ≡ a → (b : Bool) → onCore e && sameBytes n (e .source) ≡ b →
+          orElse (orElse (when a (e .kind)) (when b core)) (kindOf n h) ≡ some j
+      by-test true t b u =
+          let p = both (isTracked (e .kind)) (sameBytes n (e .target)) t in
+          ap some (sym (target-is (p .0) j (rw (same-eq n (e .target) (p .1)) at q)))
+      by-test false t true u =
+          let p = both (onCore e) (sameBytes n (e .source)) u in
+          ap some (sym (source-is (p .0) j (rw (same-eq n (e .source) (p .1)) at q)))
+      by-test false t false u = q
 
 -- a name with a kind is in the list
 pub kind-named : (h : List Event) (n : List ℕ) → any (sameBytes n) (names h) ≡ false → kindOf n h ≡ none
@@ -96,20 +105,20 @@ Tracked c h unknown = Unit {0}
 Tracked c h idle = kindOf c h ≡ some core
 Tracked c h (held x) = (kindOf c h ≡ some core) × (kindOf (x .name) h ≡ some (x .kind)) × (isProcess (x .kind) ≡ true)
 
-tracked-more : (c : List ℕ) (h : List Event) (e : Event) → Passed h e → (k : Core) → Tracked c h k → Tracked c (e ∷ h) k
+tracked-more : (c : List ℕ) (h : List Event) (e : Event) → secondKind (look h e) e ≡ false → (k : Core) → Tracked c h k → Tracked c (e ∷ h) k
 tracked-more c h e f unknown t = tt
 tracked-more c h e f idle t = kind-stays h e f c core t
 tracked-more c h e f (held x) t = (kind-stays h e f c core (t .0), kind-stays h e f (x .name) (x .kind) (t .1), t .2)
 
-tracked-new : (c : List ℕ) (h : List Event) (e : Event) → Passed h e → (b : Bool) → onCore e ≡ true → c ≡ e .source → Tracked c (e ∷ h) (becomes b (instanceOf e))
-tracked-new c h e f true o q = rw q (core-kind h e f o)
-tracked-new c h e f false o q = (rw q (core-kind h e f o), target-kind h e f o, on-process e o)
+tracked-new : (c : List ℕ) (h : List Event) (e : Event) → secondKind (look h e) e ≡ false → (b : Bool) → onCore e ≡ true → c ≡ e .source → Tracked c (e ∷ h) (becomes b (instanceOf e))
+tracked-new c h e f true o q = rw q (source-kind h e f o)
+tracked-new c h e f false o q = (rw q (source-kind h e f o), target-kind h e (process-tracked (e .kind) (on-process e o)), on-process e o)
 
 pub tracked : (c : List ℕ) (h : List Event) → Accepted h → Tracked c h (coreAt c h)
 tracked c [] a = tt
-tracked c (e ∷ h) a = by-test (onCore e && sameBytes c (e .source)) refl (latest (effectOn c) h) (tracked c h (a .1)) (passed h e (a .0))
+tracked c (e ∷ h) a = by-test (onCore e && sameBytes c (e .source)) refl (latest (effectOn c) h) (tracked c h (a .1)) (passed h e (a .0) .kinds)
   where
-    by-test : (b : Bool) → onCore e && sameBytes c (e .source) ≡ b → (o : Option Core) → Tracked c h (orUnknown o) → Passed h e →
+    by-test : (b : Bool) → onCore e && sameBytes c (e .source) ≡ b → (o : Option Core) → Tracked c h (orUnknown o) → secondKind (look h e) e ≡ false →
         Tracked c (e ∷ h) (orUnknown (orElse (when b (becomes (gives (e .word)) (instanceOf e))) o))
     by-test true q o t f = let p = both (onCore e) (sameBytes c (e .source)) q in tracked-new c h e f (gives (e .word)) (p .0) (same-eq c (e .source) (p .1))
     by-test false q o t f = tracked-more c h e f (orUnknown o) t
@@ -120,7 +129,7 @@ still-accepted g h (before {h = k} s) a = still-accepted g k s (a .1)
 
 pub still-kind : (n : List ℕ) (k : ℕ) (g h : List Event) → Since g h → Accepted h → kindOf n g ≡ some k → kindOf n h ≡ some k
 still-kind n k g h now a q = q
-still-kind n k g h (before {h = j} {e = e} s) a q = kind-stays j e (passed j e (a .0)) n k (still-kind n k g j s (a .1) q)
+still-kind n k g h (before {h = j} {e = e} s) a q = kind-stays j e (passed j e (a .0) .kinds) n k (still-kind n k g j s (a .1) q)
 
 -- ---- each tracked name is listed once
 
