@@ -21,6 +21,7 @@ use crate::sight::tracked;
 use crate::sight::with_instances;
 use rules::chart::Move;
 use rules::chart::chart_step;
+use rules::numbers::CORE;
 use rules::numbers::*;
 use tables::entry::CORES;
 use tables::entry::INSTANCES;
@@ -35,8 +36,6 @@ pub enum Plan {
     Refuse(u32),
     Take(Sight, u32),
 }
-
-const CORE: u32 = 1;
 
 // 8: whether the time is less than that of the event line before.
 fn time_falls(nums: &[u32], ticks: &[u64], time: u64) -> bool

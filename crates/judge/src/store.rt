@@ -13,14 +13,13 @@ use crate::known::one_new;
 use crate::sight::Sight;
 use crate::sight::tracked;
 use crate::sight::with_instances;
+use rules::numbers::CORE;
 use rules::numbers::SEMAPHORE;
 use std::num::wrapping_add_u32;
 use std::num::wrapping_add_u64;
 use tables::entry::*;
 use tables::find::Found;
 use text::put::put_bytes;
-
-const CORE: u32 = 1;
 
 // 1 where the line's core, target or instance is new.
 fn new_core(s: Sight) -> u32

@@ -1,4 +1,6 @@
 // The numbers that stand for kinds, event words and states, as specs/Words.antt has them.
+pub const CORE: u32 = 1;
+
 pub const TASK: u32 = 2;
 
 pub const INTERRUPT: u32 = 3;
