@@ -1,0 +1,297 @@
+-- Stores to the columns and single entries of nums, one after another: each has its value in the entry that it stores to, and every other entry is as
+-- it was.
+use mathlib.Core.Path.{_≡_, refl, sym, ap, _∙_}
+use mathlib.Core.Bool.{Bool, true, false, not, _&&_, _||_, cond, and-true}
+use mathlib.Core.List.{List}
+use Prim.Native.Nat.{ℕ, _+_, _%_, _^_, _≤_, _<_}
+use native.Mathlib.Omega.{arith}
+use lib.Dec.{eqb, leb, ltb}
+use lib.ListN.{length, getD, set, length-set}
+use borrow.Author.Tests.{ne-eqb, eqb-true, eqb-false, leb-true, lt-ltb, ltb-true, ltb-false}
+use Rattle.rules.specs.Words.{core, semaphore}
+use Rattle.rules.specs.Charts.{isProcess}
+use Rattle.rules.specs.History.{hasInstances, activates}
+use Rattle.rules.proofs.Tests.{both}
+use Rattle.tables.specs.Entry.{numsSize, lineCount, nameCount, coreCount, instanceCount}
+use Rattle.tables.specs.Entry.{kindAt, lengthAt, markAt, numberAt, numberedAt, ownerAt, instanceAt, stateAt}
+use Rattle.tables.proofs.Stores.{same, other}
+use Rattle.judge.specs.declared.happening.Happening.{Happening}
+use Rattle.judge.specs.declared.sight.Sight.{Sight}
+use Rattle.judge.specs.Known.{newCore, newName}
+use Rattle.judge.specs.Store.{targetRow, storeRow, storeInstance, storeMark, storeNumber, withRows, withTarget, withCore, withHeads}
+use Rattle.judge.proofs.Stores.{length-storeRow, length-storeMark, length-storeInstance}
+
+-- ---- one store
+
+-- a single entry, after a store to a single entry
+single : (l : List ℕ) (i j v : ℕ) → ltb i numsSize ≡ true → length l ≡ numsSize → getD (set l i v) j 0 ≡ cond (eqb i j) v (getD l j 0)
+single l i j v h z = by-test (eqb i j) refl
+  where
+    by-test : (b : Bool) → eqb i j ≡ b → getD (set l i v) j 0 ≡ cond b v (getD l j 0)
+    by-test true t = rw (← eqb-true i j t) (same l i v (omega (arith, ltb-true i numsSize h)))
+    by-test false t = other l i j v (eqb-false i j t)
+
+-- two columns of n rows in nums, the same or apart
+abbrev apart : ℕ → ℕ → ℕ → Bool
+apart n b d = leb (d + n) numsSize && (eqb b d || (leb (b + n) d || leb (d + n) b))
+
+-- a row of a column, after a store to a row of a column
+column : (n : ℕ) (l : List ℕ) (b d i r v : ℕ) → apart n b d ≡ true → length l ≡ numsSize → i < n → r < n →
+    getD (set l (d + i) v) (b + r) 0 ≡ cond (eqb b d && eqb r i) v (getD l (b + r) 0)
+column n l b d i r v p z hi hr = by-test (eqb b d) refl (eqb r i) refl (both (leb (d + n) numsSize) _ p .1)
+  where
+    bound : d + n ≤ numsSize
+    bound = leb-true (d + n) numsSize (both (leb (d + n) numsSize) _ p .0)
+
+    by-test : (x : Bool) → eqb b d ≡ x → (y : Bool) → eqb r i ≡ y → x || (leb (b + n) d || leb (d + n) b) ≡ true →
+        getD (set l (d + i) v) (b + r) 0 ≡ cond (x && y) v (getD l (b + r) 0)
+    by-test true t true u q = rw (eqb-true b d t, eqb-true r i u) (same l (d + i) v (omega (arith, bound, z)))
+    by-test true t false u q = other l (d + i) (b + r) v (λ e. eqb-false r i u (omega (arith, eqb-true b d t)))
+    by-test false t y u q = other l (d + i) (b + r) v (by-side (leb (b + n) d) refl q)
+      where
+        by-side : (s : Bool) → leb (b + n) d ≡ s → s || leb (d + n) b ≡ true → d + i ≡ b + r → ⊥
+        by-side true a k e = omega (arith, leb-true (b + n) d a)
+        by-side false a k e = omega (arith, leb-true (d + n) b k)
+
+-- an entry out of the columns from lo up to hi, after a store to one of them
+abbrev pub Outside : ℕ → ℕ → ℕ → Type 0
+Outside lo hi j = lo ≤ j → j < hi → ⊥
+
+beside : (lo hi n : ℕ) (l : List ℕ) (d i j v : ℕ) → leb lo d && leb (d + n) hi ≡ true → Outside lo hi j → i < n → getD (set l (d + i) v) j 0 ≡ getD l j 0
+beside lo hi n l d i j v p out h =
+    let b = both (leb lo d) (leb (d + n) hi) p in
+    other l (d + i) j v (λ e. out (omega (arith, leb-true lo d (b .0))) (omega (arith, leb-true (d + n) hi (b .1))))
+
+-- a store that is made or not
+entry-if : (b : Bool) (x y : List ℕ) (j : ℕ) {v : ℕ} → (b ≡ true → getD x j 0 ≡ v) → (b ≡ false → getD y j 0 ≡ v) → getD (cond b x y) j 0 ≡ v
+entry-if true x y j p q = p refl
+entry-if false x y j p q = q refl
+
+kept-if : (b : Bool) (x l : List ℕ) (j : ℕ) → (b ≡ true → getD x j 0 ≡ getD l j 0) → getD (cond b x l) j 0 ≡ getD l j 0
+kept-if b x l j p = entry-if b x l j p (λ f. refl)
+
+-- made where a test passes, and there at one entry
+made : (b q : Bool) (x l : List ℕ) (j v : ℕ) → (b ≡ true → getD x j 0 ≡ cond q v (getD l j 0)) → getD (cond b x l) j 0 ≡ cond (b && q) v (getD l j 0)
+made true q x l j v p = p refl
+made false q x l j v p = refl
+
+pub length-if : (b : Bool) (x l : List ℕ) → length x ≡ length l → length (cond b x l) ≡ length l
+length-if true x l p = p
+length-if false x l p = refl
+
+-- made only where the row is one of the column
+row-if : (n i : ℕ) (t : Bool) → t ≡ ltb i n → (x l : List ℕ) (b r v : ℕ) → r < n →
+    (i < n → getD x (b + r) 0 ≡ cond (eqb r i) v (getD l (b + r) 0)) → getD (cond t x l) (b + r) 0 ≡ cond (eqb r i) v (getD l (b + r) 0)
+row-if n i t e x l b r v h p =
+    entry-if t x l (b + r) (λ y. p (ltb-true i n (sym e ∙ y))) (λ f. rw (ne-eqb r i (λ q. omega (arith, ltb-false i n (sym e ∙ f)))))
+
+-- ---- the stores to a row of a name
+
+module _ (nums : List ℕ) (z : length nums ≡ numsSize) (i r : ℕ) (h : r < 256) where
+  pub row-kind : (kind n : ℕ) → kindAt (storeRow nums i kind n) r ≡ cond (eqb r i) kind (kindAt nums r)
+  unfolding storeRow
+  row-kind kind n = row-if 256 i (ltb i 256) refl _ nums 10 r kind h (λ k. simp (column 256, length-set, z))
+
+  pub row-length : (kind n : ℕ) → lengthAt (storeRow nums i kind n) r ≡ cond (eqb r i) (n % 2 ^ 32) (lengthAt nums r)
+  unfolding storeRow
+  row-length kind n = row-if 256 i (ltb i 256) refl _ nums 266 r (n % 2 ^ 32) h (λ k. simp (column 256, length-set, z))
+
+  pub row-mark : (kind n : ℕ) → markAt (storeRow nums i kind n) r ≡ cond (eqb r i) 0 (markAt nums r)
+  unfolding storeRow
+  row-mark kind n = row-if 256 i (ltb i 256) refl _ nums 522 r 0 h (λ k. simp (column 256, length-set, z))
+
+  pub row-number : (kind n : ℕ) → numberAt (storeRow nums i kind n) r ≡ cond (eqb r i) 0 (numberAt nums r)
+  unfolding storeRow
+  row-number kind n = row-if 256 i (ltb i 256) refl _ nums 778 r 0 h (λ k. simp (column 256, length-set, z))
+
+  pub row-numbered : (kind n : ℕ) → numberedAt (storeRow nums i kind n) r ≡ cond (eqb r i) 0 (numberedAt nums r)
+  unfolding storeRow
+  row-numbered kind n = row-if 256 i (ltb i 256) refl _ nums 1034 r 0 h (λ k. simp (column 256, length-set, z))
+
+  mark-mark : (v : ℕ) → markAt (storeMark nums i v) r ≡ cond (eqb r i) v (markAt nums r)
+  unfolding storeMark
+  mark-mark v = row-if 256 i (ltb i 256) refl _ nums 522 r v h (λ k. simp (column 256, z))
+
+  pub number-number : (v : ℕ) → numberAt (storeNumber nums i v) r ≡ cond (eqb r i) v (numberAt nums r)
+  unfolding storeNumber
+  number-number v = row-if 256 i (ltb i 256) refl _ nums 778 r v h (λ k. simp (column 256, length-set, z))
+
+  pub number-numbered : (v : ℕ) → numberedAt (storeNumber nums i v) r ≡ cond (eqb r i) 1 (numberedAt nums r)
+  unfolding storeNumber
+  number-numbered v = row-if 256 i (ltb i 256) refl _ nums 1034 r 1 h (λ k. simp (column 256, length-set, z))
+
+module _ (nums : List ℕ) (i j : ℕ) where
+  row-beside : (kind n : ℕ) → Outside 10 1290 j → getD (storeRow nums i kind n) j 0 ≡ getD nums j 0
+  unfolding storeRow
+  row-beside kind n out = kept-if (ltb i 256) _ nums j (λ t. let h = ltb-true i 256 t in simp (beside 10 1290 256))
+
+  mark-beside : (v : ℕ) → Outside 522 778 j → getD (storeMark nums i v) j 0 ≡ getD nums j 0
+  unfolding storeMark
+  mark-beside v out = kept-if (ltb i 256) _ nums j (λ t. let h = ltb-true i 256 t in simp (beside 522 778 256))
+
+  number-beside : (v : ℕ) → Outside 778 1290 j → getD (storeNumber nums i v) j 0 ≡ getD nums j 0
+  unfolding storeNumber
+  number-beside v out = kept-if (ltb i 256) _ nums j (λ t. let h = ltb-true i 256 t in simp (beside 778 1290 256))
+
+  instance-beside : (owner number state : ℕ) → Outside 1290 numsSize j → getD (storeInstance nums i owner number state) j 0 ≡ getD nums j 0
+  unfolding storeInstance
+  instance-beside owner number state out =
+      kept-if (ltb i 1024 && ltb owner 256) _ nums j (λ t. let h = ltb-true i 1024 (both (ltb i 1024) _ t .0) in simp (beside 1290 numsSize 1024))
+
+-- ---- the stores to a row of an instance
+
+module _ (nums : List ℕ) (z : length nums ≡ numsSize) (i owner q : ℕ) (o : owner < 256) (h : q < 1024) (number state : ℕ) where
+  tested : ltb i 1024 && ltb owner 256 ≡ ltb i 1024
+  tested = rw (lt-ltb owner 256 o) (and-true (ltb i 1024))
+
+  pub instance-owner : ownerAt (storeInstance nums i owner number state) q ≡ cond (eqb q i) owner (ownerAt nums q)
+  unfolding storeInstance
+  instance-owner = row-if 1024 i (ltb i 1024 && ltb owner 256) tested _ nums 1290 q owner h (λ k. simp (column 1024, length-set, z))
+
+  pub instance-number : instanceAt (storeInstance nums i owner number state) q ≡ cond (eqb q i) number (instanceAt nums q)
+  unfolding storeInstance
+  instance-number = row-if 1024 i (ltb i 1024 && ltb owner 256) tested _ nums 2314 q number h (λ k. simp (column 1024, length-set, z))
+
+  pub instance-state : stateAt (storeInstance nums i owner number state) q ≡ cond (eqb q i) state (stateAt nums q)
+  unfolding storeInstance
+  instance-state = row-if 1024 i (ltb i 1024 && ltb owner 256) tested _ nums 3338 q state h (λ k. simp (column 1024, length-set, z))
+
+-- ---- the rows of new names
+
+-- the row r is that of the line's new core, or of its new target
+abbrev pub isNewCore : List ℕ → Sight → ℕ → Bool
+isNewCore nums s r = eqb (newCore s) 1 && eqb r (nameCount nums)
+
+abbrev pub isNewTarget : List ℕ → Sight → ℕ → ℕ → Bool
+isNewTarget nums s kind r = eqb (newName s kind) 1 && eqb r (targetRow nums s)
+
+-- what a new row has in the column from d on, by its kind and length
+abbrev pub Fills : ℕ → (ℕ → ℕ → ℕ) → Type 0
+Fills d value = (l : List ℕ) → length l ≡ numsSize → (i r : ℕ) → r < 256 → (kind n : ℕ) →
+    getD (storeRow l i kind n) (d + r) 0 ≡ cond (eqb r i) (value kind n) (getD l (d + r) 0)
+
+module _ (nums : List ℕ) (z : length nums ≡ numsSize) (s : Sight) (kind n m : ℕ) where
+  pub rows-stored : (d : ℕ) (value : ℕ → ℕ → ℕ) → Fills d value → (r : ℕ) → r < 256 →
+      getD (withRows nums s kind n m) (d + r) 0
+      ≡ cond (isNewTarget nums s kind r) (value kind m) (cond (isNewCore nums s r) (value core n) (getD nums (d + r) 0))
+  unfolding withRows
+  rows-stored d value f r h =
+      let first = storeRow nums (nameCount nums) core n in
+      let one = cond (eqb (newCore s) 1) first nums in
+      let y : length one ≡ numsSize = length-if (eqb (newCore s) 1) first nums (length-storeRow nums (nameCount nums) core n) ∙ z in
+      made (eqb (newName s kind) 1) (eqb r (targetRow nums s)) (storeRow one (targetRow nums s) kind m) one (d + r) (value kind m) (λ t. f one y (targetRow nums s) r h kind m)
+      ∙ ap (cond (isNewTarget nums s kind r) (value kind m))
+      (made (eqb (newCore s) 1) (eqb r (nameCount nums)) first nums (d + r) (value core n) (λ t. f nums z (nameCount nums) r h core n))
+
+  pub rows-beside : (j : ℕ) → Outside 10 1290 j → getD (withRows nums s kind n m) j 0 ≡ getD nums j 0
+  unfolding withRows
+  rows-beside j out =
+      let one = cond (eqb (newCore s) 1) (storeRow nums (nameCount nums) core n) nums in
+      kept-if (eqb (newName s kind) 1) (storeRow one (targetRow nums s) kind m) one j (λ t. row-beside one (targetRow nums s) j kind m out)
+      ∙ kept-if (eqb (newCore s) 1) _ nums j (λ t. row-beside nums (nameCount nums) j core n out)
+
+-- ---- the state, number and instance of the target
+
+-- a semaphore has no instances, and its events are no activations
+no-instances : (k : ℕ) → eqb k semaphore ≡ true → hasInstances k ≡ false
+unfolding hasInstances isProcess
+no-instances k e = rw (eqb-true k semaphore e)
+
+no-activation : (k a : ℕ) → eqb k semaphore ≡ true → activates k a ≡ false
+unfolding activates isProcess
+no-activation k a e = rw (eqb-true k semaphore e)
+
+-- what a new number leaves in the column from d on
+abbrev pub Counts : ℕ → (ℕ → ℕ) → Type 0
+Counts d value = (l : List ℕ) → length l ≡ numsSize → (i r : ℕ) → r < 256 → (c : ℕ) →
+    getD (storeNumber l i c) (d + r) 0 ≡ cond (eqb r i) (value c) (getD l (d + r) 0)
+
+module _ (nums : List ℕ) (z : length nums ≡ numsSize) (i j t : ℕ) (w : Happening) where
+  -- after the instance, and then the number, of a process or runnable
+  abbrev one : List ℕ
+  one = cond (hasInstances (w .kind)) (storeInstance nums j i (w .number) t) nums
+
+  abbrev two : List ℕ
+  two = cond (activates (w .kind) (w .word)) (storeNumber one i (w .number)) one
+
+  one-size : length one ≡ numsSize
+  one-size = length-if (hasInstances (w .kind)) _ nums (length-storeInstance nums j i (w .number) t) ∙ z
+
+  one-beside : (x : ℕ) → Outside 1290 numsSize x → getD one x 0 ≡ getD nums x 0
+  one-beside x out = kept-if (hasInstances (w .kind)) _ nums x (λ e. instance-beside nums j x i (w .number) t out)
+
+  two-beside : (x : ℕ) → Outside 778 1290 x → getD two x 0 ≡ getD one x 0
+  two-beside x out = kept-if (activates (w .kind) (w .word)) _ one x (λ e. number-beside one i x (w .number) out)
+
+  pub target-beside : (x : ℕ) → Outside 522 numsSize x → getD (withTarget nums i j t w) x 0 ≡ getD nums x 0
+  unfolding withTarget
+  target-beside x out =
+      entry-if (eqb (w .kind) semaphore) (storeNumber (storeMark nums i t) i (w .count)) two x
+      (λ e. number-beside (storeMark nums i t) i x (w .count) (λ l u. out (omega arith) (omega arith)) ∙ mark-beside nums i x t (λ l u. out (omega arith) (omega arith)))
+      (λ e. two-beside x (λ l u. out (omega arith) (omega arith)) ∙ one-beside x (λ l u. out (omega arith) (omega arith)))
+
+  pub target-mark : (r : ℕ) → r < 256 → markAt (withTarget nums i j t w) r ≡ cond (eqb (w .kind) semaphore && eqb r i) t (markAt nums r)
+  unfolding withTarget
+  target-mark r h =
+      entry-if (eqb (w .kind) semaphore) (storeNumber (storeMark nums i t) i (w .count)) two (522 + r)
+      (λ e. rw e (number-beside (storeMark nums i t) i (522 + r) (w .count) (λ l u. omega arith) ∙ mark-mark nums z i r h t))
+      (λ e. rw e (two-beside (522 + r) (λ l u. omega arith) ∙ one-beside (522 + r) (λ l u. omega arith)))
+
+  pub target-number : (d : ℕ) (value : ℕ → ℕ) → Counts d value → 778 ≤ d → d ≤ 1034 → (r : ℕ) → r < 256 →
+      getD (withTarget nums i j t w) (d + r) 0
+      ≡ cond (eqb (w .kind) semaphore && eqb r i) (value (w .count)) (cond (activates (w .kind) (w .word) && eqb r i) (value (w .number)) (getD nums (d + r) 0))
+  unfolding withTarget
+  target-number d value f lo hi r h =
+      entry-if (eqb (w .kind) semaphore) (storeNumber (storeMark nums i t) i (w .count)) two (d + r)
+      (λ e. rw (e, no-activation (w .kind) (w .word) e)
+      (f (storeMark nums i t) (length-storeMark nums i t ∙ z) i r h (w .count)
+      ∙ ap (cond (eqb r i) (value (w .count))) (mark-beside nums i (d + r) t (λ l u. omega arith))))
+      (λ e. rw e
+      (made (activates (w .kind) (w .word)) (eqb r i) _ one (d + r) (value (w .number)) (λ y. f one one-size i r h (w .number))
+      ∙ ap (cond (activates (w .kind) (w .word) && eqb r i) (value (w .number))) (one-beside (d + r) (λ l u. omega arith))))
+
+  pub target-instance : (d q v : ℕ) → 1290 ≤ d →
+      (hasInstances (w .kind) ≡ true → getD (storeInstance nums j i (w .number) t) (d + q) 0 ≡ cond (eqb q j) v (getD nums (d + q) 0)) →
+      getD (withTarget nums i j t w) (d + q) 0 ≡ cond (hasInstances (w .kind) && eqb q j) v (getD nums (d + q) 0)
+  unfolding withTarget
+  target-instance d q v lo f =
+      entry-if (eqb (w .kind) semaphore) (storeNumber (storeMark nums i t) i (w .count)) two (d + q)
+      (λ e. rw (no-instances (w .kind) e)
+      (number-beside (storeMark nums i t) i (d + q) (w .count) (λ l u. omega arith) ∙ mark-beside nums i (d + q) t (λ l u. omega arith)))
+      (λ e. two-beside (d + q) (λ l u. omega arith) ∙ made (hasInstances (w .kind)) (eqb q j) _ nums (d + q) v f)
+
+-- ---- the state of the core
+
+module _ (nums : List ℕ) (class i j : ℕ) where
+  pub core-beside : (x : ℕ) → Outside 522 778 x → getD (withCore nums class i j) x 0 ≡ getD nums x 0
+  unfolding withCore
+  core-beside x out =
+      entry-if (eqb class 0) nums _ x (λ e. refl)
+      (λ e. entry-if (eqb class 2) (storeMark nums i 1) _ x (λ f. mark-beside nums i x 1 out)
+      (λ f. kept-if (ltb j 1024) (storeMark nums i (j + 2)) nums x (λ g. mark-beside nums i x (j + 2) out)))
+
+  pub core-mark : length nums ≡ numsSize → (eqb class 0 ≡ false → j < 1024) → (r : ℕ) → r < 256 →
+      markAt (withCore nums class i j) r ≡ cond (not (eqb class 0) && eqb r i) (cond (eqb class 2) 1 (j + 2)) (markAt nums r)
+  unfolding withCore
+  core-mark z k r h =
+      entry-if (eqb class 0) nums _ (522 + r) (λ e. rw e)
+      (λ e. rw (e, lt-ltb j 1024 (k e))
+      (entry-if (eqb class 2) (storeMark nums i 1) (storeMark nums i (j + 2)) (522 + r)
+      (λ f. rw f (mark-mark nums z i r h 1))
+      (λ f. rw f (mark-mark nums z i r h (j + 2)))))
+
+-- ---- the single entries
+
+below : (l : List ℕ) (k j v : ℕ) → ltb k 10 ≡ true → 10 ≤ j → getD (set l k v) j 0 ≡ getD l j 0
+below l k j v p h = other l k j v (λ e. omega (arith, ltb-true k 10 p))
+
+module _ (nums : List ℕ) (a b d : ℕ) where
+  pub heads-beside : (j : ℕ) → 10 ≤ j → getD (withHeads nums a b d) j 0 ≡ getD nums j 0
+  unfolding withHeads
+  heads-beside j h = simp below
+
+  pub heads-stored : length nums ≡ numsSize → (j : ℕ) → getD (withHeads nums a b d) j 0 ≡
+      cond (eqb 9 j) ((instanceCount nums + d) % 2 ^ 32)
+      (cond (eqb 8 j) ((coreCount nums + b) % 2 ^ 32) (cond (eqb 7 j) ((nameCount nums + a) % 2 ^ 32) (cond (eqb 6 j) 1 (cond (eqb 2 j) ((lineCount nums + 1) % 2 ^ 32) (getD nums j 0)))))
+  unfolding withHeads
+  heads-stored z j = simp (single, length-set, z)

@@ -1,0 +1,26 @@
+-- Where an element stands in a list.
+use mathlib.Core.Bool.{Bool, cond}
+use mathlib.Core.List.{List, [], _∷_}
+use Prim.Native.Nat.{ℕ, suc}
+use Rattle.text.specs.Bytes.{sameBytes}
+use Rattle.rules.specs.Lists.{any}
+use Rattle.rules.specs.Event.{Event, Instance, sameInstance}
+use Rattle.rules.specs.History.{names, instances}
+use Rattle.tables.specs.declared.find.Found.{Found}
+use Rattle.tables.specs.declared.find.Found.the-variants.{At, Nothing}
+
+module _ {A : Type 0} where
+  -- the place of the first element that passes the test; the length where none does
+  unfoldable pub place : (A → Bool) → List A → ℕ
+  place f [] = 0
+  place f (x ∷ xs) = cond (f x) 0 (suc (place f xs))
+
+  unfoldable pub seek : (A → Bool) → List A → Found
+  seek f xs = cond (any f xs) (At (place f xs)) Nothing
+
+-- the rows of a name and of an instance: "in order of first mention"
+abbrev pub rowOf : List Event → List ℕ → ℕ
+rowOf h n = place (sameBytes n) (names h)
+
+abbrev pub instanceRowOf : List Event → Instance → ℕ
+instanceRowOf h x = place (sameInstance x) (instances h)

@@ -1,0 +1,1 @@
+// Laws only: the tables of the judge agree with the history of the lines taken.
