@@ -1,0 +1,7 @@
+-- The laws of the charge sheet.
+pub mod Texts
+pub mod Written
+pub mod Rows
+pub mod Figures
+pub mod ShownRows
+pub mod Demand

@@ -1,0 +1,55 @@
+-- What writing a sheet leaves, by the answer on the tables and by the room in the output; and that each section has room where the sheet has.
+use mathlib.Core.Path.{_≡_, refl, ap, _∙_}
+use mathlib.Core.List.{List, [], _∷_, _++_}
+use Prim.Native.Nat.{ℕ, zero, suc, _+_, _≤_, _<_}
+use native.Mathlib.Omega.{arith}
+use lib.Dec.{leb}
+use lib.ListN.{length, length-append}
+use borrow.Author.Tests.{le-leb, lt-leb}
+use Rattle.text.specs.Put.{written, Put, after, put}
+use Rattle.text.proofs.Writes.{put-fits}
+use Rattle.line.proofs.Texts.{Room}
+use Rattle.rules.specs.Lists.{ifZero}
+use Rattle.tables.specs.Range.{tableAnswer}
+use Rattle.sheet.specs.declared.section.Section.{Section}
+use Rattle.sheet.specs.declared.section.Section.the-variants.{Cores, Processes}
+use Rattle.sheet.specs.declared.sheet.Printed.the-variants.{Done, NotPrinted}
+use Rattle.sheet.specs.Text.{sectionText, sheetText}
+use Rattle.sheet.specs.Sheet.{rowsIn, sheetIn, title, Sheeted, sheeted, sheetWritten}
+
+if-some : {A : Type 0} (n : ℕ) (x y : A) → (n ≡ 0 → ⊥) → ifZero n x y ≡ y
+if-some zero x y h = absurd (h refl)
+if-some (suc n) x y h = refl
+
+module _ (names nums ticks : List ℕ) where
+  abbrev pub sectionIn : Section → List ℕ
+  sectionIn s = sectionText (title s) (rowsIn s names nums ticks)
+
+  abbrev text : List ℕ
+  text = sheetText (sheetIn names nums ticks)
+
+  -- the sheet is its two sections
+  pub two-sections : text ≡ sectionIn Cores ++ sectionIn Processes
+  unfolding sheetText sheetIn
+  two-sections = refl
+
+  pub sheet-length : length text ≡ length (sectionIn Cores) + length (sectionIn Processes)
+  sheet-length = rw two-sections (length-append (sectionIn Cores) (sectionIn Processes))
+
+  pub sheet-room : (out : List ℕ) → length text ≤ length out → Room out 0 (sectionIn Cores ∷ sectionIn Processes ∷ [])
+  sheet-room out h = record { fit = omega (arith, sheet-length) }
+
+  module _ (out : List ℕ) where
+    pub sheet-refused : (n : ℕ) → n ≡ tableAnswer names nums ticks → (n ≡ 0 → ⊥) → sheeted (NotPrinted n) out ≡ sheetWritten names nums ticks out
+    unfolding sheetWritten
+    sheet-refused n e h = rw (← e, if-some n _ (sheeted (NotPrinted n) out) h)
+
+    pub sheet-full : tableAnswer names nums ticks ≡ 0 → length out < length text → sheeted (NotPrinted 15) out ≡ sheetWritten names nums ticks out
+    unfolding sheetWritten
+    sheet-full e h = rw (e, lt-leb (length text) (length out) h)
+
+    pub sheet-done : {n : ℕ} {m : List ℕ} → tableAnswer names nums ticks ≡ 0 → length text ≤ length out → after n m ≡ put out 0 text → sheeted (Done (length text)) m ≡ sheetWritten names nums ticks out
+    unfolding sheetWritten
+    sheet-done {n} {m} e h p =
+        let w : m ≡ written out 0 text = ap (λ (q : Put). q .output) (p ∙ put-fits out 0 text (omega arith)) in
+        rw (e, le-leb (length text) (length out) h, w)

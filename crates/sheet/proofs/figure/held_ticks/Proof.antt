@@ -1,0 +1,33 @@
+-- `sheet::figure::held_ticks` meets its contract: what is open is added where the core is held.
+-- Assumes nothing.
+use borrow.Author.Needs.{needs}
+use borrow.Author.Tests.{lt-ltb, le-ltb}
+use Rattle.sheet.specs.Figure.{heldIn}
+use Rattle.sheet.proofs.figure.held_ticks.Statement.{statement}
+use Rattle.sheet.proofs.figure.held_ticks.Tie as tie
+
+returns : tie.Need-returns
+unfolding heldIn
+returns c = rw (lt-ltb _ 2 (c .before .if1 .taken))
+
+returns-2 : tie.Need-returns-2
+unfolding heldIn
+returns-2 c = rw (le-ltb _ 2 (c .before .before .before .if1 .left), ← (c .before .open-ticks .ensures)) (c .wrapping-add-u64 .ensures)
+
+pub held-ticks-spec : {M : Type 1} → statement M
+held-ticks-spec =
+    tie.close
+    (tie.spec
+    (λ c. search needs)
+    (λ c. search needs)
+    (λ c. search needs)
+    (λ c. search needs)
+    (λ c. search needs)
+    (λ c. search needs)
+    returns
+    (λ c. search needs)
+    (λ c. search needs)
+    (λ c. search needs)
+    (λ c κs. search needs)
+    (λ c κs. search needs)
+    returns-2)

@@ -1,0 +1,33 @@
+-- `sheet::figure::idle_ticks` meets its contract: what is open is added where the core is idle.
+-- Assumes nothing.
+use borrow.Author.Needs.{needs}
+use borrow.Author.Tests.{eq-eqb, ne-eqb}
+use Rattle.sheet.specs.Figure.{idleIn}
+use Rattle.sheet.proofs.figure.idle_ticks.Statement.{statement}
+use Rattle.sheet.proofs.figure.idle_ticks.Tie as tie
+
+returns : tie.Need-returns
+unfolding idleIn
+returns c = rw (ne-eqb _ 1 (c .before .if1 .taken))
+
+returns-2 : tie.Need-returns-2
+unfolding idleIn
+returns-2 c = rw (eq-eqb _ 1 (c .before .before .before .if1 .left), ← (c .before .open-ticks .ensures)) (c .wrapping-add-u64 .ensures)
+
+pub idle-ticks-spec : {M : Type 1} → statement M
+idle-ticks-spec =
+    tie.close
+    (tie.spec
+    (λ c. search needs)
+    (λ c. search needs)
+    (λ c. search needs)
+    (λ c. search needs)
+    (λ c. search needs)
+    (λ c. search needs)
+    returns
+    (λ c. search needs)
+    (λ c. search needs)
+    (λ c. search needs)
+    (λ c κs. search needs)
+    (λ c κs. search needs)
+    returns-2)

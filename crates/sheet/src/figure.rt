@@ -1,0 +1,84 @@
+// The figures of a row: what is stored, and the ticks since then as the core stands.
+ghost use mathlib.Core.Path.{_≡_};
+ghost use Prim.Native.Nat.{_≤_, _<_};
+ghost use lib.ListN.{length};
+ghost use Rattle.tables.specs.Entry.{nameCount};
+ghost use Rattle.sheet.specs.Figure.{openAt, heldIn, idleIn, holds, chargeTo, chargeIn};
+use rules::numbers::CORE;
+use std::num::wrapping_add_u64;
+use tables::entry::HELD;
+use tables::entry::IDLE;
+use tables::entry::KIND;
+use tables::entry::LAST;
+use tables::entry::MARK;
+use tables::entry::NAMES;
+use tables::entry::OWNER;
+use tables::entry::SINCE;
+
+// The ticks since the ticks of row i were stored.
+fn open_ticks(ticks: &[u64], i: usize) -> u64
+    requires { ⌜ (length (now ticks) ≡ 1026) × (i < 256) ⌝ }
+    ensures { λ r. ⌜ r ≡ openAt (now (ticks .entry)) i ⌝ }
+{
+    if ticks[LAST] < ticks[SINCE + i] {
+        return 0;
+    }
+    ticks[LAST] - ticks[SINCE + i]
+}
+
+// The held ticks of the core in row i.
+pub(crate) fn held_ticks(nums: &[u32], ticks: &[u64], i: usize) -> u64
+    requires { ⌜ (length (now nums) ≡ 4362) × ((length (now ticks) ≡ 1026) × (i < 256)) ⌝ }
+    ensures { λ r. ⌜ r ≡ heldIn (now (nums .entry)) (now (ticks .entry)) i ⌝ }
+{
+    if nums[MARK + i] < 2 {
+        return ticks[HELD + i];
+    }
+    wrapping_add_u64(ticks[HELD + i], open_ticks(ticks, i))
+}
+
+// The idle ticks of the core in row i.
+pub(crate) fn idle_ticks(nums: &[u32], ticks: &[u64], i: usize) -> u64
+    requires { ⌜ (length (now nums) ≡ 4362) × ((length (now ticks) ≡ 1026) × (i < 256)) ⌝ }
+    ensures { λ r. ⌜ r ≡ idleIn (now (nums .entry)) (now (ticks .entry)) i ⌝ }
+{
+    if nums[MARK + i] != 1 {
+        return ticks[IDLE + i];
+    }
+    wrapping_add_u64(ticks[IDLE + i], open_ticks(ticks, i))
+}
+
+// Whether row k is a core that is held by an instance of the process in row i.
+fn holds_core(nums: &[u32], i: usize, k: usize) -> bool
+    requires { ⌜ (length (now nums) ≡ 4362) × (k < 256) ⌝ }
+    ensures { λ r. ⌜ r ≡ holds (now (nums .entry)) i k ⌝ }
+{
+    if nums[KIND + k] != CORE {
+        return false;
+    }
+    let mark = nums[MARK + k] as usize;
+    if mark < 2 {
+        return false;
+    }
+    if 1025 < mark {
+        return false;
+    }
+    nums[OWNER + (mark - 2)] as usize == i
+}
+
+// The charge of the process in row i.
+pub(crate) fn charge(nums: &[u32], ticks: &[u64], i: usize) -> u64
+    requires { ⌜ (length (now nums) ≡ 4362) × ((length (now ticks) ≡ 1026) × ((i < 256) × (nameCount (now nums) ≤ 256))) ⌝ }
+    ensures { λ r. ⌜ r ≡ chargeIn (now (nums .entry)) (now (ticks .entry)) i ⌝ }
+{
+    let n = nums[NAMES] as usize;
+    let mut sum = ticks[HELD + i];
+    let mut k: usize = 0;
+    while k < n {
+        if holds_core(nums, i, k) {
+            sum = wrapping_add_u64(sum, open_ticks(ticks, k));
+        }
+        k += 1;
+    }
+    sum
+}

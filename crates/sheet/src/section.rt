@@ -1,0 +1,21 @@
+// The two sections of a sheet, in their order.
+ghost use mathlib.Core.Path.{_≡_};
+ghost use Rattle.sheet.specs.Sheet.{belongs};
+use rules::numbers::CORE;
+use rules::numbers::INTERRUPT;
+use rules::numbers::TASK;
+
+pub enum Section {
+    Cores,
+    Processes,
+}
+
+// Whether a name of the kind stands in the section.
+pub(crate) fn in_section(section: Section, kind: u32) -> bool
+    ensures { λ r. ⌜ r ≡ belongs section kind ⌝ }
+{
+    match section {
+        Section::Cores => kind == CORE,
+        Section::Processes => kind == TASK || kind == INTERRUPT,
+    }
+}

@@ -1,0 +1,148 @@
+// The whole sheet: its length first, so that an output that is too short is left as it is, and then the text.
+ghost use mathlib.Core.Path.{_≡_};
+ghost use Prim.Native.Nat.{_+_, _≤_};
+ghost use lib.ListN.{length};
+ghost use Rattle.text.specs.Put.{put, after};
+ghost use Rattle.tables.specs.Range.{tableAnswer};
+ghost use Rattle.sheet.specs.Text.{rowsText, sectionText};
+ghost use Rattle.sheet.specs.Sheet.{title, rowsIn, sheeted, sheetWritten};
+use crate::row::put_row;
+use crate::row::row_length;
+use crate::section::Section;
+use crate::section::in_section;
+use tables::entry::KIND;
+use tables::entry::NAMES;
+use tables::range::table_answer;
+use text::put::digit_count;
+use text::put::put_bytes;
+use text::put::put_number;
+
+// The length of the sheet that was written, or the number of the refusal.
+pub enum Printed {
+    Done(usize),
+    NotPrinted(u32),
+}
+
+// How many names stand in a section.
+fn rows_count(names: &[u8], nums: &[u32], ticks: &[u64], section: Section) -> usize
+    requires { ⌜ tableAnswer (now names) (now nums) (now ticks) ≡ 0 ⌝ }
+    ensures { λ r. ⌜ r ≡ length (rowsIn section (now (names .entry)) (now (nums .entry)) (now (ticks .entry))) ⌝ }
+{
+    let n = nums[NAMES] as usize;
+    let mut count: usize = 0;
+    let mut i: usize = 0;
+    while i < n {
+        if in_section(section, nums[KIND + i]) {
+            count += 1;
+        }
+        i += 1;
+    }
+    count
+}
+
+// How many bytes the lines of a section take.
+fn rows_length(names: &[u8], nums: &[u32], ticks: &[u64], section: Section) -> usize
+    requires { ⌜ tableAnswer (now names) (now nums) (now ticks) ≡ 0 ⌝ }
+    ensures { λ r. ⌜ r ≡ length (rowsText (rowsIn section (now (names .entry)) (now (nums .entry)) (now (ticks .entry)))) ⌝ }
+{
+    let n = nums[NAMES] as usize;
+    let mut sum: usize = 0;
+    let mut i: usize = 0;
+    while i < n {
+        if in_section(section, nums[KIND + i]) {
+            sum += row_length(names, nums, ticks, section, i);
+        }
+        i += 1;
+    }
+    sum
+}
+
+// Writes the lines of a section.
+fn put_rows(
+    names: &[u8],
+    nums: &[u32],
+    ticks: &[u64],
+    section: Section,
+    out: &mut [u8],
+    at: usize,
+) -> usize
+    requires { ⌜ (tableAnswer (now names) (now nums) (now ticks) ≡ 0) × (at + length (rowsText (rowsIn section (now names) (now nums) (now ticks))) ≤ length (now out)) ⌝ }
+    ensures { λ r. ⌜ after r (now (out .exit)) ≡ put (now (out .entry)) at (rowsText (rowsIn section (now (names .entry)) (now (nums .entry)) (now (ticks .entry)))) ⌝ }
+{
+    let n = nums[NAMES] as usize;
+    let mut next = at;
+    let mut i: usize = 0;
+    while i < n {
+        if in_section(section, nums[KIND + i]) {
+            next = put_row(names, nums, ticks, section, i, out, next);
+        }
+        i += 1;
+    }
+    next
+}
+
+fn title_length(section: Section) -> usize
+    ensures { λ r. ⌜ r ≡ length (title section) ⌝ }
+{
+    match section {
+        Section::Cores => 6,
+        Section::Processes => 10,
+    }
+}
+
+fn put_title(section: Section, out: &mut [u8], at: usize) -> usize
+    ensures { λ r. ⌜ after r (now (out .exit)) ≡ put (now (out .entry)) at (title section) ⌝ }
+{
+    match section {
+        Section::Cores => put_bytes(b"cores ", out, at),
+        Section::Processes => put_bytes(b"processes ", out, at),
+    }
+}
+
+// How many bytes a section takes.
+fn section_length(names: &[u8], nums: &[u32], ticks: &[u64], section: Section) -> usize
+    requires { ⌜ tableAnswer (now names) (now nums) (now ticks) ≡ 0 ⌝ }
+    ensures { λ r. ⌜ r ≡ length (sectionText (title section) (rowsIn section (now (names .entry)) (now (nums .entry)) (now (ticks .entry)))) ⌝ }
+{
+    let count = rows_count(names, nums, ticks, section);
+    let rows = rows_length(names, nums, ticks, section);
+    title_length(section) + digit_count(count as u64) + 1 + rows
+}
+
+// Writes a section: its count, and its lines.
+fn put_section(
+    names: &[u8],
+    nums: &[u32],
+    ticks: &[u64],
+    section: Section,
+    out: &mut [u8],
+    at: usize,
+) -> usize
+    requires { ⌜ (tableAnswer (now names) (now nums) (now ticks) ≡ 0) × (at + length (sectionText (title section) (rowsIn section (now names) (now nums) (now ticks))) ≤ length (now out)) ⌝ }
+    ensures { λ r. ⌜ after r (now (out .exit)) ≡ put (now (out .entry)) at (sectionText (title section) (rowsIn section (now (names .entry)) (now (nums .entry)) (now (ticks .entry)))) ⌝ }
+{
+    let count = rows_count(names, nums, ticks, section);
+    let one = put_title(section, out, at);
+    let two = put_number(count as u64, out, one);
+    let three = put_bytes(b"\n", out, two);
+    put_rows(names, nums, ticks, section, out, three)
+}
+
+// The sheet of the lines taken, at the front of the output; the rest of it stays as it is.
+pub fn sheet(names: &[u8], nums: &[u32], ticks: &[u64], out: &mut [u8]) -> Printed
+    ensures { λ r. ⌜ sheeted r (now (out .exit)) ≡ sheetWritten (now (names .entry)) (now (nums .entry)) (now (ticks .entry)) (now (out .entry)) ⌝ }
+{
+    let answer = table_answer(names, nums, ticks);
+    if answer != 0 {
+        return Printed::NotPrinted(answer);
+    }
+    let cores = section_length(names, nums, ticks, Section::Cores);
+    let processes = section_length(names, nums, ticks, Section::Processes);
+    let length = cores + processes;
+    if out.len() < length {
+        return Printed::NotPrinted(15);
+    }
+    let next = put_section(names, nums, ticks, Section::Cores, out, 0);
+    put_section(names, nums, ticks, Section::Processes, out, next);
+    Printed::Done(length)
+}
