@@ -2,6 +2,7 @@
 pub mod Texts
 pub mod Written
 pub mod Rows
+pub mod Short
 pub mod Figures
 pub mod ShownRows
 pub mod Demand

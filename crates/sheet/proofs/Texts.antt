@@ -41,6 +41,9 @@ pub length-row : (r : Row) → length (rowText r) ≡ length (r .name) + length 
 unfolding rowText
 length-row r = simp length-append
 
+pub length-rows : (rs : List Row) (r : Row) → length (rowsText (rs ++ r ∷ [])) ≡ length (rowsText rs) + length (rowText r)
+length-rows rs r = rw (rows-snoc rs r) (length-append (rowsText rs) (rowText r))
+
 pub length-section : (t : List ℕ) (rs : List Row) → length (sectionText t rs) ≡ length t + length (digitsOf (length rs)) + 1 + length (rowsText rs)
 unfolding sectionText
 length-section t rs = simp length-append (omega arith)

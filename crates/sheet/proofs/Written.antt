@@ -3,11 +3,10 @@ use mathlib.Core.Path.{_≡_, refl, ap, _∙_}
 use mathlib.Core.List.{List, [], _∷_, _++_}
 use Prim.Native.Nat.{ℕ, zero, suc, _+_, _≤_, _<_}
 use native.Mathlib.Omega.{arith}
-use lib.Dec.{leb}
 use lib.ListN.{length, length-append}
 use borrow.Author.Tests.{le-leb, lt-leb}
 use Rattle.text.specs.Put.{written, Put, after, put}
-use Rattle.text.proofs.Writes.{put-fits}
+use Rattle.text.proofs.Writes.{put-fits, put-two}
 use Rattle.line.proofs.Texts.{Room}
 use Rattle.rules.specs.Lists.{ifZero}
 use Rattle.tables.specs.Range.{tableAnswer}
@@ -15,7 +14,7 @@ use Rattle.sheet.specs.declared.section.Section.{Section}
 use Rattle.sheet.specs.declared.section.Section.the-variants.{Cores, Processes}
 use Rattle.sheet.specs.declared.sheet.Printed.the-variants.{Done, NotPrinted}
 use Rattle.sheet.specs.Text.{sectionText, sheetText}
-use Rattle.sheet.specs.Sheet.{rowsIn, sheetIn, title, Sheeted, sheeted, sheetWritten}
+use Rattle.sheet.specs.Sheet.{rowsIn, sheetIn, title, sheeted, sheetWritten}
 
 if-some : {A : Type 0} (n : ℕ) (x y : A) → (n ≡ 0 → ⊥) → ifZero n x y ≡ y
 if-some zero x y h = absurd (h refl)
@@ -29,17 +28,24 @@ module _ (names nums ticks : List ℕ) where
   text = sheetText (sheetIn names nums ticks)
 
   -- the sheet is its two sections
-  pub two-sections : text ≡ sectionIn Cores ++ sectionIn Processes
+  two-sections : text ≡ sectionIn Cores ++ sectionIn Processes
   unfolding sheetText sheetIn
   two-sections = refl
 
   pub sheet-length : length text ≡ length (sectionIn Cores) + length (sectionIn Processes)
   sheet-length = rw two-sections (length-append (sectionIn Cores) (sectionIn Processes))
 
-  pub sheet-room : (out : List ℕ) → length text ≤ length out → Room out 0 (sectionIn Cores ∷ sectionIn Processes ∷ [])
-  sheet-room out h = record { fit = omega (arith, sheet-length) }
-
   module _ (out : List ℕ) where
+    -- ---- the sections put one after another
+
+    pub sheet-room : length text ≤ length out → Room out 0 (sectionIn Cores ∷ sectionIn Processes ∷ [])
+    sheet-room h = record { fit = omega (arith, sheet-length) }
+
+    pub sheet-put : {j n : ℕ} {k m : List ℕ} → length text ≤ length out → after n m ≡ put out 0 (sectionIn Cores) → after j k ≡ put m n (sectionIn Processes) → after j k ≡ put out 0 text
+    sheet-put h p q = rw two-sections (put-two out 0 (sectionIn Cores) (sectionIn Processes) p q (omega (arith, ap length two-sections)))
+
+    -- ---- what is left
+
     pub sheet-refused : (n : ℕ) → n ≡ tableAnswer names nums ticks → (n ≡ 0 → ⊥) → sheeted (NotPrinted n) out ≡ sheetWritten names nums ticks out
     unfolding sheetWritten
     sheet-refused n e h = rw (← e, if-some n _ (sheeted (NotPrinted n) out) h)

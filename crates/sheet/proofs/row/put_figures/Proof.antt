@@ -1,9 +1,8 @@
 -- `sheet::row::put_figures` meets its contract: the figures are put one after another, and each has room since all have.
 -- Assumes nothing.
-use mathlib.Core.Path.{_≡_, ap}
+use mathlib.Core.Path.{_≡_}
 use mathlib.Core.List.{[], _∷_}
 use Prim.Native.Nat.{ℕ, _+_, _≤_}
-use native.Mathlib.Omega.{arith}
 use borrow.Author.Needs.{needs}
 use lib.ListN.{length}
 use Rattle.text.specs.Put.{after, put}
@@ -12,7 +11,7 @@ use Rattle.line.proofs.Texts.{Room, first-room, next-room}
 use Rattle.tables.specs.Entry.{unknownAt}
 use Rattle.sheet.specs.declared.section.Section.{Section}
 use Rattle.sheet.specs.declared.section.Section.the-variants.{Cores, Processes}
-use Rattle.sheet.specs.Figure.{heldIn, idleIn, chargeIn}
+use Rattle.sheet.specs.Figure.{heldIn, idleIn}
 use Rattle.sheet.specs.Text.{figuresText}
 use Rattle.sheet.specs.Sheet.{figuresIn}
 use Rattle.sheet.proofs.Texts.{three-figures, figures-room}

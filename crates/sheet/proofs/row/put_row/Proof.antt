@@ -1,11 +1,10 @@
 -- `sheet::row::put_row` meets its contract: the name, the figures and the end are put one after another, and each has room since the line has.
 -- Assumes nothing.
 use mathlib.Core.Path.{_≡_}
-use mathlib.Core.List.{List, [], _∷_}
-use Prim.Native.Nat.{ℕ, _+_, _≤_, _<_}
+use mathlib.Core.List.{[], _∷_, _++_}
+use Prim.Native.Nat.{_≤_, _<_}
 use native.Mathlib.Omega.{arith}
 use borrow.Author.Needs.{needs}
-use lib.ListN.{length}
 use Rattle.text.specs.Put.{after, put}
 use Rattle.text.proofs.Writes.{put-two, put-then, put-length}
 use Rattle.line.proofs.Texts.{Room, first-room, next-room}
@@ -44,7 +43,8 @@ returns c =
     let e3 = c .before .before in
     let e2 = e3 .before .before .before .before .before in
     let e1 = e2 .before .before .before .before in
-    put-then _ _ _ _ (put-two _ _ _ _ (put-1 e1) (e2 .put-figures .ensures)) (e3 .put-bytes2 .ensures) (d0 e1 .pre .1 .1)
+    let r = row (d0 e1) in
+    put-then _ _ (r .name ++ figuresText (r .figures)) (10 ∷ []) (put-two _ _ (r .name) (figuresText (r .figures)) (put-1 e1) (e2 .put-figures .ensures)) (e3 .put-bytes2 .ensures) (d0 e1 .pre .1 .1)
 
 pub put-row-spec : {M : Type 1} → statement M
 put-row-spec =

@@ -1,8 +1,8 @@
 -- `sheet::sheet::put_rows` meets its contract. The invariant: the lines of the first i rows are put.
 -- Assumes nothing.
-use mathlib.Core.Path.{_≡_, sym, ap, _∙_}
+use mathlib.Core.Path.{_≡_, sym, _∙_}
 use mathlib.Core.Logic.{⊎-elim}
-use Prim.Native.Nat.{_+_, _-_, _≤_}
+use Prim.Native.Nat.{_-_, _≤_}
 use native.Mathlib.Omega.{arith}
 use borrow.Author.Needs.{needs}
 use lib.ListN.{length}
@@ -18,7 +18,8 @@ use Rattle.sheet.proofs.sheet.put_rows.Statement.{statement}
 use Rattle.sheet.proofs.sheet.put_rows.Tie as tie
 
 abbrev Inv-loop : tie.InvT-loop
-Inv-loop names nums ticks section out₀ at n next₀ i₀ out next i = (i ≤ n) × (n ≤ 256) × (length nums ≡ 4362) × (after next out ≡ put out₀ at (rowsText (rowsTo section names nums ticks i)))
+Inv-loop names nums ticks section out₀ at n next₀ i₀ out next i =
+    (i ≤ n) × (n ≤ 256) × (length nums ≡ 4362) × (after next out ≡ put out₀ at (rowsText (rowsTo section names nums ticks i)))
 
 abbrev μ-loop : tie.MeasureT-loop
 μ-loop names nums ticks section out₀ at n next₀ i₀ out next i = n - i
@@ -26,34 +27,27 @@ abbrev μ-loop : tie.MeasureT-loop
 loop-holds : tie.Need-loop-holds Inv-loop μ-loop
 unfolding rowsTo rowsText
 loop-holds c =
-    let s = c .before .before .before .before .before in
-    let v = valid _ _ _ (s .pre .0) in
+    let v = valid _ _ _ (c .before .before .before .before .before .pre .0) in
     (omega arith, v .name-count, v .sizes .nums-size, sym (put-none _ _ (omega arith)))
 
 put-row-requires : tie.Need-put-row-requires Inv-loop μ-loop
 put-row-requires c κs =
-    let in-loop = c .before .before .before .before in
-    let at = in-loop .before in
+    let turn = c .before .before .before .before in
+    let at = turn .before in
     let s = at .before .before .before .before .before .before in
-    let a = s .args in
     let e = sym (c .before .before .in-section .ensures) ∙ c .before .if1 .taken in
-    (s .pre .0, (in-loop .loop-test .taken, line-room (a .section) (a .names .now) (a .nums .now) (a .ticks .now) (a .out .now) (a .at) (at .loop .i) e (in-loop .loop-test .taken) (s .pre .1) (at .loop .inv .3)))
+    (s .pre .0, (turn .loop-test .taken, line-room _ _ _ _ _ _ _ e (turn .loop-test .taken) (s .pre .1) (at .loop .inv .3)))
 
 loop-again : tie.Need-loop-again Inv-loop μ-loop
 loop-again c =
-    let at = c .before .before .before .before in
+    let turn = c .before .before .before in
+    let at = turn .before in
+    let inv = at .loop .inv in
     let s = at .before .before .before .before .before .before in
     let a = s .args in
+    let out = row-out (a .section) (a .names .now) (a .nums .now) (a .ticks .now) (at .loop .i) in
     let e = sym (c .before .in-section .ensures) in
-    let lines = at .loop .inv .3 in (
-      search needs,
-      at .loop .inv .1,
-      at .loop .inv .2,
-      ⊎-elim
-          (λ w. rw (w .5, w .6) (line-put (a .section) (a .names .now) (a .nums .now) (a .ticks .now) (a .out .now) (a .at) (at .loop .i) (e ∙ w .0 .taken) (c .before .before .before .loop-test .taken) (s .pre .1) lines (w .2 .ensures)))
-          (λ w. rw (w .1, w .2, row-out (a .section) (a .names .now) (a .nums .now) (a .ticks .now) (at .loop .i) (e ∙ w .0 .left)) lines)
-          (c .if1 .came),
-    )
+    (search needs, inv .1, inv .2, ⊎-elim (λ w. rw (w .5, w .6) (line-put _ _ _ _ _ _ _ (e ∙ w .0 .taken) (turn .loop-test .taken) (s .pre .1) (inv .3) (w .2 .ensures))) (λ w. rw (w .1, w .2, out (e ∙ w .0 .left)) (inv .3)) (c .if1 .came))
 
 returns : tie.Need-returns Inv-loop μ-loop
 unfolding rowsIn
@@ -68,16 +62,16 @@ put-rows-spec =
     (tie.spec
     Inv-loop
     μ-loop
-    (λ c. omega (arith, valid _ _ _ (c .before .before .before .before .before .pre .0)))  -- shared-slice-read-n
-    (λ c. omega (arith, c .shared-slice-known4 .given 7))  -- cast-n
-    loop-holds  -- loop-holds
-    (λ c. search needs)  -- add-in-section
-    (λ c. search needs)  -- mul-in-section
-    (λ c. search needs)  -- shared-slice-read-in-section
-    (λ c κs. tt)  -- in-section-requires
+    (λ c. omega (arith, valid _ _ _ (c .before .before .before .before .before .pre .0)))
+    (λ c. omega (arith, c .shared-slice-known4 .given 7))
+    loop-holds
+    (λ c. search needs)
+    (λ c. search needs)
+    (λ c. search needs)
+    (λ c κs. tt)
     put-row-requires
-    (λ c. search needs)  -- add-i
-    (λ c. search needs)  -- loop-less
+    (λ c. search needs)
+    (λ c. search needs)
     loop-again
     (λ c. put-length _ _ _ (c .before .loop .inv .3))
     returns)

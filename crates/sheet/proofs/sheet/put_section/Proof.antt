@@ -3,10 +3,9 @@
 -- Assumes nothing.
 use mathlib.Core.Path.{_≡_}
 use mathlib.Core.List.{List, [], _∷_, _++_}
-use Prim.Native.Nat.{ℕ, _+_, _≤_}
 use native.Mathlib.Omega.{arith}
 use borrow.Author.Needs.{needs}
-use lib.ListN.{length, drop}
+use lib.ListN.{length}
 use Rattle.text.specs.Number.{digitsOf}
 use Rattle.text.specs.Put.{after, put}
 use Rattle.text.proofs.Writes.{put-two, put-then, put-length}
@@ -50,8 +49,9 @@ returns c =
     let e3 = e4 .before .before .before .before in
     let e2 = d2 e3 in
     let e1 = d1 e2 in
-    let end : after (e4 .put-rows .result) (e4 .put-rows .last .1 .1 .1 .1 .0) ≡ put (e2 .put-number .last .1 .0) (e2 .put-number .result) (10 ∷ rowsText (rows (d0 e1))) = put-two _ _ (10 ∷ []) _ (e3 .put-bytes .ensures) (e4 .put-rows .ensures) (omega (arith, room-2 e2 .fit)) in
-    put-then _ _ _ _ (put-two _ _ _ _ (e1 .put-title .ensures) (put-2 e2)) end (d0 e1 .pre .1)
+    let s = d0 e1 in
+    let n = digitsOf (length (rows s)) in
+    put-then _ _ (title (s .args .section) ++ n) (10 ∷ rowsText (rows s)) (put-two _ _ (title (s .args .section)) n (e1 .put-title .ensures) (put-2 e2)) (put-two _ _ (10 ∷ []) (rowsText (rows s)) (e3 .put-bytes .ensures) (e4 .put-rows .ensures) (omega (arith, room-2 e2 .fit))) (s .pre .1)
 
 pub put-section-spec : {M : Type 1} → statement M
 put-section-spec =

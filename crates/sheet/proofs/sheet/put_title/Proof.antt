@@ -1,7 +1,6 @@
 -- `sheet::sheet::put_title` meets its contract: the bytes of the two titles.
 -- Assumes nothing.
 use borrow.Author.Needs.{needs}
-use Rattle.text.proofs.Writes.{put-length}
 use Rattle.sheet.proofs.sheet.put_title.Statement.{statement}
 use Rattle.sheet.proofs.sheet.put_title.Tie as tie
 

@@ -1,15 +1,16 @@
 -- `sheet::sheet::rows_count` meets its contract. The invariant: the count is that of the first i rows.
 -- Assumes nothing.
-use mathlib.Core.Path.{_≡_, refl, sym, ap, _∙_}
+use mathlib.Core.Path.{_≡_, refl, sym, _∙_}
 use mathlib.Core.Logic.{⊎-elim}
-use Prim.Native.Nat.{_+_, _-_, _≤_}
+use Prim.Native.Nat.{_-_, _≤_}
 use native.Mathlib.Omega.{arith}
 use borrow.Author.Needs.{needs}
 use lib.ListN.{length}
 use Rattle.tables.specs.Entry.{nameCount}
 use Rattle.tables.proofs.Valid.{valid}
 use Rattle.sheet.specs.Sheet.{rowsTo, rowsIn}
-use Rattle.sheet.proofs.Rows.{count-in, row-out, rows-few}
+use Rattle.sheet.proofs.Rows.{count-in, row-out}
+use Rattle.sheet.proofs.Short.{rows-few}
 use Rattle.sheet.proofs.sheet.rows_count.Statement.{statement}
 use Rattle.sheet.proofs.sheet.rows_count.Tie as tie
 
@@ -25,20 +26,20 @@ loop-holds c =
     let v = valid _ _ _ (c .before .before .before .before .pre) in
     (omega arith, v .name-count, v .sizes .nums-size, refl)
 
+add-count : tie.Need-add-count Inv-loop μ-loop
+add-count c =
+    let at = c .before .before .before .before in
+    let a = at .before .before .before .before .before .args in
+    omega (arith, rows-few (a .section) (a .names .now) (a .nums .now) (a .ticks .now) (at .loop .i))
+
 loop-again : tie.Need-loop-again Inv-loop μ-loop
 loop-again c =
     let at = c .before .before .before .before in
+    let inv = at .loop .inv in
     let a = at .before .before .before .before .before .args in
+    let out = row-out (a .section) (a .names .now) (a .nums .now) (a .ticks .now) (at .loop .i) in
     let e = sym (c .before .in-section .ensures) in
-    let count = at .loop .inv .3 in (
-      search needs,
-      at .loop .inv .1,
-      at .loop .inv .2,
-      ⊎-elim
-          (λ w. w .1 ∙ rw count (sym (count-in (a .section) (a .names .now) (a .nums .now) (a .ticks .now) (at .loop .i) (e ∙ w .0 .taken))))
-          (λ w. w .1 ∙ rw (row-out (a .section) (a .names .now) (a .nums .now) (a .ticks .now) (at .loop .i) (e ∙ w .0 .left)) count)
-          (c .if1 .came),
-    )
+    (search needs, inv .1, inv .2, ⊎-elim (λ w. w .1 ∙ rw (inv .3) (sym (count-in _ _ _ _ _ (e ∙ w .0 .taken)))) (λ w. rw (out (e ∙ w .0 .left)) (w .1 ∙ inv .3)) (c .if1 .came))
 
 returns : tie.Need-returns Inv-loop μ-loop
 unfolding rowsIn
@@ -53,15 +54,15 @@ rows-count-spec =
     (tie.spec
     Inv-loop
     μ-loop
-    (λ c. omega (arith, valid _ _ _ (c .before .before .before .before .pre)))  -- shared-slice-read-n
-    (λ c. omega (arith, c .shared-slice-known4 .given 7))  -- cast-n
-    loop-holds  -- loop-holds
-    (λ c. search needs)  -- add-in-section
-    (λ c. search needs)  -- mul-in-section
-    (λ c. search needs)  -- shared-slice-read-in-section
-    (λ c κs. tt)  -- in-section-requires
-    (λ c. let a = c .before .before .before .before .before .before .before .before .before .args in omega (arith, rows-few (a .section) (a .names .now) (a .nums .now) (a .ticks .now) (c .before .before .before .before .loop .i)))  -- add-count
-    (λ c. search needs)  -- add-i
-    (λ c. search needs)  -- loop-less
+    (λ c. omega (arith, valid _ _ _ (c .before .before .before .before .pre)))
+    (λ c. omega (arith, c .shared-slice-known4 .given 7))
+    loop-holds
+    (λ c. search needs)
+    (λ c. search needs)
+    (λ c. search needs)
+    (λ c κs. tt)
+    add-count
+    (λ c. search needs)
+    (λ c. search needs)
     loop-again
     returns)

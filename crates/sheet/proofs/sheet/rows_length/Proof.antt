@@ -1,8 +1,9 @@
--- `sheet::sheet::rows_length` meets its contract. The invariant: the sum is the length of the lines of the first i rows.
+-- `sheet::sheet::rows_length` meets its contract. The invariant: the sum is the length of the lines of the first i rows. It does not wrap, since
+-- each line is short.
 -- Assumes nothing.
-use mathlib.Core.Path.{_≡_, refl, sym, ap, _∙_}
+use mathlib.Core.Path.{_≡_, refl, sym, _∙_}
 use mathlib.Core.Logic.{⊎-elim}
-use Prim.Native.Nat.{_+_, _*_, _-_, _≤_}
+use Prim.Native.Nat.{_-_, _≤_}
 use native.Mathlib.Omega.{arith}
 use borrow.Author.Needs.{needs}
 use lib.ListN.{length}
@@ -10,7 +11,8 @@ use Rattle.tables.specs.Entry.{nameCount}
 use Rattle.tables.proofs.Valid.{valid}
 use Rattle.sheet.specs.Text.{rowsText}
 use Rattle.sheet.specs.Sheet.{rowsTo, rowsIn}
-use Rattle.sheet.proofs.Rows.{length-in, row-out, rows-short, row-short}
+use Rattle.sheet.proofs.Rows.{length-in, row-out}
+use Rattle.sheet.proofs.Short.{row-short, rows-short}
 use Rattle.sheet.proofs.sheet.rows_length.Statement.{statement}
 use Rattle.sheet.proofs.sheet.rows_length.Tie as tie
 
@@ -26,30 +28,22 @@ loop-holds c =
     let v = valid _ _ _ (c .before .before .before .before .pre) in
     (omega arith, v .name-count, v .sizes .nums-size, refl)
 
--- the lines with that of row i are still short
 add-sum : tie.Need-add-sum Inv-loop μ-loop
 add-sum c =
-    let in-loop = c .before .before .before .before in
-    let at = in-loop .before in
+    let turn = c .before .before .before .before in
+    let at = turn .before in
     let s = at .before .before .before .before .before in
-    let a = s .args in
     let v = valid _ _ _ (s .pre) in
-    omega (arith, rows-short (a .section) (a .names .now) (a .nums .now) (a .ticks .now) v (at .loop .i) (omega arith), row-short (a .section) (at .loop .i) v (in-loop .loop-test .taken), c .row-length .ensures)
+    omega (arith, c .row-length .ensures, row-short v (s .args .section) (at .loop .i) (turn .loop-test .taken), rows-short v (s .args .section) (at .loop .i) (at .loop .inv .0))
 
 loop-again : tie.Need-loop-again Inv-loop μ-loop
 loop-again c =
     let at = c .before .before .before .before in
+    let inv = at .loop .inv in
     let a = at .before .before .before .before .before .args in
+    let out = row-out (a .section) (a .names .now) (a .nums .now) (a .ticks .now) (at .loop .i) in
     let e = sym (c .before .in-section .ensures) in
-    let sum = at .loop .inv .3 in (
-      search needs,
-      at .loop .inv .1,
-      at .loop .inv .2,
-      ⊎-elim
-          (λ w. w .2 ∙ rw (sum, w .1 .ensures) (sym (length-in (a .section) (a .names .now) (a .nums .now) (a .ticks .now) (at .loop .i) (e ∙ w .0 .taken))))
-          (λ w. w .1 ∙ rw (row-out (a .section) (a .names .now) (a .nums .now) (a .ticks .now) (at .loop .i) (e ∙ w .0 .left)) sum)
-          (c .if1 .came),
-    )
+    (search needs, inv .1, inv .2, ⊎-elim (λ w. w .2 ∙ rw (inv .3, w .1 .ensures) (sym (length-in _ _ _ _ _ (e ∙ w .0 .taken)))) (λ w. rw (out (e ∙ w .0 .left)) (w .1 ∙ inv .3)) (c .if1 .came))
 
 returns : tie.Need-returns Inv-loop μ-loop
 unfolding rowsIn
@@ -64,16 +58,16 @@ rows-length-spec =
     (tie.spec
     Inv-loop
     μ-loop
-    (λ c. omega (arith, valid _ _ _ (c .before .before .before .before .pre)))  -- shared-slice-read-n
-    (λ c. omega (arith, c .shared-slice-known4 .given 7))  -- cast-n
-    loop-holds  -- loop-holds
-    (λ c. search needs)  -- add-in-section
-    (λ c. search needs)  -- mul-in-section
-    (λ c. search needs)  -- shared-slice-read-in-section
-    (λ c κs. tt)  -- in-section-requires
-    (λ c κs. search needs)  -- row-length-requires
+    (λ c. omega (arith, valid _ _ _ (c .before .before .before .before .pre)))
+    (λ c. omega (arith, c .shared-slice-known4 .given 7))
+    loop-holds
+    (λ c. search needs)
+    (λ c. search needs)
+    (λ c. search needs)
+    (λ c κs. tt)
+    (λ c κs. search needs)
     add-sum
-    (λ c. search needs)  -- add-i
-    (λ c. search needs)  -- loop-less
+    (λ c. search needs)
+    (λ c. search needs)
     loop-again
     returns)

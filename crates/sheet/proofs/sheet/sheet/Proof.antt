@@ -2,13 +2,11 @@
 -- Assumes nothing.
 use mathlib.Core.Path.{_≡_, sym, _∙_}
 use mathlib.Core.List.{List, [], _∷_}
-use Prim.Native.Nat.{ℕ, _+_, _≤_, _<_}
-use native.Mathlib.Nat.{zero-add}
+use Prim.Native.Nat.{ℕ, _+_, _≤_}
 use native.Mathlib.Omega.{arith}
-use borrow.Author.Needs.{needs}
-use lib.ListN.{length, length-append}
+use lib.ListN.{length}
 use Rattle.text.specs.Put.{after, put}
-use Rattle.text.proofs.Writes.{put-two, put-length}
+use Rattle.text.proofs.Writes.{put-length}
 use Rattle.line.proofs.Texts.{Room, first-room, next-room}
 use Rattle.tables.specs.Range.{tableAnswer}
 use Rattle.tables.proofs.Valid.{valid}
@@ -16,15 +14,22 @@ use Rattle.sheet.specs.declared.section.Section.{Section}
 use Rattle.sheet.specs.declared.section.Section.the-variants.{Cores, Processes}
 use Rattle.sheet.specs.Text.{sheetText}
 use Rattle.sheet.specs.Sheet.{sheetIn}
-use Rattle.sheet.proofs.Rows.{section-short}
-use Rattle.sheet.proofs.Written.{sectionIn, two-sections, sheet-length, sheet-room, sheet-refused, sheet-full, sheet-done}
+use Rattle.sheet.proofs.Short.{section-short}
+use Rattle.sheet.proofs.Written.{sectionIn, sheet-length, sheet-room, sheet-put, sheet-refused, sheet-full, sheet-done}
 use Rattle.sheet.proofs.sheet.sheet.Statement.{statement}
 use Rattle.sheet.proofs.sheet.sheet.Tie as tie
 
 returns : tie.Need-returns
 returns c = sheet-refused _ _ _ _ _ (c .before .table-answer .ensures) (c .if1 .taken)
 
--- once the answer is 0
+-- ---- once the answer is 0
+
+abbrev text : tie.Start → List ℕ
+text c = sheetText (sheetIn (c .args .names .now) (c .args .nums .now) (c .args .ticks .now))
+
+abbrev part : tie.Start → Section → List ℕ
+part c = sectionIn (c .args .names .now) (c .args .nums .now) (c .args .ticks .now)
+
 abbrev d0 : tie.Else1 → tie.Start
 d0 c = c .before .before .before .before .before .before
 
@@ -35,52 +40,40 @@ passed c = sym (c .before .table-answer .ensures) ∙ c .if1 .left
 abbrev d1 : tie.After-section-length2 → tie.Else1
 d1 c = c .before .before
 
-sum : (c : tie.After-section-length2) → let a = d0 (d1 c) .args in
-    let n = length (sheetText (sheetIn (a .names .now) (a .nums .now) (a .ticks .now))) in
-    (c .before .section-length .result + c .section-length2 .result ≡ n) × (n ≤ 65600)
+sum : (c : tie.After-section-length2) → c .before .section-length .result + c .section-length2 .result ≡ length (text (d0 (d1 c)))
 sum c =
     let a = d0 (d1 c) .args in
-    let v = valid _ _ _ (passed (d1 c)) in
-    let l = sheet-length (a .names .now) (a .nums .now) (a .ticks .now) in (
-      omega (arith, l, c .before .section-length .ensures, c .section-length2 .ensures),
-      omega (arith, l, section-short Cores (a .names .now) (a .nums .now) (a .ticks .now) v, section-short Processes (a .names .now) (a .nums .now) (a .ticks .now) v),
-    )
+    omega (arith, c .before .section-length .ensures, c .section-length2 .ensures, sheet-length (a .names .now) (a .nums .now) (a .ticks .now))
+
+no-wrap : (c : tie.After-section-length2) → length (part (d0 (d1 c)) Cores) + length (part (d0 (d1 c)) Processes) ≤ 65600
+no-wrap c = let v = valid _ _ _ (passed (d1 c)) in omega (arith, section-short v Cores, section-short v Processes)
 
 returns-2 : tie.Need-returns-2
-returns-2 c = sheet-full _ _ _ _ (passed (d1 (c .before))) (rw (sum (c .before) .0) at (c .if2 .taken))
+returns-2 c = sheet-full _ _ _ _ (passed (d1 (c .before))) (rw (sum (c .before)) at (c .if2 .taken))
 
--- once the sheet is known to fit
+-- ---- once the sheet is known to fit
+
 abbrev d2 : tie.Else2 → tie.Start
 d2 c = d0 (d1 (c .before))
 
-abbrev text : tie.Start → List ℕ
-text c = sheetText (sheetIn (c .args .names .now) (c .args .nums .now) (c .args .ticks .now))
-
-abbrev part : tie.Start → Section → List ℕ
-part c = sectionIn (c .args .names .now) (c .args .nums .now) (c .args .ticks .now)
-
 fit : (c : tie.Else2) → length (text (d2 c)) ≤ length (d2 c .args .out .now)
-fit c = rw (sum (c .before) .0) at (c .if2 .left)
+fit c = rw (sum (c .before)) at (c .if2 .left)
 
 room : (c : tie.Else2) → Room (d2 c .args .out .now) 0 (part (d2 c) Cores ∷ part (d2 c) Processes ∷ [])
-room c =
-    let a = d2 c .args in
-    sheet-room (a .names .now) (a .nums .now) (a .ticks .now) (a .out .now) (fit c)
+room c = sheet-room _ _ _ _ (fit c)
 
 abbrev d3 : tie.After-put-section2 → tie.Else2
 d3 c = c .before .before .before .before .before .before
 
 all-put : (c : tie.After-put-section2) → after (c .put-section2 .result) (c .put-section2 .last .1 .1 .1 .1 .0) ≡ put (d2 (d3 c) .args .out .now) 0 (text (d2 (d3 c)))
 all-put c =
-    let s = d2 (d3 c) in
-    let a = s .args in
-    rw (two-sections (a .names .now) (a .nums .now) (a .ticks .now)) (put-two _ 0 (part s Cores) (part s Processes) (c .before .before .before .before .put-section .ensures) (c .put-section2 .ensures) (omega (arith, room (d3 c) .fit, length-append (part s Cores) (part s Processes))))
+    sheet-put _ _ _ _ (fit (d3 c)) (c .before .before .before .before .put-section .ensures) (c .put-section2 .ensures)
 
 returns-3 : tie.Need-returns-3
 returns-3 c =
     let p = c .before .before in
     let e = d3 p in
-    rw (sum (e .before) .0) (sheet-done _ _ _ _ (passed (d1 (e .before))) (fit e) (all-put p))
+    rw (sum (e .before)) (sheet-done _ _ _ _ (passed (d1 (e .before))) (fit e) (all-put p))
 
 pub sheet-spec : {M : Type 1} → statement M
 sheet-spec =
@@ -90,7 +83,7 @@ sheet-spec =
     returns
     (λ c κs. passed c)
     (λ c κs. passed (c .before))
-    (λ c. omega (arith, sum c))
+    (λ c. omega (arith, no-wrap c, c .before .section-length .ensures, c .section-length2 .ensures))
     returns-2
     (λ c κs. let e = c .before in (passed (d1 (e .before)), first-room (room e)))
     (λ c κs.
