@@ -1,0 +1,9 @@
+-- The laws of reading and printing.
+pub mod Texts
+pub mod Shifts
+pub mod Turns
+pub mod Behind
+pub mod Reports
+pub mod Printed
+pub mod Reading
+pub mod Buffered
