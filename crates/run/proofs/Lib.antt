@@ -2,6 +2,7 @@
 pub mod Texts
 pub mod Shifts
 pub mod Turns
+pub mod Carried
 pub mod Behind
 pub mod Reports
 pub mod Printed

@@ -16,7 +16,6 @@ use Rattle.rules.specs.Trace.{placeOf, takenLines, verdictOn}
 use Rattle.tables.specs.Range.{tableAnswer}
 use Rattle.judge.specs.declared.feed.Verdict.{Verdict}
 use Rattle.judge.specs.Feed.{verdictIn}
-use Rattle.sheet.specs.declared.sheet.Printed.{Printed}
 use Rattle.sheet.specs.declared.sheet.Printed.the-variants.{Done, NotPrinted}
 use Rattle.sheet.specs.Text.{sheetText}
 use Rattle.sheet.specs.Sheet.{Sheeted, sheeted, sheetIn}
