@@ -1,16 +1,15 @@
 -- Demand 3, over the lines taken from a fresh start and the sheet that is written: the text is exactly the names and figures of the history; the three
 -- figures of each core add up to the last event time less the first; all charges add up to all held ticks; each name stands once.
-use mathlib.Core.Path.{_≡_, refl, sym, ap, ap₂, _∙_}
+use mathlib.Core.Path.{_≡_, refl, sym, ap, _∙_}
 use mathlib.Core.Bool.{cond}
 use mathlib.Core.List.{List, [], _∷_}
 use Prim.Native.Nat.{ℕ, _+_}
-use native.Mathlib.Omega.{arith}
 use lib.Dec.{leb}
 use lib.ListN.{length, getD}
 use Rattle.text.specs.Bytes.{sameBytes}
 use Rattle.text.specs.Put.{written}
 use Rattle.text.proofs.Words.{same-eq, same-refl}
-use Rattle.rules.specs.Lists.{any, sumOver, oneIf}
+use Rattle.rules.specs.Lists.{sumOver}
 use Rattle.rules.specs.Event.{Event}
 use Rattle.rules.specs.History.{names, cores, processes}
 use Rattle.rules.specs.Sheet.{heldTicks, idleTicks, unknownTicks, charge, span, Row, coreRows, processRows, Sheet, sheet}
@@ -18,14 +17,12 @@ use Rattle.rules.specs.Lines.{eventsOf}
 use Rattle.rules.specs.Trace.{takenLines}
 use Rattle.rules.proofs.Sums.{Once}
 use Rattle.rules.proofs.Tracked.{names-once}
-use Rattle.rules.proofs.Laws.{Holds}
 use Rattle.rules.proofs.Traces.{taken-sound}
-use Rattle.judge.specs.Feed.{Tables}
 use Rattle.agree.proofs.Events.{all-met}
 use Rattle.agree.proofs.Judged.{after-lines, shows-taken, never-16}
 use Rattle.sheet.specs.declared.sheet.Printed.the-variants.{Done, NotPrinted}
 use Rattle.sheet.specs.Text.{sheetText}
-use Rattle.sheet.specs.Sheet.{Sheeted, sheeted, sheetIn, sheetWritten}
+use Rattle.sheet.specs.Sheet.{sheeted, sheetIn, sheetWritten}
 use Rattle.sheet.proofs.ShownRows.{sheet-shown}
 
 -- the sheet of the events of the lines taken: all lines, or those before the first refused one
