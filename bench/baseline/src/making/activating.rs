@@ -1,0 +1,92 @@
+//! Stimuli: they activate processes, wake them and write signals.
+
+use super::world::{State, World};
+
+/// The stimulus that wakes processes and writes signals.
+const CLOCK: &str = "STIM_WinchControl_Clock";
+
+impl World {
+    /// The start of the system: each process is activated once.
+    pub fn activate_all(&mut self) {
+        for process in std::mem::take(&mut self.dormant) {
+            self.pass(500);
+            self.activate(process);
+        }
+    }
+
+    /// Something from outside: an activation while there are any left, else an
+    /// event for a process that waits, or a signal.
+    pub fn stimulate(&mut self) {
+        let any = self.random.index(self.processes.len());
+        if self.random.once_in(8) && self.may_exceed_limit(any) {
+            self.exceed_limit(any);
+        } else if let Some(process) = self.random.draw(&mut self.dormant) {
+            self.activate(process);
+        } else if self.random.once_in(2) {
+            self.wake_from_outside();
+        } else {
+            self.write_from_outside();
+        }
+    }
+
+    fn activate(&mut self, process: usize) {
+        self.trigger(process);
+        let target = &mut self.processes[process];
+        target.instance = target.next_instance;
+        target.next_instance += 1;
+        target.activations_left -= 1;
+        target.called = 0;
+        target.state = State::Active;
+        let number = target.instance;
+        self.lines.event((&target.stimulus, number), target.of, (&target.name, number), "activate");
+        self.ready.push(process);
+    }
+
+    fn trigger(&mut self, process: usize) {
+        let target = &self.processes[process];
+        let stimulus = (target.stimulus.as_str(), target.next_instance);
+        self.lines.event(stimulus, "STI", stimulus, "trigger");
+    }
+
+    /// Only a task that lives, and one activation is kept for its next life.
+    fn may_exceed_limit(&self, process: usize) -> bool {
+        let target = &self.processes[process];
+        target.of == "T" && target.state != State::Terminated && target.activations_left > 1
+    }
+
+    /// An activation that isn't carried out.
+    fn exceed_limit(&mut self, process: usize) {
+        self.trigger(process);
+        let target = &mut self.processes[process];
+        let number = target.next_instance;
+        target.next_instance += 1;
+        target.activations_left -= 1;
+        self.lines.event((&target.stimulus, number), "T", (&target.name, number), "mtalimitexceeded");
+    }
+
+    /// Triggers the clock; the number of its instance.
+    fn tick(&mut self) -> u64 {
+        self.clock_ticks += 1;
+        self.lines.event(("SIM", 0), "STI", (CLOCK, self.clock_ticks), "trigger");
+        self.clock_ticks
+    }
+
+    fn wake_from_outside(&mut self) {
+        if let Some(process) = self.random.draw(&mut self.waiting) {
+            let number = self.tick();
+            let target = &self.processes[process];
+            let event = (target.os_event.as_str(), 0);
+            let note = format_args!("{}", target.name);
+            self.lines.event_with_note((CLOCK, number), "EVENT", event, "set_event", note);
+            self.release(process);
+        }
+    }
+
+    fn write_from_outside(&mut self) {
+        let number = self.tick();
+        let signal = self.random.index(self.signals.len());
+        let value = self.random.below(4096);
+        let target = (self.signals[signal].as_str(), 0);
+        self.lines.event_with_note((CLOCK, number), "SIG", target, "write", format_args!("{value}"));
+    }
+}

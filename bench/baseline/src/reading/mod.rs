@@ -1,0 +1,50 @@
+//! A reader that judges a trace by the rules of document 01 and is written for
+//! speed: one pass finds all commas and line ends of a chunk, names and event
+//! words are compared eight bytes at a time, and whatever a line needs is found
+//! by hash. Nothing is allocated for a line.
+
+mod bytes;
+mod chunk;
+mod event_line;
+mod event_rules;
+mod event_table;
+mod fields;
+mod history;
+mod instances;
+mod judge;
+mod names;
+mod numbers;
+mod parameters;
+mod refusal;
+mod separators;
+mod sheet;
+
+use std::io::{self, Read};
+
+use chunk::Chunk;
+use judge::Judge;
+
+/// What a trace is answered with.
+pub struct Answer {
+    pub accepted: bool,
+    /// The bytes to print.
+    pub text: Vec<u8>,
+}
+
+/// Reads a whole trace and judges it.
+pub fn read_trace(mut input: impl Read) -> io::Result<Answer> {
+    let mut chunk = Chunk::new();
+    let mut judge = Judge::new();
+    loop {
+        let more = chunk.fill(&mut input)?;
+        if !more {
+            chunk.end_last_line();
+        }
+        if let Err(refused) = judge.take_lines(&mut chunk) {
+            return Ok(sheet::refused(&refused));
+        }
+        if !more {
+            return Ok(judge.finish(chunk.left()));
+        }
+    }
+}

@@ -1,0 +1,124 @@
+//! The tracked names, found by hash, each with what is known of it.
+
+use super::bytes::{first_bytes, word_at, Part};
+use super::event_rules::{Kind, States, ANY};
+
+pub const MOST_NAMES: usize = 256;
+pub const MOST_CORES: usize = 64;
+
+const PLACES: usize = 1024;
+const FREE: u16 = u16::MAX;
+
+/// No instance holds the core.
+pub const IDLE: u32 = u32::MAX;
+
+/// No line of the series or the count was seen.
+pub const NONE_YET: u64 = u64::MAX;
+
+pub struct Name {
+    /// The name's bytes, filled up with 0.
+    bytes: [u8; 64],
+    len: usize,
+    pub kind: Kind,
+    /// A process or runnable: the last number of its series. A semaphore: its
+    /// last count.
+    pub last: u64,
+    /// A semaphore's state.
+    pub states: States,
+    /// A core's: the instance that holds it, and since when that is so.
+    pub holder: u32,
+    pub since: u64,
+    /// A core's ticks up to `since`; a process's charge is in `held`.
+    pub held: u64,
+    pub idle: u64,
+    pub unknown: u64,
+}
+
+impl Name {
+    pub fn text(&self) -> Vec<u8> {
+        self.bytes[..self.len].to_vec()
+    }
+
+    #[inline(always)]
+    fn is(&self, text: &[u8]) -> bool {
+        self.len == text.len() && self.bytes[..self.len] == *text
+    }
+}
+
+pub struct Names {
+    /// At each place the number of a name, or FREE; on a clash the next place.
+    places: [u16; PLACES],
+    pub list: Vec<Name>,
+    pub core_count: usize,
+}
+
+impl Names {
+    pub fn new() -> Names {
+        Names { places: [FREE; PLACES], list: Vec::with_capacity(MOST_NAMES), core_count: 0 }
+    }
+
+    /// The number of a tracked name.
+    #[inline(always)]
+    pub fn find(&self, chunk: &[u8], part: Part) -> Option<usize> {
+        if part.len == 0 || part.len > 64 {
+            return None;
+        }
+        let text = part.of(chunk);
+        let mut place = place_of(chunk, part);
+        loop {
+            let number = usize::from(self.places[place % PLACES]);
+            let name = self.list.get(number)?;
+            if name.is(text) {
+                return Some(number);
+            }
+            place += 1;
+        }
+    }
+
+    /// Adds a name that isn't tracked yet; its number.
+    #[cold]
+    pub fn add(&mut self, chunk: &[u8], part: Part, kind: Kind) -> usize {
+        let mut place = place_of(chunk, part);
+        while self.places[place % PLACES] != FREE {
+            place += 1;
+        }
+        let number = self.list.len();
+        self.places[place % PLACES] = number as u16;
+        self.list.push(new_name(part.of(chunk), kind));
+        if kind == Kind::Core {
+            self.core_count += 1;
+        }
+        number
+    }
+}
+
+/// Every byte counts, since names share long beginnings or endings.
+#[inline(always)]
+fn place_of(chunk: &[u8], part: Part) -> usize {
+    const FACTOR: u64 = 0x9e37_79b9_7f4a_7c15;
+    let window = &chunk[part.from..part.from + 64];
+    let whole = (part.len - 1) & !7;
+    let mut hash = 0u64;
+    for eight in window[..whole].chunks_exact(8) {
+        hash = (hash.rotate_left(29) ^ word_at(eight, 0)).wrapping_mul(FACTOR);
+    }
+    hash = (hash.rotate_left(29) ^ first_bytes(word_at(window, whole), part.len - whole)).wrapping_mul(FACTOR);
+    (hash >> 54) as usize
+}
+
+fn new_name(text: &[u8], kind: Kind) -> Name {
+    let mut bytes = [0; 64];
+    bytes[..text.len()].copy_from_slice(text);
+    Name {
+        bytes,
+        len: text.len(),
+        kind,
+        last: NONE_YET,
+        states: ANY,
+        holder: IDLE,
+        since: 0,
+        held: 0,
+        idle: 0,
+        unknown: 0,
+    }
+}

@@ -1,0 +1,75 @@
+//! Made traces are accepted, and the answer doesn't depend on how they are read.
+
+use std::io::{self, Read};
+
+use baseline::making::{make_trace, Plan};
+use baseline::reading::read_trace;
+
+fn made(cores: usize, tasks: usize, runnables: usize, bytes: u64, seed: u64) -> Vec<u8> {
+    let plan = Plan { cores, tasks, runnables, bytes, seed };
+    assert_eq!(plan.fault(), None);
+    let mut trace = Vec::new();
+    make_trace(&plan, &mut trace).expect("memory can be written");
+    trace
+}
+
+fn answer(input: impl Read) -> String {
+    String::from_utf8(read_trace(input).expect("memory can be read").text).expect("names are ASCII")
+}
+
+/// Hands out a few bytes at a time, now more and now less.
+struct InPieces<'trace> {
+    rest: &'trace [u8],
+    size: usize,
+}
+
+impl Read for InPieces<'_> {
+    fn read(&mut self, room: &mut [u8]) -> io::Result<usize> {
+        self.size = self.size * 7 % 5003 + 1;
+        let size = self.size.min(room.len()).min(self.rest.len());
+        room[..size].copy_from_slice(&self.rest[..size]);
+        self.rest = &self.rest[size..];
+        Ok(size)
+    }
+}
+
+#[test]
+fn made_traces_of_all_sizes_are_accepted() {
+    for (cores, tasks, runnables) in
+        [(1, 1, 0), (1, 8, 4), (4, 48, 72), (64, 1, 1), (64, 100, 92), (1, 255, 0), (3, 2, 251), (4, 116, 116)]
+    {
+        for seed in 0..4 {
+            let trace = made(cores, tasks, runnables, 400_000, seed);
+            let text = answer(trace.as_slice());
+            assert!(text.starts_with("verdict 0 line 0 scale ns span "), "{text}");
+            // a few tasks need their time to come to every core
+            assert!(tasks < cores || text.contains(&format!("\ncores {cores}\n")), "{text}");
+            assert!(text.contains(&format!("\nprocesses {tasks}\n")), "{text}");
+        }
+    }
+}
+
+#[test]
+fn a_trace_has_about_the_size_that_was_asked_for() {
+    for bytes in [5_000, 100_000, 1_000_000] {
+        let len = made(4, 8, 8, bytes, 1).len() as u64;
+        assert!((bytes..bytes + 5_000).contains(&len), "{len} of {bytes}");
+    }
+}
+
+#[test]
+fn the_same_seed_gives_the_same_trace() {
+    assert_eq!(made(4, 8, 8, 50_000, 3), made(4, 8, 8, 50_000, 3));
+    assert_ne!(made(4, 8, 8, 50_000, 3), made(4, 8, 8, 50_000, 4));
+}
+
+#[test]
+fn the_answer_does_not_depend_on_the_pieces() {
+    let trace = made(4, 16, 16, 300_000, 5);
+    let whole = answer(trace.as_slice());
+    for size in [0, 1, 700, 4999] {
+        assert_eq!(answer(InPieces { rest: &trace, size }), whole);
+    }
+    let with_returns = String::from_utf8(trace).expect("made of ASCII").replace('\n', "\r\n");
+    assert_eq!(answer(with_returns.as_bytes()), whole);
+}
