@@ -1,0 +1,9 @@
+// The fixed sample of the second reader, in one container: what is printed of each trace is held to the second reader's answers.
+use libc::STDIN_FILENO;
+use many::container::say_all;
+
+fn main() {
+    let mut input = [0u8; 131072];
+    let n = io::read_full(STDIN_FILENO, &mut input);
+    say_all(&input[..n]);
+}
