@@ -26,3 +26,4 @@ pub mod words;
 // What the comparison needs besides.
 pub mod cases;
 pub mod container;
+pub mod making;
