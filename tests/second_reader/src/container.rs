@@ -4,6 +4,8 @@
 //! byte 10. The length makes it possible to hold any bytes, and a trace whose
 //! last line lacks its end.
 
+use crate::printing::run_on;
+
 pub struct LabelledTrace {
     /// One word, without blanks.
     pub label: String,
@@ -32,6 +34,16 @@ pub fn read_container(container: &[u8]) -> Result<Vec<LabelledTrace>, String> {
         rest = after;
     }
     Ok(traces)
+}
+
+/// For each trace the line `trace LABEL` and then what the program prints.
+pub fn answers_text(traces: &[LabelledTrace]) -> String {
+    let mut text = String::new();
+    for trace in traces {
+        text += &format!("trace {}\n", trace.label);
+        text += &run_on(&trace.bytes).printed;
+    }
+    text
 }
 
 fn read_one(container: &[u8]) -> Option<(LabelledTrace, &[u8])> {

@@ -27,3 +27,4 @@ pub mod words;
 pub mod cases;
 pub mod container;
 pub mod making;
+pub mod sample;

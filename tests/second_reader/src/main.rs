@@ -6,7 +6,7 @@
 use std::io::{self, Read, Write};
 use std::process::ExitCode;
 
-use second_reader::container::read_container;
+use second_reader::container::{answers_text, read_container};
 use second_reader::printing::{run_on, ACCEPTED, NO_ANSWER};
 
 fn main() -> ExitCode {
@@ -40,10 +40,7 @@ fn judge_one(arguments: &[String]) -> Result<u8, String> {
 fn judge_containers(files: &[String]) -> Result<u8, String> {
     let mut printed = String::new();
     for container in read_all(files)? {
-        for trace in read_container(&container)? {
-            printed += &format!("trace {}\n", trace.label);
-            printed += &run_on(&trace.bytes).printed;
-        }
+        printed += &answers_text(&read_container(&container)?);
     }
     print_bytes(printed.as_bytes())?;
     Ok(ACCEPTED)

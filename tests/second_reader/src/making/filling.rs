@@ -9,7 +9,7 @@ pub const NAMES: usize = 256;
 pub const CORES: usize = 64;
 pub const INSTANCES: usize = 1_024;
 
-const FIRST_CORE_EVENTS: [&str; 9] =
+pub const CORE_EVENTS: [&str; 9] =
     ["start", "resume", "poll_parking", "preempt", "wait", "park", "terminate", "poll", "run"];
 
 pub struct Filling {
@@ -25,6 +25,9 @@ pub struct Filling {
     given: usize,
     /// Names and types of tasks and interrupt routines.
     processes: Vec<(String, &'static str)>,
+    /// Names of cores, and of semaphores and runnables.
+    core_names: Vec<String>,
+    other_names: Vec<String>,
     /// Lines that may still come once, and that add nothing.
     follow_ups: Vec<EventText>,
 }
@@ -40,6 +43,8 @@ impl Filling {
             long_names: random.chance(25),
             given: 0,
             processes: Vec::new(),
+            core_names: Vec::new(),
+            other_names: Vec::new(),
             follow_ups: Vec::new(),
         }
     }
@@ -62,10 +67,16 @@ impl Filling {
     }
 
     pub fn any_process(&self, random: &mut Random) -> Option<(String, &'static str)> {
-        if self.processes.is_empty() {
-            return None;
-        }
-        Some(self.processes[random.below(self.processes.len())].clone())
+        any_of(random, &self.processes)
+    }
+
+    pub fn any_core(&self, random: &mut Random) -> Option<String> {
+        any_of(random, &self.core_names)
+    }
+
+    /// A tracked semaphore or runnable.
+    pub fn any_other(&self, random: &mut Random) -> Option<String> {
+        any_of(random, &self.other_names)
     }
 
     pub fn follow_up(&mut self, random: &mut Random) -> Option<EventText> {
@@ -88,6 +99,7 @@ impl Filling {
         let line = EventText::new(self.time, ("P", 0), ("SEM", "queued"), (&name, 0)).with_note("1");
         self.add(&line);
         self.follow_ups.push(line);
+        self.other_names.push(name);
     }
 
     /// A name with one instance: a process or a runnable.
@@ -101,6 +113,7 @@ impl Filling {
         self.pass_time(random);
         self.add(&EventText::new(self.time, ("P", 0), ("R", "start"), (&name, 5)));
         self.follow_ups.push(EventText::new(0, ("P", 0), ("R", "suspend"), (&name, 5)));
+        self.other_names.push(name);
     }
 
     pub fn add_process(&mut self, random: &mut Random) {
@@ -136,8 +149,9 @@ impl Filling {
         self.cores += 1;
         self.instances += 1;
         self.pass_time(random);
-        let event = random.pick(&FIRST_CORE_EVENTS);
+        let event = random.pick(&CORE_EVENTS);
         self.add(&EventText::new(self.time, (&core, 0), (type_word, event), (process, number)));
+        self.core_names.push(core);
     }
 
     /// A name with up to `most` instances, numbered on, as far as they fit.
@@ -158,4 +172,11 @@ impl Filling {
             }
         }
     }
+}
+
+fn any_of<T: Clone>(random: &mut Random, items: &[T]) -> Option<T> {
+    if items.is_empty() {
+        return None;
+    }
+    Some(items[random.below(items.len())].clone())
 }

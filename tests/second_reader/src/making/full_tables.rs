@@ -2,19 +2,40 @@
 //! or one past it.
 
 use super::draft::EventText;
-use super::filling::{Filling, CORES, INSTANCES, NAMES};
+use super::filling::{Filling, CORES, CORE_EVENTS, INSTANCES, NAMES};
 use super::names::name_of_length;
 use super::random::Random;
 use super::Made;
 
-/// A full table that is still taken, or one that overflows.
+/// A full table that is still taken, or a line that earns 9 there, which is
+/// lower than the 10 that the line would earn besides.
 pub fn make(random: &mut Random) -> Made {
-    if random.chance(40) {
-        return Made::aimed(10, overflow(random));
-    }
     let mut filling = fill(random);
     add_nothing_new(random, &mut filling);
+    if random.chance(40) {
+        let line = second_kind(random, &mut filling);
+        filling.add_now(line);
+        return Made::aimed(9, filling.draft.finish(random));
+    }
     Made::aimed(0, filling.draft.finish(random))
+}
+
+/// A name in a second kind, with names and an instance that may not fit.
+fn second_kind(random: &mut Random, filling: &mut Filling) -> EventText {
+    let event = random.pick(&CORE_EVENTS);
+    let what = (random.pick(&["T", "I"]), event);
+    let (new, also_new) = (filling.new_name(random), filling.new_name(random));
+    let known = match random.below(3) {
+        0 => filling.any_other(random),
+        1 => filling.any_core(random),
+        _ => filling.any_process(random).map(|(name, _)| name),
+    };
+    match (random.below(3), known, filling.any_other(random)) {
+        (0, Some(known), _) => EventText::new(0, (&known, 0), what, (&known, 0)),
+        (1, _, Some(other)) => EventText::new(0, (&other, 0), what, (&also_new, 77)),
+        (2, _, Some(other)) => EventText::new(0, (&new, 0), what, (&other, 77)),
+        _ => EventText::new(0, (&new, 0), what, (&new, 0)),
+    }
 }
 
 /// Aim 10: one name, core or instance too many.
@@ -125,40 +146,46 @@ fn add_nothing_new(random: &mut Random, filling: &mut Filling) {
     }
 }
 
+/// The line may break higher numbers as well: 11, 13 or 14.
 fn one_name_too_many(random: &mut Random, filling: &mut Filling) -> EventText {
     let new = filling.new_name(random);
     let (time, target) = (filling.time, (new.as_str(), 0));
-    match random.below(4) {
-        0 => EventText::new(time, ("P", 0), ("SEM", "queued"), target).with_note("1"),
-        1 => EventText::new(time, ("P", 0), ("R", random.pick(&["start", "suspend", "resume"])), target),
-        2 => EventText::new(time, ("S", 0), ("T", random.pick(&["activate", "release", "mtalimitexceeded"])), target),
+    match random.below(5) {
+        0 => EventText::new(time, ("P", 0), ("SEM", random.pick(&["queued", "increment"])), target).with_note("0"),
+        1 => EventText::new(time, target, ("SEM", random.pick(&["free", "lock", "overfull"])), target).with_note("1"),
+        2 => EventText::new(time, ("P", 0), ("R", random.pick(&["start", "suspend", "resume"])), target),
+        3 => EventText::new(time, ("S", 0), ("T", random.pick(&["activate", "release", "mtalimitexceeded"])), target),
         _ => one_core_too_many(random, filling),
     }
 }
 
-/// A new core, and a process that is known or new.
+/// A new core, and a process that is known or new. The step of a known
+/// instance may be wrong, or its core another one.
 fn one_core_too_many(random: &mut Random, filling: &mut Filling) -> EventText {
-    let Some((name, type_word)) = filling.any_process(random).filter(|_| random.chance(60)) else {
+    let Some((name, type_word)) = filling.any_process(random).filter(|_| random.chance(70)) else {
         return new_core_and_process(random, filling);
     };
     let core = filling.new_name(random);
-    let event = random.pick(&["start", "resume", "poll_parking", "preempt", "run"]);
-    EventText::new(filling.time, (&core, 0), (type_word, event), (&name, 77))
+    let number = *random.pick(&[&0, &0, &77]);
+    EventText::new(filling.time, (&core, 0), (type_word, random.pick(&CORE_EVENTS)), (&name, number))
 }
 
 fn new_core_and_process(random: &mut Random, filling: &mut Filling) -> EventText {
     let (core, process) = (filling.new_name(random), filling.new_name(random));
-    let event = random.pick(&["start", "resume", "poll_parking", "preempt", "run"]);
-    EventText::new(filling.time, (&core, 0), (random.pick(&["T", "I"]), event), (&process, 0))
+    let what = (random.pick(&["T", "I"]), random.pick(&CORE_EVENTS));
+    EventText::new(filling.time, (&core, 0), what, (&process, 0))
 }
 
-/// A new instance of a known or new process or runnable.
+/// A new instance of a known or new process or runnable. Its number may be out
+/// of series, or its core held.
 fn one_instance_too_many(random: &mut Random, filling: &mut Filling) -> EventText {
     let time = filling.time;
+    let core = filling.any_core(random).unwrap_or_else(|| "C".to_string());
     if let Some((name, type_word)) = filling.any_process(random).filter(|_| random.chance(60)) {
-        return EventText::new(time, ("C", 0), (type_word, random.pick(&["release", "activate", "start"])), (&name, 77));
+        let event = random.pick(&["release", "activate", "start", "preempt", "run"]);
+        return EventText::new(time, (&core, 0), (type_word, event), (&name, 77));
     }
     let name = filling.new_name(random);
-    let what = *random.pick(&[&("R", "start"), &("R", "resume"), &("T", "activate"), &("I", "start")]);
-    EventText::new(time, ("C", 0), what, (&name, 0))
+    let what = *random.pick(&[&("R", "start"), &("R", "resume"), &("T", "activate"), &("I", "start"), &("I", "poll")]);
+    EventText::new(time, (&core, 0), what, (&name, 0))
 }
