@@ -1,0 +1,175 @@
+//! `compare PROGRAM COUNT SEED [FOLDER]`: makes COUNT traces, gives each one to
+//! the program under test on its standard input, and compares the bytes printed
+//! and the exit status with those of the second reader. Traces on which the two
+//! disagree are kept in FOLDER.
+
+#![forbid(unsafe_code)]
+
+use std::fs::{self, File};
+use std::io::Write;
+use std::path::{Path, PathBuf};
+use std::process::{Child, Command, ExitCode, Output, Stdio};
+
+use second_reader::making::make_trace;
+use second_reader::making::random::Random;
+use second_reader::printing::{number_of, run_on, Run};
+
+/// One number of 67 traces: 300 of 20,000.
+const SHARE: u64 = 67;
+
+struct Task {
+    program: PathBuf,
+    count: u64,
+    seed: u64,
+    folder: PathBuf,
+}
+
+/// What the comparison has found so far.
+#[derive(Default)]
+struct Findings {
+    /// How often the second reader answered each number.
+    numbers: [u64; 15],
+    disagreements: u64,
+}
+
+fn main() -> ExitCode {
+    let arguments: Vec<String> = std::env::args().skip(1).collect();
+    let result = read_task(&arguments).and_then(|task| Ok((compare(&task)?, task)));
+    match result {
+        Ok((findings, task)) if report(&findings, &task) => ExitCode::SUCCESS,
+        Ok(_) => ExitCode::from(1),
+        Err(cause) => {
+            eprintln!("compare: {cause}");
+            ExitCode::from(2)
+        }
+    }
+}
+
+fn read_task(arguments: &[String]) -> Result<Task, String> {
+    let (program, count, seed, folder) = match arguments {
+        [program, count, seed] => (program, count, seed, "disagreements"),
+        [program, count, seed, folder] => (program, count, seed, folder.as_str()),
+        _ => return Err("arguments: PROGRAM COUNT SEED [FOLDER]".to_string()),
+    };
+    Ok(Task {
+        program: PathBuf::from(program),
+        count: count.parse().map_err(|_| "the count is no number")?,
+        seed: seed.parse().map_err(|_| "the seed is no number")?,
+        folder: PathBuf::from(folder),
+    })
+}
+
+fn compare(task: &Task) -> Result<Findings, String> {
+    fs::create_dir_all(&task.folder).map_err(|error| format!("{}: {error}", task.folder.display()))?;
+    let mut findings = Findings::default();
+    for index in 0..task.count {
+        let trace = make_trace(task.seed, index).bytes;
+        let wanted = run_on(&trace);
+        if let Some(count) = number_of(&wanted.printed).and_then(|n| findings.numbers.get_mut(usize::from(n))) {
+            *count += 1;
+        }
+        let got = run_program(task, index, &trace)?;
+        if got.stdout != wanted.printed.as_bytes() || got.status.code() != Some(i32::from(wanted.status)) {
+            findings.disagreements += 1;
+            keep(task, index, &trace, &wanted, &got)?;
+        }
+    }
+    Ok(findings)
+}
+
+/// Most traces come from a file, which is quick; every eighth one comes through
+/// a pipe in pieces, since reads then end at other places.
+fn run_program(task: &Task, index: u64, trace: &[u8]) -> Result<Output, String> {
+    let answer = if index % 8 == 7 {
+        run_with_pipe(task, index, trace)
+    } else {
+        run_with_file(task, trace)
+    };
+    answer.map_err(|error| format!("{}: {error}", task.program.display()))
+}
+
+fn start(task: &Task, input: Stdio) -> std::io::Result<Child> {
+    Command::new(&task.program)
+        .stdin(input)
+        .stdout(Stdio::piped())
+        .stderr(Stdio::null())
+        .spawn()
+}
+
+fn run_with_file(task: &Task, trace: &[u8]) -> std::io::Result<Output> {
+    let path = task.folder.join("current.btf");
+    fs::write(&path, trace)?;
+    start(task, Stdio::from(File::open(&path)?))?.wait_with_output()
+}
+
+fn run_with_pipe(task: &Task, index: u64, trace: &[u8]) -> std::io::Result<Output> {
+    let mut child = start(task, Stdio::piped())?;
+    let input = child.stdin.take();
+    std::thread::scope(|scope| {
+        scope.spawn(move || {
+            if let Some(mut input) = input {
+                write_in_pieces(index, trace, &mut input);
+            }
+        });
+        child.wait_with_output()
+    })
+}
+
+/// A program that has its answer may stop reading, so a refused write is fine.
+fn write_in_pieces(index: u64, trace: &[u8], input: &mut impl Write) {
+    let random = &mut Random::new(index, trace.len() as u64);
+    let mut rest = trace;
+    while !rest.is_empty() {
+        let size = (*random.pick(&[&1, &17, &1000, &4096, &65_536])).min(rest.len());
+        if input.write_all(&rest[..size]).is_err() {
+            return;
+        }
+        rest = &rest[size..];
+    }
+}
+
+fn keep(task: &Task, index: u64, trace: &[u8], wanted: &Run, got: &Output) -> Result<(), String> {
+    let name = format!("disagreement_{}_{index}", task.seed);
+    let path = task.folder.join(name + ".btf");
+    let write = |ending: &str, bytes: &[u8]| {
+        let path = path.with_extension(ending);
+        fs::write(&path, bytes).map_err(|error| format!("{}: {error}", path.display()))
+    };
+    write("btf", trace)?;
+    write("wanted", wanted.printed.as_bytes())?;
+    write("got", &got.stdout)?;
+    println!(
+        "trace {index}: wanted `{}` and status {}, got `{}` and {}; kept in {}",
+        first_line(wanted.printed.as_bytes()),
+        wanted.status,
+        first_line(&got.stdout),
+        got.status,
+        shown(&path)
+    );
+    Ok(())
+}
+
+fn first_line(printed: &[u8]) -> String {
+    let line = printed.split(|&byte| byte == b'\n').next().unwrap_or_default();
+    String::from_utf8_lossy(line).into_owned()
+}
+
+fn shown(path: &Path) -> String {
+    path.display().to_string()
+}
+
+/// Prints the figures; true if the two agree and each number came often enough.
+fn report(findings: &Findings, task: &Task) -> bool {
+    let least = task.count / SHARE;
+    let mut often_enough = true;
+    for (number, &count) in findings.numbers.iter().enumerate() {
+        let rare = count < least;
+        often_enough &= !rare;
+        println!("number {number:2}: {count:6} times{}", if rare { ", too rare" } else { "" });
+    }
+    println!(
+        "{} traces of seed {}, {} disagreements",
+        task.count, task.seed, findings.disagreements
+    );
+    findings.disagreements == 0 && often_enough
+}

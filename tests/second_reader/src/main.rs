@@ -1,0 +1,74 @@
+//! `second_reader [FILE]`: judges one trace, from a file or standard input.
+//! `second_reader --many [FILE..]`: judges every trace of containers.
+
+#![forbid(unsafe_code)]
+
+use std::io::{self, Read, Write};
+use std::process::ExitCode;
+
+use second_reader::container::{answers_text, read_container};
+use second_reader::printing::{run_on, ACCEPTED, NO_ANSWER};
+
+fn main() -> ExitCode {
+    let arguments: Vec<String> = std::env::args().skip(1).collect();
+    let result = match arguments.first().map(String::as_str) {
+        Some("--many") => judge_containers(&arguments[1..]),
+        _ => judge_one(&arguments),
+    };
+    match result {
+        Ok(status) => ExitCode::from(status),
+        Err(cause) => {
+            eprintln!("second_reader: {cause}");
+            ExitCode::from(NO_ANSWER)
+        }
+    }
+}
+
+fn judge_one(arguments: &[String]) -> Result<u8, String> {
+    let trace = match arguments {
+        [] => read_standard_input()?,
+        [file] => read_file(file)?,
+        _ => return Err("one trace at a time; --many takes containers".to_string()),
+    };
+    let run = run_on(&trace);
+    print_bytes(run.printed.as_bytes())?;
+    Ok(run.status)
+}
+
+/// Prints for each trace the line `trace LABEL` and then its answer. The status
+/// says only that all were judged.
+fn judge_containers(files: &[String]) -> Result<u8, String> {
+    let mut printed = String::new();
+    for container in read_all(files)? {
+        printed += &answers_text(&read_container(&container)?);
+    }
+    print_bytes(printed.as_bytes())?;
+    Ok(ACCEPTED)
+}
+
+fn read_all(files: &[String]) -> Result<Vec<Vec<u8>>, String> {
+    if files.is_empty() {
+        return Ok(vec![read_standard_input()?]);
+    }
+    files.iter().map(|file| read_file(file)).collect()
+}
+
+fn read_standard_input() -> Result<Vec<u8>, String> {
+    let mut bytes = Vec::new();
+    io::stdin()
+        .read_to_end(&mut bytes)
+        .map_err(|error| format!("standard input: {error}"))?;
+    Ok(bytes)
+}
+
+fn read_file(path: &str) -> Result<Vec<u8>, String> {
+    std::fs::read(path).map_err(|error| format!("{path}: {error}"))
+}
+
+fn print_bytes(bytes: &[u8]) -> Result<(), String> {
+    let mut output = io::stdout();
+    output
+        .write_all(bytes)
+        .and_then(|()| output.flush())
+        .map_err(|error| format!("standard output: {error}"))
+}

@@ -1,0 +1,63 @@
+//! The events of runnables that a world may tell.
+
+use super::draft::EventText;
+use super::random::Random;
+use super::steps::{all_runnable_steps, runnable_steps, Step};
+use super::world::{any_number, Entity, World};
+
+impl World {
+    pub fn runnable_event(&mut self, random: &mut Random) -> Option<EventText> {
+        let runnable = random.below(self.runnables.len());
+        let entity = &self.runnables[runnable];
+        let choices = if random.chance(65) {
+            next_choices(entity)
+        } else {
+            let number = entity.unused_number(random)?;
+            first_choices(entity, number)
+        };
+        if choices.is_empty() {
+            return None;
+        }
+        let (number, step) = choices[random.below(choices.len())];
+        Some(self.tell_runnable_event(random, runnable, number, step))
+    }
+
+    pub fn tell_runnable_event(
+        &mut self,
+        random: &mut Random,
+        runnable: usize,
+        number: u32,
+        (event, state): Step,
+    ) -> EventText {
+        let entity = &mut self.runnables[runnable];
+        entity.set_state(number, state);
+        if event == "start" {
+            entity.last = Some(number);
+        }
+        let target = entity.name.clone();
+        let source = self.any_name(random);
+        self.track(&target, "R");
+        EventText::new(self.time, (&source, any_number(random)), ("R", event), (&target, number))
+    }
+}
+
+fn is_free_to_come(entity: &Entity, number: u32, step: Step) -> bool {
+    step.0 != "start" || entity.may_be_next(number)
+}
+
+fn next_choices(entity: &Entity) -> Vec<(u32, Step)> {
+    let mut choices = Vec::new();
+    for &(number, state) in &entity.instances {
+        let steps = runnable_steps(state).into_iter();
+        choices.extend(steps.filter(|&step| is_free_to_come(entity, number, step)).map(|step| (number, step)));
+    }
+    choices
+}
+
+fn first_choices(entity: &Entity, number: u32) -> Vec<(u32, Step)> {
+    all_runnable_steps()
+        .into_iter()
+        .filter(|&step| is_free_to_come(entity, number, step))
+        .map(|step| (number, step))
+        .collect()
+}

@@ -1,0 +1,40 @@
+//! The maker of traces against the reader: two write-ups of the same rules.
+
+use std::collections::BTreeMap;
+
+use second_reader::making::make_trace;
+use second_reader::printing::{number_of, run_on};
+
+const TRACES: u64 = 4_800;
+
+#[test]
+fn every_aim_is_reached() {
+    for seed in [1, 2] {
+        for index in 0..TRACES {
+            let made = make_trace(seed, index);
+            let printed = run_on(&made.bytes).printed;
+            if let Some(aim) = made.aim {
+                assert_eq!(number_of(&printed), Some(aim), "seed {seed}, trace {index}");
+            }
+        }
+    }
+}
+
+#[test]
+fn every_number_comes_often() {
+    let mut counts: BTreeMap<u8, u64> = BTreeMap::new();
+    for index in 0..TRACES {
+        let printed = run_on(&make_trace(3, index).bytes).printed;
+        *counts.entry(number_of(&printed).expect("an answer")).or_default() += 1;
+    }
+    assert_eq!(counts.keys().copied().collect::<Vec<u8>>(), (0..=14).collect::<Vec<u8>>());
+    assert!(counts.values().all(|&count| count >= TRACES / 67), "{counts:?}");
+}
+
+#[test]
+fn a_trace_can_be_made_again() {
+    for index in 0..48 {
+        assert_eq!(make_trace(9, index).bytes, make_trace(9, index).bytes);
+        assert_ne!(make_trace(9, index).bytes, make_trace(9, index + 24).bytes);
+    }
+}
