@@ -110,16 +110,28 @@ pub fn word(random: &mut Random) -> Vec<u8> {
     story.finish_with_damage(random, event.line())
 }
 
+/// Known words that don't go together, though they easily might.
+const NEAR_MISSES: [(&str, &str); 12] = [
+    ("I", "mtalimitexceeded"), ("T", "interrupt_suspended"), ("T", "suspend"), ("R", "preempt"), ("R", "activate"),
+    ("R", "wait"), ("SEM", "release"), ("T", "released"), ("T", "wait_event"), ("EVENT", "wait"), ("SCHED", "trigger"),
+    ("SIG", "set_event"),
+];
+
 fn spoil_words(random: &mut Random, event: &mut EventText) {
     let original = event.clone();
     while read_type_and_event(&event.fields[3], &event.fields[6]).is_some() {
         *event = original.clone();
-        match random.below(5) {
+        match random.below(6) {
             0 => event.set(4, random.pick(&["", "t", "ISR", "1", "TASK", "Sem", "CORE", "ST", "TT", "SIGNAL"]).as_bytes()),
             1 => event.set(7, random.pick(&["", "Start", "stop", "suspended", "activ", "-", "trigger_", "free_"]).as_bytes()),
             2 => spoil_one_word(random, event, 4),
             3 => spoil_one_word(random, event, 7),
-            _ => swap_in_other_word(random, event),
+            4 => swap_in_other_word(random, event),
+            _ => {
+                let (type_word, word) = NEAR_MISSES[random.below(NEAR_MISSES.len())];
+                event.set(4, type_word.as_bytes());
+                event.set(7, word.as_bytes());
+            }
         }
     }
 }

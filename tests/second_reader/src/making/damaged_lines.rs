@@ -81,14 +81,14 @@ const WRONG_PARAMETERS: [&str; 34] = [
     "#entityTypeMapping T Task_1ms", "#0,S,0,STI,S,0,trigger",
 ];
 
-const WRONG_DATES: [&str; 26] = [
+const WRONG_DATES: [&str; 27] = [
     "", "2012-08-31T15:53:00", "2012-08-31T15:53:00z", "2012-08-31 15:53:00Z", "2012-08-31T15:53:00ZZ",
     "2012-08-31T15:53:00 Z", "2012-08-31T15:53:00+00:00", "2012-08-31T15:53Z", "2012-8-31T15:53:00Z",
     "12012-08-31T15:53:00Z", "2012-08-31t15:53:00Z", "2012/08/31T15:53:00Z", "-012-08-31T15:53:00Z",
     "1900-02-29T00:00:00Z", "2023-02-29T00:00:00Z", "2100-02-29T00:00:00Z", "2000-02-30T00:00:00Z",
     "2023-04-31T00:00:00Z", "2023-06-31T00:00:00Z", "2023-11-31T00:00:00Z", "2023-00-10T00:00:00Z",
     "2023-13-10T00:00:00Z", "2023-01-00T00:00:00Z", "2023-01-32T00:00:00Z", "2023-01-10T24:00:00Z",
-    "2023-01-10T00:60:00Z",
+    "2023-01-10T00:60:00Z", "2023-01-10T00:00:60Z",
 ];
 
 /// Aim 3: an unknown, malformed, repeated or late parameter.
@@ -112,9 +112,7 @@ pub fn parameter(random: &mut Random) -> Vec<u8> {
 }
 
 fn wrong_date(random: &mut Random) -> Vec<u8> {
-    let drawn = random.below(WRONG_DATES.len() + 1);
-    let date = WRONG_DATES.get(drawn).unwrap_or(&"2023-01-10T00:00:60Z");
-    format!("#creationDate {date}").into_bytes()
+    format!("#creationDate {}", WRONG_DATES[random.below(WRONG_DATES.len())]).into_bytes()
 }
 
 fn any_parameter(random: &mut Random) -> Vec<u8> {
