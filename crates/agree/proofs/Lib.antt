@@ -32,3 +32,4 @@ pub mod Verdicts
 pub mod Judged
 pub mod Refused
 pub mod Examples
+pub mod Tight

@@ -5,11 +5,11 @@ use mathlib.Core.Bool.{Bool, true, false, cond}
 use mathlib.Core.List.{List}
 use Prim.Native.Nat.{ℕ, zero, suc}
 use lib.Dec.{eqb}
+use Rattle.text.proofs.Tight.{unique}
 use Rattle.line.specs.declared.reading.Reading.{Reading}
 use Rattle.line.specs.declared.reading.Reading.the-variants.{Version, Comment, TimeScale, Creator, CreationDate, EventLine, Refused}
 use Rattle.line.specs.Part.{fieldOf}
 use Rattle.line.specs.Reading.{readLine}
-use Rattle.line.proofs.Unique.{unique}
 use Rattle.rules.specs.Lists.{ifZero}
 use Rattle.rules.specs.Trace.{placed}
 use Rattle.tables.specs.Entry.{verdictNumber}

@@ -6,3 +6,4 @@ pub mod Plans
 pub mod Decided
 pub mod Stores
 pub mod Feeds
+pub mod Tight

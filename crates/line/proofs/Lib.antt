@@ -14,3 +14,4 @@ pub mod Trips
 pub mod Outputs
 pub mod Unique
 pub mod Examples
+pub mod Tight

@@ -1,16 +1,14 @@
--- Where a contract is an equation, no second outcome satisfies it: once for any function, and at the three public functions of a line.
-use mathlib.Core.Path.{_≡_, sym, ap, _∙_}
+-- No second outcome satisfies the contracts of the three public functions of a line.
+use mathlib.Core.Path.{_≡_, ap}
 use mathlib.Core.List.{List}
 use Prim.Native.Nat.{ℕ}
+use Rattle.text.proofs.Tight.{unique}
 use Rattle.line.specs.declared.event.Event.{Event}
 use Rattle.line.specs.declared.reading.Reading.{Reading}
 use Rattle.line.specs.declared.writing.Written.{Written}
 use Rattle.line.specs.Part.{fieldOf}
 use Rattle.line.specs.Reading.{readLine}
 use Rattle.line.specs.Writing.{Wrote, wrote, writeLine}
-
-pub unique : {A B : Type 0} (f : A → B) (a : A) (x y : B) → x ≡ f a → y ≡ f a → x ≡ y
-unique f a x y p q = p ∙ sym q
 
 pub field-unique : (l : List ℕ) (k : ℕ) (p q : List ℕ) → p ≡ fieldOf l k → q ≡ fieldOf l k → p ≡ q
 field-unique l = unique (fieldOf l)

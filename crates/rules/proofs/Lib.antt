@@ -21,3 +21,4 @@ pub mod Told
 pub mod Places
 pub mod Traces
 pub mod TraceExamples
+pub mod Tight

@@ -8,3 +8,4 @@ pub mod Reports
 pub mod Printed
 pub mod Reading
 pub mod Buffered
+pub mod Tight

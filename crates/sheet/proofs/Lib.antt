@@ -6,3 +6,4 @@ pub mod Short
 pub mod Figures
 pub mod ShownRows
 pub mod Demand
+pub mod Tight

@@ -5,3 +5,4 @@ pub mod Valid
 pub mod Zeros
 pub mod Found
 pub mod Stores
+pub mod Tight

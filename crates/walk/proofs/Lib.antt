@@ -3,4 +3,5 @@ pub mod Cuts
 pub mod Chunks
 pub mod Nexts
 pub mod Examples
+pub mod Tight
 mod Held

@@ -4,3 +4,4 @@ pub mod Actions
 pub mod Tables
 pub mod Classes
 pub mod Found
+pub mod Tight

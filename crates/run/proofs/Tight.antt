@@ -1,0 +1,38 @@
+-- How tight the contracts of reading and printing are: no second answer, and a wrong answer that they shut out.
+use mathlib.Core.Path.{_≡_, refl}
+use mathlib.Core.List.{List, []}
+use Prim.Native.Nat.{ℕ}
+use lib.Dec.{eqb}
+use lib.ListN.{take}
+use Rattle.text.specs.Pieces.{pieces}
+use Rattle.text.proofs.Tight.{unique, ShutsOut, shut-out}
+use Rattle.line.specs.Part.{partsOf}
+use Rattle.line.specs.Event.{eventReading}
+use Rattle.line.specs.Reading.{hasBreak, isEventLine, readLine}
+use Rattle.rules.specs.Trace.{placed}
+use Rattle.tables.specs.Entry.{verdictNumber}
+use Rattle.tables.proofs.Zeros.{fresh-answer}
+use Rattle.judge.specs.Feed.{Tables, placeIn, remembered, placedLine, lined, fedLine, freshTables}
+use Rattle.sheet.specs.Sheet.{Sheeted}
+use Rattle.run.specs.Chunk.{Turned, chunkTaken, lastTaken}
+use Rattle.run.specs.Report.{reportWritten}
+
+-- ---- `take_chunk`
+
+pub turn-unique : (t : Tables) (buf : List ℕ) (n : ℕ) (x y : Turned) → x ≡ chunkTaken t buf n → y ≡ chunkTaken t buf n → x ≡ y
+turn-unique t buf = unique (chunkTaken t buf)
+
+-- ---- `take_last`
+
+pub last-unique : (t : Tables) (buf : List ℕ) (n : ℕ) (x y : Tables) → x ≡ lastTaken t buf n → y ≡ lastTaken t buf n → x ≡ y
+last-unique t buf = unique (lastTaken t buf)
+
+-- nothing carried over is no line
+pub last-not-empty : ShutsOut {A = Tables × List ℕ × ℕ} (λ (t, buf, n). lastTaken t buf n) (λ (t, buf, n). fedLine t (take n buf) .left)
+unfolding lastTaken fedLine lined placedLine placeIn placed readLine hasBreak isEventLine eventReading partsOf pieces remembered
+last-not-empty = shut-out (λ t. eqb (verdictNumber (t .nums)) 0) (freshTables, [], 0) refl (rw fresh-answer)
+
+-- ---- `report`
+
+pub report-unique : (names nums ticks out : List ℕ) (x y : Sheeted) → x ≡ reportWritten names nums ticks out → y ≡ reportWritten names nums ticks out → x ≡ y
+report-unique names nums ticks = unique (reportWritten names nums ticks)

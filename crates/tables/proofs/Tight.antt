@@ -1,0 +1,54 @@
+-- How tight the contracts of the lent tables are: no second answer, and wrong answers that they shut out.
+use mathlib.Core.Path.{_≡_, refl}
+use mathlib.Core.Bool.{true}
+use mathlib.Core.List.{List, [], _∷_}
+use Prim.Native.Nat.{ℕ}
+use lib.Dec.{eqb}
+use lib.ListN.{length, getD, replicate, length-replicate}
+use Rattle.text.proofs.Tight.{unique, ShutsOut, shut-out}
+use Rattle.tables.specs.declared.find.Found.{Found}
+use Rattle.tables.specs.Entry.{namesSize, numsSize, ticksSize}
+use Rattle.tables.specs.Find.{findName, findInstance}
+use Rattle.tables.specs.Range.{isSized, tableAnswer}
+use Rattle.tables.specs.Fresh.{Cleared, cleared, clearedOf}
+use Rattle.tables.proofs.Valid.{sizes-mean}
+
+pub find-name-unique : (names nums name : List ℕ) (x y : Found) → x ≡ findName names nums name → y ≡ findName names nums name → x ≡ y
+find-name-unique names nums = unique (findName names nums)
+
+pub find-instance-unique : (nums : List ℕ) (owner number : ℕ) (x y : Found) → x ≡ findInstance nums owner number → y ≡ findInstance nums owner number → x ≡ y
+find-instance-unique nums owner = unique (findInstance nums owner)
+
+pub table-answer-unique : (names nums ticks : List ℕ) (x y : ℕ) → x ≡ tableAnswer names nums ticks → y ≡ tableAnswer names nums ticks → x ≡ y
+table-answer-unique names nums = unique (tableAnswer names nums)
+
+-- ---- `clear`
+
+pub clear-unique : (names nums ticks : List ℕ) (x y : Cleared) → x ≡ clearedOf names nums ticks → y ≡ clearedOf names nums ticks → x ≡ y
+clear-unique names nums = unique (clearedOf names nums)
+
+abbrev Three : Type 0
+Three = List ℕ × List ℕ × List ℕ
+
+abbrev clears : Three → Cleared
+clears (names, nums, ticks) = clearedOf names nums ticks
+
+-- it says 0 and leaves the tables; they held ones
+abbrev held : Three
+held = (replicate namesSize 1, replicate numsSize 1, replicate ticksSize 1)
+
+held-sized : isSized (length (held .0)) (length (held .1)) (length (held .2)) ≡ true
+held-sized =
+    sizes-mean (held .0) (held .1) (held .2)
+    .shows
+    (record { names-size = length-replicate {A = ℕ} namesSize 1; nums-size = length-replicate {A = ℕ} numsSize 1; ticks-size = length-replicate {A = ℕ} ticksSize 1 })
+
+pub clear-not-idle : ShutsOut clears (λ (names, nums, ticks). cleared 0 names nums ticks)
+unfolding clearedOf
+clear-not-idle = shut-out (λ c. eqb (getD (c .names) 0 0) 0) held (rw held-sized) refl
+
+-- it zeroes tables of any size
+pub clear-not-any-size :
+    ShutsOut clears (λ (names, nums, ticks). cleared 0 (replicate (length names) 0) (replicate (length nums) 0) (replicate (length ticks) 0))
+unfolding clearedOf isSized
+clear-not-any-size = shut-out (λ c. eqb (c .answer) 15) ([], [], []) refl refl
