@@ -36,9 +36,9 @@ use Rattle.rules.specs.Refusals.{
 use Rattle.rules.specs.Rows.{opened}
 use Rattle.rules.specs.Verdict.{answer, Accepted}
 use Rattle.tables.specs.Entry.{startedEntry, nameCount, coreCount, instanceCount, lastTime}
-use Rattle.judge.specs.declared.sight.Sight.{Sight}
-use Rattle.judge.specs.Sight.{sightOf}
-use Rattle.judge.specs.Known.{kindIn, newCore, newName, newInstance, knownBy}
+use Rattle.decide.specs.declared.sight.Sight.{Sight}
+use Rattle.decide.specs.Sight.{sightOf}
+use Rattle.decide.specs.Known.{kindIn, newCore, newName, newInstance, knownBy}
 use Rattle.judge.specs.Feed.{Tables}
 use Rattle.agree.specs.Shown.{Shown, HeadShown, startedOf, lastOf}
 use Rattle.agree.specs.Taken.{sightIn}

@@ -23,7 +23,7 @@ use Rattle.rules.proofs.Tracked.{now, names-once, named-kind, kind-stays}
 use Rattle.rules.proofs.Charges.{holding-later, charge-at-most}
 use Rattle.rules.proofs.Meets.{Met}
 use Rattle.tables.specs.Entry.{sinceAt}
-use Rattle.judge.specs.Sight.{coreClass}
+use Rattle.decide.specs.Sight.{coreClass}
 use Rattle.judge.specs.Feed.{Tables}
 use Rattle.agree.specs.Places.{rowOf}
 use Rattle.agree.specs.Shown.{Shown, OtherTicks, openTicks, openCharge}

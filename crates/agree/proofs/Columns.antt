@@ -15,9 +15,9 @@ use Rattle.rules.proofs.Tests.{both}
 use Rattle.tables.specs.Entry.{numsSize, lineCount, nameCount, coreCount, instanceCount}
 use Rattle.tables.specs.Entry.{kindAt, lengthAt, markAt, numberAt, numberedAt, ownerAt, instanceAt, stateAt}
 use Rattle.tables.proofs.Stores.{same, other}
-use Rattle.judge.specs.declared.happening.Happening.{Happening}
-use Rattle.judge.specs.declared.sight.Sight.{Sight}
-use Rattle.judge.specs.Known.{newCore, newName}
+use Rattle.decide.specs.declared.happening.Happening.{Happening}
+use Rattle.decide.specs.declared.sight.Sight.{Sight}
+use Rattle.decide.specs.Known.{newCore, newName}
 use Rattle.judge.specs.Store.{targetRow, storeRow, storeInstance, storeMark, storeNumber, withRows, withTarget, withCore, withHeads}
 use Rattle.judge.proofs.Stores.{length-storeRow, length-storeMark, length-storeInstance}
 

@@ -21,7 +21,7 @@ use Rattle.rules.proofs.Totals.{core-total}
 use Rattle.rules.proofs.Meets.{Met}
 use Rattle.rules.proofs.Tracked.{kind-stays}
 use Rattle.tables.specs.Entry.{sinceAt}
-use Rattle.judge.specs.Sight.{coreClass}
+use Rattle.decide.specs.Sight.{coreClass}
 use Rattle.judge.specs.Feed.{Tables}
 use Rattle.agree.specs.Places.{rowOf}
 use Rattle.agree.specs.Shown.{Shown, CoreTicks, openTicks}

@@ -20,10 +20,10 @@ use Rattle.tables.specs.declared.find.Found.{Found}
 use Rattle.tables.specs.declared.find.Found.the-variants.{At, Nothing}
 use Rattle.tables.specs.Entry.{namesSize, numsSize, verdictNumber, verdictLine, lineCount, scaleEntry, creatorEntry, dateEntry, startedEntry, nameCount, coreCount, instanceCount}
 use Rattle.tables.specs.Entry.{kindAt, lengthAt, markAt, numberAt, numberedAt, ownerAt, instanceAt, stateAt, nameAt}
-use Rattle.judge.specs.declared.happening.Happening.{Happening}
-use Rattle.judge.specs.declared.sight.Sight.{Sight}
-use Rattle.judge.specs.Happening.{asEvent}
-use Rattle.judge.specs.Known.{oneNew, newCore, newName, newInstance}
+use Rattle.decide.specs.declared.happening.Happening.{Happening}
+use Rattle.decide.specs.declared.sight.Sight.{Sight}
+use Rattle.decide.specs.Happening.{asEvent}
+use Rattle.decide.specs.Known.{oneNew, newCore, newName, newInstance}
 use Rattle.judge.specs.Store.{rowOr, coreRow, targetRow, instanceRow, storeName, storeInstance, withRows, withTarget, withCore, takenNames, takenNums}
 use Rattle.judge.proofs.Stores.{length-storeName, length-withRows, length-withTarget, length-withCore}
 use Rattle.agree.proofs.Columns.{length-if, Outside, isNewCore, isNewTarget, Fills, Counts, row-kind, row-length, row-mark, row-number, row-numbered, number-number, number-numbered}

@@ -17,13 +17,13 @@ use Rattle.rules.specs.Lines.{eventFrom, eventIn, eventOfLine, withEvent, event
 use Rattle.rules.proofs.Answers.{passed}
 use Rattle.rules.proofs.Meets.{Met, line-meets}
 use Rattle.rules.proofs.Traces.{Kept}
-use Rattle.judge.specs.declared.happening.Happening.{Happening}
-use Rattle.judge.specs.declared.sight.Sight.{Sight}
-use Rattle.judge.specs.declared.decide.Plan.{Plan}
-use Rattle.judge.specs.declared.decide.Plan.the-variants.{Refuse, Take}
-use Rattle.judge.specs.Happening.{happeningOf, asEvent}
-use Rattle.judge.specs.Sight.{sightOf}
-use Rattle.judge.specs.Decide.{enters, planBy, planOf}
+use Rattle.decide.specs.declared.happening.Happening.{Happening}
+use Rattle.decide.specs.declared.sight.Sight.{Sight}
+use Rattle.decide.specs.declared.plan.Plan.{Plan}
+use Rattle.decide.specs.declared.plan.Plan.the-variants.{Refuse, Take}
+use Rattle.decide.specs.Happening.{happeningOf, asEvent}
+use Rattle.decide.specs.Sight.{sightOf}
+use Rattle.decide.specs.Decide.{enters, planBy, planOf}
 use Rattle.judge.specs.Feed.{Tables, carried, eventLined}
 use Rattle.agree.specs.Shown.{Shown, Shows}
 use Rattle.agree.specs.Taken.{sightIn, takenBy}

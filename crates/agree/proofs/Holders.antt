@@ -16,8 +16,8 @@ use Rattle.rules.specs.Refusals.{serves}
 use Rattle.rules.proofs.Tests.{both, clash, instance-true, instance-refl}
 use Rattle.rules.proofs.CoreWords.{on-process}
 use Rattle.tables.specs.declared.find.Found.the-variants.{At, Nothing}
-use Rattle.judge.specs.Known.{another, holds, coreIn}
-use Rattle.judge.proofs.Plans.{another-differs}
+use Rattle.decide.specs.Known.{another, holds, coreIn}
+use Rattle.decide.proofs.Plans.{another-differs}
 use Rattle.agree.specs.Places.{seek, instanceRowOf}
 use Rattle.agree.specs.Shown.{coreMark}
 use Rattle.agree.proofs.Places.{place-one}

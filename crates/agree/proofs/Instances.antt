@@ -14,8 +14,8 @@ use Rattle.rules.proofs.Tests.{both, clash, instance-true, instance-refl, and-t
 use Rattle.rules.proofs.Changes.{state-other}
 use Rattle.rules.proofs.Answers.{Passed}
 use Rattle.rules.proofs.Tracked.{named-kind}
-use Rattle.judge.specs.declared.happening.Happening.{Happening}
-use Rattle.judge.specs.Happening.{asEvent}
+use Rattle.decide.specs.declared.happening.Happening.{Happening}
+use Rattle.decide.specs.Happening.{asEvent}
 use Rattle.judge.specs.Feed.{Tables}
 use Rattle.agree.specs.Places.{rowOf, instanceRowOf}
 use Rattle.agree.specs.Shown.{InstanceShown, Shown}

@@ -23,10 +23,10 @@ use Rattle.rules.proofs.CoreWords.{on-process}
 use Rattle.rules.proofs.Steps.{step-state}
 use Rattle.tables.specs.declared.find.Found.{Found}
 use Rattle.tables.specs.declared.find.Found.the-variants.{Nothing}
-use Rattle.judge.specs.Known.{markIn, entryOf, stateIn, numberKnown, coreIn, knownBy}
-use Rattle.judge.specs.Decide.{enters}
+use Rattle.decide.specs.Known.{markIn, entryOf, stateIn, numberKnown, coreIn, knownBy}
+use Rattle.decide.specs.Decide.{enters}
+use Rattle.decide.proofs.Classes.{class-on}
 use Rattle.judge.specs.Feed.{Tables}
-use Rattle.judge.proofs.Classes.{class-on}
 use Rattle.rules.proofs.Tracked.{target-is, source-is}
 use Rattle.agree.specs.Places.{seek}
 use Rattle.agree.specs.Shown.{Shown, theSemaphore, numberOf}

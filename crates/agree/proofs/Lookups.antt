@@ -25,11 +25,11 @@ use Rattle.tables.specs.declared.find.Found.the-variants.{At, Nothing}
 use Rattle.tables.specs.Entry.{nameCount, instanceCount, nameAt, ownerAt, instanceAt}
 use Rattle.tables.specs.Find.{firstFrom, lastBelow, rowIs, findName, instanceIs, findInstance}
 use Rattle.tables.proofs.Found.{first-at, first-none, last-at, last-none, name-found, instance-found, row-name, name-row, instance-means}
-use Rattle.judge.specs.Sight.{coreClass, lookIf, instanceIn, sightOf}
-use Rattle.judge.specs.Known.{oneNew, newCore, newName, newInstance as newRow}
+use Rattle.decide.specs.Sight.{coreClass, lookIf, instanceIn, sightOf}
+use Rattle.decide.specs.Known.{oneNew, newCore, newName, newInstance as newRow}
+use Rattle.decide.proofs.Classes.{class-on}
 use Rattle.judge.specs.Store.{rowOr, coreRow, targetRow, instanceRow}
 use Rattle.judge.specs.Feed.{Tables}
-use Rattle.judge.proofs.Classes.{class-on}
 use Rattle.agree.specs.Places.{place, seek, rowOf, instanceRowOf}
 use Rattle.agree.specs.Shown.{Shown}
 use Rattle.agree.specs.Taken.{sightIn}

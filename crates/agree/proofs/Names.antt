@@ -24,8 +24,8 @@ use Rattle.rules.proofs.Answers.{Passed}
 use Rattle.rules.proofs.Tracked.{target-kind, two-names, source-kind, kind-stays, kind-named}
 use Rattle.rules.proofs.Meets.{Met}
 use Rattle.tables.specs.Entry.{nameCount, nameAt, lengthAt, kindAt, markAt, numberAt, numberedAt}
-use Rattle.judge.specs.declared.happening.Happening.{Happening}
-use Rattle.judge.specs.Happening.{asEvent}
+use Rattle.decide.specs.declared.happening.Happening.{Happening}
+use Rattle.decide.specs.Happening.{asEvent}
 use Rattle.judge.specs.Store.{targetRow}
 use Rattle.judge.specs.Feed.{Tables}
 use Rattle.agree.specs.Places.{rowOf, instanceRowOf}

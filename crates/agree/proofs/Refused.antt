@@ -15,12 +15,12 @@ use Rattle.rules.specs.Trace.{placed}
 use Rattle.tables.specs.Entry.{verdictNumber}
 use Rattle.tables.specs.Range.{tableAnswer}
 use Rattle.tables.specs.Fresh.{Cleared, clearedOf}
-use Rattle.judge.specs.declared.happening.Happening.{Happening}
-use Rattle.judge.specs.declared.decide.Plan.{Plan}
-use Rattle.judge.specs.declared.decide.Plan.the-variants.{Refuse, Take}
+use Rattle.decide.specs.declared.happening.Happening.{Happening}
+use Rattle.decide.specs.declared.plan.Plan.{Plan}
+use Rattle.decide.specs.declared.plan.Plan.the-variants.{Refuse, Take}
+use Rattle.decide.specs.Happening.{happeningOf, asEvent}
+use Rattle.decide.specs.Decide.{planOf}
 use Rattle.judge.specs.declared.feed.Verdict.{Verdict}
-use Rattle.judge.specs.Happening.{happeningOf, asEvent}
-use Rattle.judge.specs.Decide.{planOf}
 use Rattle.judge.specs.Feed.{Tables, tables, After, after, placeIn, remembered, carried, eventLined, readLined, placedLine, lined, fedLine, AfterChunk, fedChunk, verdict, verdictOf, AfterTrace, judgedTrace}
 use Rattle.judge.proofs.Feeds.{verdict-again}
 use Rattle.agree.proofs.Heads.{AgreeFrom}

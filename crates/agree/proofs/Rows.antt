@@ -21,12 +21,12 @@ use Rattle.rules.proofs.Tests.{both, neither, clash, instance-true, instance-re
 use Rattle.rules.proofs.Answers.{Passed, Fits}
 use Rattle.rules.proofs.CoreWords.{on-process, gives-only}
 use Rattle.tables.specs.Entry.{kindAt, markAt, numberAt, numberedAt, ownerAt, instanceAt, stateAt}
-use Rattle.judge.specs.declared.happening.Happening.{Happening}
-use Rattle.judge.specs.Happening.{asEvent}
-use Rattle.judge.specs.Sight.{coreClass}
+use Rattle.decide.specs.declared.happening.Happening.{Happening}
+use Rattle.decide.specs.Happening.{asEvent}
+use Rattle.decide.specs.Sight.{coreClass}
+use Rattle.decide.proofs.Classes.{class-on}
 use Rattle.judge.specs.Store.{coreRow, targetRow, instanceRow, takenNums}
 use Rattle.judge.specs.Feed.{Tables}
-use Rattle.judge.proofs.Classes.{class-on}
 use Rattle.agree.specs.Places.{place, rowOf, instanceRowOf}
 use Rattle.agree.specs.Shown.{Shown}
 use Rattle.agree.specs.Taken.{sightIn}

@@ -9,8 +9,8 @@ use lib.ListN.{length}
 use Rattle.rules.specs.Event.{Event}
 use Rattle.rules.proofs.Answers.{Passed}
 use Rattle.tables.specs.Entry.{namesSize, numsSize, ticksSize}
-use Rattle.judge.specs.declared.happening.Happening.{Happening}
-use Rattle.judge.specs.Happening.{asEvent}
+use Rattle.decide.specs.declared.happening.Happening.{Happening}
+use Rattle.decide.specs.Happening.{asEvent}
 use Rattle.judge.specs.Feed.{Tables}
 use Rattle.judge.proofs.Stores.{length-takenNames, length-takenNums, length-takenTicks}
 use Rattle.agree.specs.Shown.{firstOf, startedOf, HeadShown, Shown}

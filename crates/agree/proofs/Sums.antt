@@ -10,8 +10,8 @@ use Rattle.rules.specs.History.{names}
 use Rattle.rules.specs.Verdict.{Accepted}
 use Rattle.rules.proofs.Answers.{Passed}
 use Rattle.rules.proofs.Meets.{Met}
-use Rattle.judge.specs.declared.happening.Happening.{Happening}
-use Rattle.judge.specs.Happening.{asEvent}
+use Rattle.decide.specs.declared.happening.Happening.{Happening}
+use Rattle.decide.specs.Happening.{asEvent}
 use Rattle.judge.specs.Feed.{Tables}
 use Rattle.agree.specs.Places.{rowOf}
 use Rattle.agree.specs.Shown.{Shown, TicksShown}

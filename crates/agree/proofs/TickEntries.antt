@@ -12,8 +12,8 @@ use Rattle.tables.specs.declared.find.Found.{Found}
 use Rattle.tables.specs.declared.find.Found.the-variants.{At, Nothing}
 use Rattle.tables.specs.Entry.{ticksSize, startedEntry, nameCount, firstTime, lastTime, heldAt, idleAt, unknownAt, sinceAt}
 use Rattle.tables.proofs.Stores.{same, other}
-use Rattle.judge.specs.declared.sight.Sight.{Sight}
-use Rattle.judge.specs.Known.{oneNew, newCore, newName}
+use Rattle.decide.specs.declared.sight.Sight.{Sight}
+use Rattle.decide.specs.Known.{oneNew, newCore, newName}
 use Rattle.judge.specs.Store.{rowOr, coreRow, targetRow, storeSums, settled, withTimes, withSums, takenTicks}
 use Rattle.judge.proofs.Stores.{length-storeSums, length-withSums, length-settled}
 

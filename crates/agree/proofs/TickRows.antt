@@ -22,11 +22,11 @@ use Rattle.rules.proofs.Answers.{Passed, all-fit}
 use Rattle.rules.proofs.CoreWords.{on-process}
 use Rattle.rules.proofs.Tracked.{two-names, source-kind}
 use Rattle.tables.specs.Entry.{lastTime, sinceAt}
-use Rattle.judge.specs.Known.{newCore, newName}
-use Rattle.judge.specs.Sight.{coreClass}
+use Rattle.decide.specs.Known.{newCore, newName}
+use Rattle.decide.specs.Sight.{coreClass}
+use Rattle.decide.proofs.Classes.{class-on}
 use Rattle.judge.specs.Store.{coreRow, targetRow, takenTicks}
 use Rattle.judge.specs.Feed.{Tables}
-use Rattle.judge.proofs.Classes.{class-on}
 use Rattle.agree.specs.Places.{rowOf}
 use Rattle.agree.specs.Shown.{Shown}
 use Rattle.agree.specs.Taken.{sightIn}

@@ -23,7 +23,7 @@ use Rattle.rules.proofs.Seen.{Worded, first-seen}
 use Rattle.rules.proofs.Tests.{clash}
 use Rattle.rules.proofs.Tracked.{kind-named, named-kind}
 use Rattle.tables.specs.Entry.{kindAt}
-use Rattle.judge.specs.Known.{entryOf, kindIn, markIn, numberKnown}
+use Rattle.decide.specs.Known.{entryOf, kindIn, markIn, numberKnown}
 use Rattle.judge.specs.Feed.{Tables}
 use Rattle.agree.specs.Places.{place, seek, rowOf}
 use Rattle.agree.specs.Shown.{Shown, coreMark, theSemaphore, numberOf}

@@ -18,7 +18,7 @@ use Rattle.rules.proofs.Changes.{core-own}
 use Rattle.rules.proofs.CoreWords.{on-process, Sort, taker, giver, keeper, sort}
 use Rattle.rules.proofs.CoreRuns.{served-free, served-own}
 use Rattle.rules.proofs.Tracked.{Tracked, tracked, named-kind, source-is}
-use Rattle.judge.specs.Sight.{coreClass}
+use Rattle.decide.specs.Sight.{coreClass}
 use Rattle.agree.proofs.Grown.{name-kind, core-known}
 
 -- with whether the core's name is there, and what the core was and is

@@ -7,10 +7,10 @@ use lib.ListN.{length}
 use Rattle.text.specs.Bytes.{sameBytes}
 use Rattle.rules.specs.Event.{Event, sameInstance, instanceOf}
 use Rattle.rules.specs.History.{hasInstances, isTracked, names, instances}
-use Rattle.judge.specs.declared.happening.Happening.{Happening}
-use Rattle.judge.specs.declared.sight.Sight.{Sight}
-use Rattle.judge.specs.Happening.{asEvent}
-use Rattle.judge.specs.Sight.{coreClass, lookIf}
+use Rattle.decide.specs.declared.happening.Happening.{Happening}
+use Rattle.decide.specs.declared.sight.Sight.{Sight}
+use Rattle.decide.specs.Happening.{asEvent}
+use Rattle.decide.specs.Sight.{coreClass, lookIf}
 use Rattle.judge.specs.Store.{takenNames, takenNums, takenTicks}
 use Rattle.judge.specs.Feed.{Tables, tables}
 use Rattle.agree.specs.Places.{seek}

@@ -23,14 +23,15 @@ use Rattle.rules.specs.Trace.{scaleNumber, placed}
 use Rattle.tables.specs.Entry.{namesSize, numsSize, ticksSize, verdictNumber}
 use Rattle.tables.specs.Range.{isSized, tableAnswer}
 use Rattle.tables.specs.Fresh.{Cleared, cleared, clearedOf}
-use Rattle.tables.proofs.Valid.{valid, sizes-mean}
-use Rattle.judge.specs.declared.happening.Happening.{Happening}
-use Rattle.judge.specs.declared.decide.Plan.{Plan}
-use Rattle.judge.specs.declared.decide.Plan.the-variants.{Refuse, Take}
-use Rattle.judge.specs.declared.sight.Sight.{Sight}
+use Rattle.tables.proofs.Valid.{Sizes, valid, sizes-mean}
+use Rattle.decide.specs.declared.happening.Happening.{Happening}
+use Rattle.decide.specs.declared.plan.Plan.{Plan}
+use Rattle.decide.specs.declared.plan.Plan.the-variants.{Refuse, Take}
+use Rattle.decide.specs.declared.sight.Sight.{Sight}
+use Rattle.decide.specs.Happening.{happeningOf, asEvent}
+use Rattle.decide.specs.Decide.{planOf, decided}
+use Rattle.decide.proofs.Decided.{decided-sized}
 use Rattle.judge.specs.declared.feed.Verdict.{Verdict}
-use Rattle.judge.specs.Happening.{happeningOf, asEvent}
-use Rattle.judge.specs.Decide.{planOf}
 use Rattle.judge.specs.Store.{takenNames, takenNums, takenTicks}
 use Rattle.judge.specs.Feed.{Tables, tables, After, after, placeIn, remembered, counted, carried, eventLined, readLined, placedLine, lined, fedLine, allLined, chunked, fedChunk, verdict, verdictIn, verdictOf, freshTables, AfterTrace, traced, judgedTrace}
 use Rattle.judge.proofs.Stores.{length-takenNames, length-takenNums, length-takenTicks}
@@ -153,10 +154,12 @@ module _ (t : Tables) where
       → after 0 a b d ≡ carried p t h source target
   taken-carried h source target p q = rw (p, q .0, q .1 .0, q .1 .1)
 
-  pub carried-lined : {p : Plan} {h : Happening} {source target : List ℕ} (l : List ℕ) (e : ReadEvent) (count : ℕ) → h ≡ happeningOf e count → source ≡ fieldOf l 2 → target ≡ fieldOf l 5
-      → p ≡ planOf (t .names) (t .nums) (t .ticks) (asEvent h source target) → carried p t h source target ≡ eventLined t l e count
+  pub carried-lined : {p : Plan} {h : Happening} {source target : List ℕ} (l : List ℕ) (e : ReadEvent) (count : ℕ) → Sized t → h ≡ happeningOf e count → source ≡ fieldOf l 2 → target ≡ fieldOf l 5
+      → p ≡ decided (t .names) (t .nums) (t .ticks) (asEvent h source target) → carried p t h source target ≡ eventLined t l e count
   unfolding eventLined
-  carried-lined l e count ph ps pt pp = rw (pp, ph, ps, pt)
+  carried-lined {h = h} {source} {target} l e count z ph ps pt pp =
+      let sizes : Sizes (t .names) (t .nums) (t .ticks) = record { names-size = z .0; nums-size = z .1 .0; ticks-size = z .1 .1 } in
+      rw (pp, decided-sized (asEvent h source target) sizes, ph, ps, pt)
 
 -- ---- a line
 

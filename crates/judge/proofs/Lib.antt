@@ -1,9 +1,4 @@
 -- The laws of the judge, which the proofs of this crate and of the crates above it cite.
-pub mod Ranges
-pub mod Classes
-pub mod Counts
-pub mod Plans
-pub mod Decided
 pub mod Stores
 pub mod Feeds
 pub mod Tight

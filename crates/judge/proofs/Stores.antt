@@ -16,9 +16,9 @@ use Rattle.tables.specs.declared.find.Found.{Found}
 use Rattle.tables.specs.declared.find.Found.the-variants.{At, Nothing}
 use Rattle.tables.specs.Entry.{startedEntry, nameCount, firstTime}
 use Rattle.tables.proofs.Stores.{other}
-use Rattle.judge.specs.declared.happening.Happening.{Happening}
-use Rattle.judge.specs.declared.sight.Sight.{Sight}
-use Rattle.judge.specs.Known.{oneNew, newCore, newName, newInstance}
+use Rattle.decide.specs.declared.happening.Happening.{Happening}
+use Rattle.decide.specs.declared.sight.Sight.{Sight}
+use Rattle.decide.specs.Known.{oneNew, newCore, newName, newInstance}
 use Rattle.judge.specs.Store.{coreRow, targetRow, instanceRow, storeName, storeRow, storeSums, storeInstance, storeMark, storeNumber, takenNames, withRows, withTarget, withCore, withHeads, takenNums, settled, withTimes, withSums, takenTicks}
 
 -- ---- how many are new

@@ -15,13 +15,13 @@ use Rattle.rules.specs.Lists.{ifZero}
 use Rattle.rules.specs.Trace.{scaleNumber, placed}
 use Rattle.tables.specs.Entry.{namesSize, numsSize, ticksSize, verdictNumber, verdictLine, lineCount, scaleEntry, creatorEntry, dateEntry, startedEntry, firstTime, lastTime}
 use Rattle.tables.specs.Range.{isSized, tableAnswer}
-use Rattle.judge.specs.declared.happening.Happening.{Happening}
-use Rattle.judge.specs.declared.decide.Plan.{Plan}
-use Rattle.judge.specs.declared.decide.Plan.the-variants.{Refuse, Take}
+use Rattle.decide.specs.declared.happening.Happening.{Happening}
+use Rattle.decide.specs.declared.plan.Plan.{Plan}
+use Rattle.decide.specs.declared.plan.Plan.the-variants.{Refuse, Take}
+use Rattle.decide.specs.Happening.{happeningOf, asEvent}
+use Rattle.decide.specs.Decide.{planOf}
 use Rattle.judge.specs.declared.feed.Fed.{Fed}
 use Rattle.judge.specs.declared.feed.Verdict.{Verdict}
-use Rattle.judge.specs.Happening.{happeningOf, asEvent}
-use Rattle.judge.specs.Decide.{planOf}
 use Rattle.judge.specs.Store.{takenNames, takenNums, takenTicks}
 
 -- the three tables, and an answer with the three tables afterwards

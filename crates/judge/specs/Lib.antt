@@ -1,7 +1,3 @@
--- The judge over lent tables: what is looked up, what is decided from it, and what is stored.
-pub mod Happening
-pub mod Sight
-pub mod Known
-pub mod Decide
+-- The judge over lent tables: what an event line stores, one line, many lines, and the verdict.
 pub mod Store
 pub mod Feed

@@ -12,9 +12,9 @@ use Rattle.rules.specs.History.{hasInstances, activates}
 use Rattle.tables.specs.declared.find.Found.{Found}
 use Rattle.tables.specs.declared.find.Found.the-variants.{At, Nothing}
 use Rattle.tables.specs.Entry.{lineCount, startedEntry, nameCount, coreCount, instanceCount, firstTime, heldAt, idleAt, sinceAt}
-use Rattle.judge.specs.declared.happening.Happening.{Happening}
-use Rattle.judge.specs.declared.sight.Sight.{Sight}
-use Rattle.judge.specs.Known.{newCore, newName, newInstance}
+use Rattle.decide.specs.declared.happening.Happening.{Happening}
+use Rattle.decide.specs.declared.sight.Sight.{Sight}
+use Rattle.decide.specs.Known.{newCore, newName, newInstance}
 
 -- ---- the rows: those found, and otherwise the next ones
 

@@ -1,6 +1,6 @@
 -- How tight the contracts of the lent tables are: no second answer, and wrong answers that they shut out.
 use mathlib.Core.Path.{_≡_, refl}
-use mathlib.Core.Bool.{true}
+use mathlib.Core.Bool.{Bool, true, not, _&&_}
 use mathlib.Core.List.{List, [], _∷_}
 use Prim.Native.Nat.{ℕ}
 use lib.Dec.{eqb}
@@ -18,6 +18,14 @@ find-name-unique names nums = unique (findName names nums)
 
 pub find-instance-unique : (nums : List ℕ) (owner number : ℕ) (x y : Found) → x ≡ findInstance nums owner number → y ≡ findInstance nums owner number → x ≡ y
 find-instance-unique nums owner = unique (findInstance nums owner)
+
+pub sized-unique : (names nums ticks : ℕ) (x y : Bool) → x ≡ isSized names nums ticks → y ≡ isSized names nums ticks → x ≡ y
+sized-unique names nums = unique (isSized names nums)
+
+-- each table has a size of its own
+pub sized-not-alike : ShutsOut {A = ℕ × ℕ × ℕ} (λ (names, nums, ticks). isSized names nums ticks) (λ (names, nums, ticks). eqb names nums && eqb nums ticks)
+unfolding isSized
+sized-not-alike = shut-out not (0, 0, 0) refl refl
 
 pub table-answer-unique : (names nums ticks : List ℕ) (x y : ℕ) → x ≡ tableAnswer names nums ticks → y ≡ tableAnswer names nums ticks → x ≡ y
 table-answer-unique names nums = unique (tableAnswer names nums)

@@ -32,7 +32,7 @@ use crate::entry::VERDICT_LINE;
 use text::name::name;
 
 // Whether the three tables have their sizes.
-pub(crate) fn sized(names: usize, nums: usize, ticks: usize) -> bool
+pub fn sized(names: usize, nums: usize, ticks: usize) -> bool
     ensures { λ r. ⌜ r ≡ isSized names nums ticks ⌝ }
 {
     if names != NAMES_SIZE {

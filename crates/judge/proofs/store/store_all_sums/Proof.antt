@@ -9,7 +9,7 @@ use lib.Dec.{eqb}
 use lib.ListN.{length}
 use borrow.Author.Needs.{needs}
 use Rattle.tables.specs.Entry.{nameCount, startedEntry, firstTime}
-use Rattle.judge.specs.Known.{newCore}
+use Rattle.decide.specs.Known.{newCore}
 use Rattle.judge.specs.Store.{storeSums, withSums}
 use Rattle.judge.proofs.Stores.{made, unmade, length-storeSums, length-withSums}
 use Rattle.judge.proofs.store.store_all_sums.Statement.{statement}

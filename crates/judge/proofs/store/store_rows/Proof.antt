@@ -10,7 +10,7 @@ use lib.ListN.{length}
 use borrow.Author.Needs.{needs}
 use Rattle.rules.specs.Words.{core}
 use Rattle.tables.specs.Entry.{nameCount}
-use Rattle.judge.specs.Known.{newCore}
+use Rattle.decide.specs.Known.{newCore}
 use Rattle.judge.specs.Store.{storeRow, withRows}
 use Rattle.judge.proofs.Stores.{made, unmade, length-storeRow, length-withRows}
 use Rattle.judge.proofs.store.store_rows.Statement.{statement}

@@ -9,7 +9,7 @@ use lib.Dec.{eqb}
 use lib.ListN.{length}
 use borrow.Author.Needs.{needs}
 use Rattle.tables.specs.Entry.{nameCount}
-use Rattle.judge.specs.Known.{newCore}
+use Rattle.decide.specs.Known.{newCore}
 use Rattle.judge.specs.Store.{storeName, takenNames}
 use Rattle.judge.proofs.Stores.{made, unmade, length-storeName, length-takenNames}
 use Rattle.judge.proofs.store.take_names.Statement.{statement}

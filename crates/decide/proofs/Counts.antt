@@ -1,0 +1,41 @@
+-- What single numbers of the tables say: a row that is named, a row that is added, the least count of an event word.
+use mathlib.Core.Path.{_≡_, refl, sym}
+use mathlib.Core.Bool.{Bool, true, false, cond, _||_}
+use mathlib.Core.List.{[], _∷_}
+use Prim.Native.Nat.{ℕ, _+_, _-_, _≤_, _<_}
+use native.Mathlib.Omega.{arith}
+use lib.Dec.{eqb, leb, leb·zero}
+use borrow.Author.Tests.{eqb-true, eqb-false, eq-eqb, ne-eqb}
+use Rattle.rules.specs.Lists.{member}
+use Rattle.rules.specs.Words.{increment, lock-used, full, overfull, unlock-full, used}
+use Rattle.rules.specs.Refusals.{fixed}
+use Rattle.tables.specs.declared.find.Found.{Found}
+use Rattle.tables.specs.declared.find.Found.the-variants.{At, Nothing}
+use Rattle.decide.specs.Known.{oneNew, leastCount}
+
+-- a core's state is 2 more than the row of the instance that holds it
+pub row-named : (m j : ℕ) → 2 ≤ m → eqb (m - 2) j ≡ eqb m (j + 2)
+row-named m j h = by-test (eqb (m - 2) j) refl
+  where
+    by-test : (b : Bool) → eqb (m - 2) j ≡ b → b ≡ eqb m (j + 2)
+    by-test true q = sym (eq-eqb m (j + 2) (omega (arith, eqb-true (m - 2) j q)))
+    by-test false q = sym (ne-eqb m (j + 2) (λ e. eqb-false (m - 2) j q (omega arith)))
+
+pub row-unnamed : (m j : ℕ) → m < 2 → false ≡ eqb m (j + 2)
+row-unnamed m j h = sym (ne-eqb m (j + 2) (λ q. omega arith))
+
+pub one-at-most : {r : ℕ} (b : Bool) (f : Found) → r ≡ oneNew b f → r ≤ 1
+one-at-most false f e = omega arith
+one-at-most true (At i) e = omega arith
+one-at-most true Nothing e = omega arith
+
+-- but for the three words that fix the count
+pub least-fits : (a n : ℕ) → eqb a 16 ≡ false → eqb a 17 ≡ false → eqb a 18 ≡ false → leb (leastCount a) n ≡ fixed a n
+unfolding leastCount fixed
+least-fits a n p q r = rw (p, q, r) (by-test (eqb a increment) (member a (used ∷ unlock-full ∷ lock-used ∷ full ∷ [])) (eqb a overfull))
+  where
+    by-test : (i m o : Bool) → leb (cond (i || m) 1 (cond o 2 0)) n ≡ cond i (leb 1 n) (cond m (leb 1 n) (cond o (leb 2 n) true))
+    by-test true m o = refl
+    by-test false true o = refl
+    by-test false false true = refl
+    by-test false false false = leb·zero n

@@ -1,0 +1,220 @@
+-- What the code decides test after test is what the rules answer at what the tables say.
+use mathlib.Core.Path.{_≡_, refl, sym, ap, _∙_}
+use mathlib.Core.Bool.{Bool, true, false, not, _&&_, _||_, cond}
+use mathlib.Core.Option.{none, some}
+use mathlib.Core.List.{List}
+use Prim.Native.Nat.{ℕ, zero, suc, _+_}
+use native.Mathlib.Omega.{arith}
+use lib.Dec.{eqb, ltb, eqb·suc-zero}
+use borrow.Author.Tests.{ne-eqb, lt-leb}
+use Rattle.rules.specs.Lists.{ifZero}
+use Rattle.rules.specs.Chart.{stepFor, allowed}
+use Rattle.rules.specs.Charts.{chartOf}
+use Rattle.rules.specs.Words.{semaphore}
+use Rattle.rules.specs.History.{activates}
+use Rattle.rules.specs.Core.{held, takes, onCore}
+use Rattle.rules.specs.Event.{Event, Instance, sameInstance, instanceOf}
+use Rattle.rules.specs.Rows.{opened, leadsTo, moveIf, moveBy}
+use Rattle.rules.specs.Refusals.{
+  Known,
+  less,
+  differs,
+  unseen,
+  serves,
+  timeFalls,
+  sourceClash,
+  targetClash,
+  secondKind,
+  noRoom,
+  offChart,
+  isNext,
+  notNext,
+  coreBroken,
+  countFollows,
+  fixed,
+  countBroken,
+  rules,
+  answerTo,
+}
+use Rattle.rules.proofs.Tests.{instance-refl}
+use Rattle.tables.specs.declared.find.Found.{Found}
+use Rattle.tables.specs.declared.find.Found.the-variants.{At, Nothing}
+use Rattle.tables.specs.Entry.{startedEntry, lastTime}
+use Rattle.decide.specs.declared.sight.Sight.{Sight}
+use Rattle.decide.specs.declared.plan.Plan.{Plan}
+use Rattle.decide.specs.declared.plan.Plan.the-variants.{Refuse, Take}
+use Rattle.decide.specs.Sight.{coreClass, sightOf}
+use Rattle.decide.specs.Known.{
+  kindIn,
+  markIn,
+  numberIn,
+  numberedIn,
+  stateIn,
+  another,
+  holds,
+  coreIn,
+  knownBy,
+  timeFallsIn,
+  kindClash,
+  sourceClashIn,
+  targetClashIn,
+  noRoomIn,
+  notNextIn,
+  coreServes,
+  coreBrokenIn,
+  countFollowsIn,
+  countBrokenIn,
+}
+use Rattle.decide.specs.Decide.{enters, planBy, movePlan, stepsPlan, testsPlan, planOf}
+use Rattle.decide.proofs.Classes.{class-on, class-takes}
+
+-- ---- entries that are 0 for none
+
+clash-opened : (j k : ℕ) → kindClash j k ≡ differs (opened j) k
+unfolding kindClash
+clash-opened zero k = refl
+clash-opened (suc j) k = rw (eqb·suc-zero j)
+
+unseen-opened : (n : ℕ) → eqb n 0 ≡ unseen (opened n)
+unseen-opened zero = refl
+unseen-opened (suc n) = eqb·suc-zero n
+
+-- ---- the core rule: any core's state, and any class that takes it or not
+
+pub another-differs : (x : Instance) → sameInstance (another x) x ≡ false
+another-differs x = rw (ne-eqb (suc (x .kind)) (x .kind) (λ q. omega arith))
+
+holds-none : (f : Found) → holds f 1 ≡ false
+holds-none Nothing = refl
+holds-none (At j) = ne-eqb 1 (j + 2) (λ q. omega arith)
+
+module _ (class : ℕ) (f : Found) (x : Instance) (first : Bool) where
+  serves-in : (t : Bool) → eqb class 1 ≡ t → (mark : ℕ) → coreServes class mark f first ≡ serves (coreIn mark f x) t first x
+  unfolding coreServes coreIn
+  serves-in true q zero = rw q
+  serves-in false q zero = rw q
+  serves-in true q (suc zero) = rw q
+  serves-in false q (suc zero) = rw (q, holds-none f)
+  serves-in t q (suc (suc m)) =
+      rw (q, eqb·suc-zero (suc m), ne-eqb (suc (suc m)) 1 (λ e. omega arith), lt-leb (suc (suc m)) 1 (omega arith)) (by-row t (holds f (suc (suc m))))
+    where
+      by-row : (t b : Bool) → cond t false b ≡ serves (cond b (held x) (held (another x))) t first x
+      by-row true true = refl
+      by-row true false = refl
+      by-row false true = sym (instance-refl x)
+      by-row false false = sym (another-differs x)
+
+-- ---- each rule
+
+module _ (nums ticks : List ℕ) (s : Sight) (e : Event) where
+  time-in : timeFallsIn nums ticks (e .time) ≡ timeFalls (knownBy nums ticks s e) e
+  unfolding timeFallsIn timeFalls knownBy
+  time-in = by-test (eqb (startedEntry nums) 0)
+    where
+      by-test : (b : Bool) → not b && ltb (e .time) (lastTime ticks) ≡ less (e .time) (cond b none (some (lastTime ticks)))
+      by-test true = refl
+      by-test false = refl
+
+  target-in : targetClashIn nums s (e .kind) ≡ targetClash (knownBy nums ticks s e) e
+  unfolding targetClashIn targetClash knownBy
+  target-in = rw (clash-opened (kindIn nums (s .target)) (e .kind))
+
+  room-in : noRoomIn nums s (e .kind) ≡ noRoom (knownBy nums ticks s e) e
+  unfolding noRoomIn noRoom knownBy
+  room-in = refl
+
+  number-in : notNextIn nums s (e .kind) (e .word) (e .targetInstance) ≡ notNext (knownBy nums ticks s e) e
+  unfolding notNextIn notNext knownBy
+  number-in = ap (λ (b : Bool). activates (e .kind) (e .word) && b) (by-test (eqb (numberedIn nums (s .target)) 0))
+    where
+      by-test : (b : Bool) →
+          not b && not (eqb (e .targetInstance) (numberIn nums (s .target) + 1)) ≡ not (isNext (cond b none (some (numberIn nums (s .target)))) (e .targetInstance))
+      by-test true = refl
+      by-test false = refl
+
+  count-in : countBrokenIn nums s (e .kind) (e .word) (e .count) ≡ countBroken (knownBy nums ticks s e) e
+  unfolding countBrokenIn countBroken countFollowsIn countFollows knownBy
+  count-in =
+      ap (λ (b : Bool). eqb (e .kind) semaphore && b)
+      (by-test (eqb (numberedIn nums (s .target)) 0) (fixed (e .word) (e .count)) (countFollowsIn (numberIn nums (s .target)) (e .word) (e .count)) refl)
+    where
+      by-test : (z f g : Bool) → countFollowsIn (numberIn nums (s .target)) (e .word) (e .count) ≡ g →
+          not f || (not z && not g) ≡ not (countFollows (cond z none (some (numberIn nums (s .target)))) (e .word) (e .count) && f)
+      by-test true true g q = refl
+      by-test true false g q = refl
+      by-test false true true q = rw q
+      by-test false true false q = rw q
+      by-test false false true q = rw q
+      by-test false false false q = rw q
+
+  module _ (c : s .class ≡ coreClass (e .kind) (e .word)) where
+    on-in : not (eqb (s .class) 0) ≡ onCore e
+    on-in = rw c (class-on e)
+
+    source-in : sourceClashIn nums s (e .source) (e .target) ≡ sourceClash (knownBy nums ticks s e) e
+    unfolding sourceClashIn sourceClash knownBy
+    source-in = rw (on-in, clash-opened (kindIn nums (s .source)) 1)
+
+    core-in : coreBrokenIn nums s (e .kind) ≡ coreBroken (knownBy nums ticks s e) e
+    unfolding coreBrokenIn coreBroken knownBy
+    core-in = rw on-in (by-test (onCore e) refl)
+      where
+        mark : ℕ
+        mark = markIn nums (s .source)
+
+        state : ℕ
+        state = stateIn nums s (e .kind)
+
+        by-test : (b : Bool) → onCore e ≡ b →
+            b && not (coreServes (s .class) mark (s .instance) (eqb state 0)) ≡ b && not (serves (coreIn mark (s .instance) (instanceOf e)) (takes (e .word)) (unseen (opened state)) (instanceOf e))
+        by-test true o =
+            ap not
+            (serves-in (s .class) (s .instance) (instanceOf e) (eqb state 0) (takes (e .word)) (rw c (class-takes e o)) mark
+            ∙ ap (λ (b : Bool). serves (coreIn mark (s .instance) (instanceOf e)) (takes (e .word)) b (instanceOf e)) (unseen-opened state))
+        by-test false o = refl
+
+-- ---- the answer as a plan
+
+module _ (s : Sight) (t : ℕ) where
+  abbrev planFor : ℕ → Plan
+  planFor n = ifZero n (Take s t) (Refuse n)
+
+  -- a test in front of a plan is its number in front of the answer
+  tested : (b : Bool) (n a : ℕ) (p : Plan) → p ≡ planFor a → cond b (Refuse (suc n)) p ≡ planFor (cond b (suc n) a)
+  tested true n a p q = refl
+  tested false n a p q = q
+
+  tested-two : (b d : Bool) (n a : ℕ) (p : Plan) → p ≡ planFor a → cond b (Refuse (suc n)) (cond d (Refuse (suc n)) p) ≡ planFor (cond (b || d) (suc n) a)
+  tested-two true d n a p q = refl
+  tested-two false d n a p q = tested d n a p q
+
+module _ (nums ticks : List ℕ) (s : Sight) (e : Event) (c : s .class ≡ coreClass (e .kind) (e .word)) where
+  abbrev known : Known
+  known = knownBy nums ticks s e
+
+  steps : stepsPlan nums s (e .kind) (e .word) (e .targetInstance) (e .count)
+      ≡ planFor s (enters nums s e) (cond (offChart known e) 11 (cond (notNext known e) 12 (cond (coreBroken known e) 13 (cond (countBroken known e) 14 0))))
+  unfolding stepsPlan moveBy enters offChart knownBy
+  steps = by-test (allowed (chartOf (e .kind)) (e .word) (opened (stateIn nums s (e .kind))))
+    where
+      t : ℕ
+      t = leadsTo (stepFor (chartOf (e .kind)) (e .word)) (stateIn nums s (e .kind))
+
+      by-test : (b : Bool) → movePlan (moveIf b t) nums s (e .kind) (e .word) (e .targetInstance) (e .count)
+          ≡ planFor s t (cond (not b) 11 (cond (notNext known e) 12 (cond (coreBroken known e) 13 (cond (countBroken known e) 14 0))))
+      by-test true =
+          rw (number-in nums ticks s e, core-in nums ticks s e c, count-in nums ticks s e)
+          (tested s t (notNext known e) 11 _ _ (tested s t (coreBroken known e) 12 _ _ (tested s t (countBroken known e) 13 0 _ refl)))
+      by-test false = refl
+
+  pub tests-plan : testsPlan nums ticks s e ≡ planBy nums ticks s e
+  unfolding testsPlan planBy answerTo rules secondKind
+  tests-plan =
+      let t = enters nums s e in
+      rw (time-in nums ticks s e, source-in nums ticks s e c, target-in nums ticks s e, room-in nums ticks s e)
+      (tested s t (timeFalls known e) 7 _ _ (tested-two s t (sourceClash known e) (targetClash known e) 8 _ _ (tested s t (noRoom known e) 9 _ _ steps)))
+
+-- the code's tests on what is looked up are the plan
+pub tests-decide : (names nums ticks : List ℕ) (s : Sight) (e : Event) → s ≡ sightOf names nums e → testsPlan nums ticks s e ≡ planOf names nums ticks e
+unfolding planOf sightOf
+tests-decide names nums ticks s e q = tests-plan nums ticks s e (ap (λ (x : Sight). x .class) q) ∙ ap (λ (x : Sight). planBy nums ticks x e) q

@@ -1,0 +1,93 @@
+-- `decide::plan::decide_in` meets its contract: the tests in the order of their numbers, each by its own function, are the plan.
+use borrow.Author.Needs.{needs}
+use mathlib.Core.Path.{_≡_}
+use Rattle.decide.specs.Happening.{asEvent}
+use Rattle.decide.specs.Decide.{testsPlan, planOf}
+use Rattle.decide.proofs.Plans.{tests-decide}
+use Rattle.decide.proofs.plan.decide_in.Statement.{statement}
+use Rattle.decide.proofs.plan.decide_in.Tie as tie
+
+-- what is looked up decides
+seen : (c : tie.After-look) →
+    let a = c .before .before .before .before .before .before .args in
+    let e = asEvent (a .h) (a .source .now) (a .target .now) in
+    testsPlan (a .nums .now) (a .ticks .now) (c .look .result) e ≡ planOf (a .names .now) (a .nums .now) (a .ticks .now) e
+seen c =
+    let a = c .before .before .before .before .before .before .args in
+    tests-decide (a .names .now) (a .nums .now) (a .ticks .now) (c .look .result) (asEvent (a .h) (a .source .now) (a .target .now)) (c .look .ensures)
+
+returns : tie.Need-returns
+unfolding testsPlan
+returns c = rw (← (c .before .time-falls .ensures), c .if1 .taken) at (seen (c .before .before))
+
+returns-2 : tie.Need-returns-2
+unfolding testsPlan
+returns-2 c =
+    let d = c .before .before in
+    rw (← (d .before .time-falls .ensures), d .if1 .left, ← (c .before .source-clash .ensures), c .if2 .taken) at (seen (d .before .before))
+
+returns-3 : tie.Need-returns-3
+unfolding testsPlan
+returns-3 c =
+    let e = c .before .before in
+    let d = e .before .before in
+    rw (
+      ← (d .before .time-falls .ensures),
+      d .if1 .left,
+      ← (e .before .source-clash .ensures),
+      e .if2 .left,
+      ← (c .before .target-clash .ensures),
+      c .if3 .taken,
+    ) at (seen (d .before .before))
+
+returns-4 : tie.Need-returns-4
+unfolding testsPlan
+returns-4 c =
+    let f = c .before .before in
+    let e = f .before .before in
+    let d = e .before .before in
+    rw (
+      ← (d .before .time-falls .ensures),
+      d .if1 .left,
+      ← (e .before .source-clash .ensures),
+      e .if2 .left,
+      ← (f .before .target-clash .ensures),
+      f .if3 .left,
+      ← (c .before .no-room .ensures),
+      c .if4 .taken,
+    ) at (seen (d .before .before))
+
+returns-5 : tie.Need-returns-5
+unfolding testsPlan
+returns-5 c =
+    let g = c .before in
+    let f = g .before .before in
+    let e = f .before .before in
+    let d = e .before .before in
+    rw (
+      ← (d .before .time-falls .ensures),
+      d .if1 .left,
+      ← (e .before .source-clash .ensures),
+      e .if2 .left,
+      ← (f .before .target-clash .ensures),
+      f .if3 .left,
+      ← (g .before .no-room .ensures),
+      g .if4 .left,
+      ← (c .decide-steps .ensures),
+    ) at (seen (d .before .before))
+
+pub decide-in-spec : {M : Type 1} → statement M
+decide-in-spec =
+    tie.close
+    (tie.spec
+    (λ c κs. search needs)
+    (λ c κs. search needs)
+    returns
+    (λ c κs. search needs)
+    returns-2
+    (λ c κs. search needs)
+    returns-3
+    (λ c κs. search needs)
+    returns-4
+    (λ c κs. search needs)
+    returns-5)

@@ -1,0 +1,26 @@
+-- `decide::plan::least_count` meets its contract: each word of the list is tested.
+use borrow.Author.Tests.{ne-eqb}
+use Rattle.decide.specs.Known.{leastCount}
+use Rattle.decide.proofs.plan.least_count.Statement.{statement}
+use Rattle.decide.proofs.plan.least_count.Tie as tie
+
+pub least-count-spec : {M : Type 1} → statement M
+unfolding leastCount
+least-count-spec =
+    tie.close
+    (tie.spec
+    (λ c. rw (c .if1 .taken))
+    (λ c. rw (c .if2 .taken))
+    (λ c. rw (c .if3 .taken))
+    (λ c. rw (c .if4 .taken))
+    (λ c. rw (c .if5 .taken))
+    (λ c. rw (c .if6 .taken))
+    (λ c.
+    rw (
+      ne-eqb _ 29 (c .before .before .before .before .before .if1 .left),
+      ne-eqb _ 23 (c .before .before .before .before .if2 .left),
+      ne-eqb _ 22 (c .before .before .before .if3 .left),
+      ne-eqb _ 19 (c .before .before .if4 .left),
+      ne-eqb _ 20 (c .before .if5 .left),
+      ne-eqb _ 21 (c .if6 .left),
+    )))

@@ -1,0 +1,123 @@
+-- What the tables say of what the rules ask for: `Known` from the rows that were looked up, and each refusal as the code tests it.
+use mathlib.Core.Bool.{Bool, true, false, not, _&&_, _||_, cond}
+use mathlib.Core.Option.{Option, none, some}
+use mathlib.Core.List.{List, [], _∷_}
+use Prim.Native.Nat.{ℕ, suc, _+_}
+use lib.Dec.{eqb, leb, ltb}
+use lib.ListN.{getD}
+use Rattle.text.specs.Bytes.{sameBytes}
+use Rattle.rules.specs.Words.{core, semaphore, increment, decrement, free, unlock, lock, lock-used, full, overfull, unlock-full, used}
+use Rattle.rules.specs.Lists.{member, oneIf}
+use Rattle.rules.specs.Event.{Event, Instance, instanceOf}
+use Rattle.rules.specs.Core.{Core, unknown, idle, held}
+use Rattle.rules.specs.Rows.{opened}
+use Rattle.rules.specs.History.{hasInstances, isTracked, activates}
+use Rattle.rules.specs.Refusals.{Known, fixed}
+use Rattle.tables.specs.declared.find.Found.{Found}
+use Rattle.tables.specs.declared.find.Found.the-variants.{At, Nothing}
+use Rattle.tables.specs.Entry.{startedEntry, lastTime, nameCount, coreCount, instanceCount}
+use Rattle.decide.specs.declared.sight.Sight.{Sight}
+
+-- an entry of a column, in the row found; 0 where there is none
+unfoldable pub entryOf : List ℕ → ℕ → ℕ → Found → ℕ
+entryOf nums base rows Nothing = 0
+entryOf nums base rows (At i) = cond (ltb i rows) (getD nums (base + i) 0) 0
+
+-- the kind, the state, the last number and whether there is one, of the name in a row
+abbrev pub kindIn : List ℕ → Found → ℕ
+kindIn nums = entryOf nums 10 256
+
+abbrev pub markIn : List ℕ → Found → ℕ
+markIn nums = entryOf nums 522 256
+
+abbrev pub numberIn : List ℕ → Found → ℕ
+numberIn nums = entryOf nums 778 256
+
+abbrev pub numberedIn : List ℕ → Found → ℕ
+numberedIn nums = entryOf nums 1034 256
+
+-- the state of an event line's semaphore or instance
+unfoldable pub stateIn : List ℕ → Sight → ℕ → ℕ
+stateIn nums s k = cond (eqb k semaphore) (markIn nums (s .target)) (entryOf nums 3338 1024 (s .instance))
+
+-- 1 where a row is needed and there is none yet
+abbrev pub oneNew : Bool → Found → ℕ
+oneNew false f = 0
+oneNew true (At i) = 0
+oneNew true Nothing = 1
+
+abbrev pub newCore : Sight → ℕ
+newCore s = oneNew (not (eqb (s .class) 0)) (s .source)
+
+abbrev pub newName : Sight → ℕ → ℕ
+newName s k = oneNew (isTracked k) (s .target)
+
+abbrev pub newInstance : Sight → ℕ → ℕ
+newInstance s k = oneNew (hasInstances k) (s .instance)
+
+abbrev pub numberKnown : List ℕ → Found → Option ℕ
+numberKnown nums f = cond (eqb (numberedIn nums f) 0) none (some (numberIn nums f))
+
+-- the core as the tables have it: held by the event's own instance where the state names its row, and otherwise by another
+abbrev pub another : Instance → Instance
+another x = record { kind = suc (x .kind); name = x .name; number = x .number }
+
+abbrev pub holds : Found → ℕ → Bool
+holds Nothing mark = false
+holds (At j) mark = eqb mark (j + 2)
+
+unfoldable pub coreIn : ℕ → Found → Instance → Core
+coreIn mark f x = cond (eqb mark 0) unknown (cond (eqb mark 1) idle (cond (holds f mark) (held x) (held (another x))))
+
+unfoldable pub knownBy : List ℕ → List ℕ → Sight → Event → Known
+knownBy nums ticks s e = record {
+  time = cond (eqb (startedEntry nums) 0) none (some (lastTime ticks));
+  sourceKind = opened (kindIn nums (s .source));
+  targetKind = opened (kindIn nums (s .target));
+  names = nameCount nums + newCore s + newName s (e .kind);
+  cores = coreCount nums + newCore s;
+  instances = instanceCount nums + newInstance s (e .kind);
+  state = opened (stateIn nums s (e .kind));
+  number = numberKnown nums (s .target);
+  core = coreIn (markIn nums (s .source)) (s .instance) (instanceOf e);
+  count = numberKnown nums (s .target);
+}
+
+-- ---- each refusal as the code tests it; that these are the rules' own, at what is known, is shown in the proofs
+
+unfoldable pub timeFallsIn : List ℕ → List ℕ → ℕ → Bool
+timeFallsIn nums ticks time = not (eqb (startedEntry nums) 0) && ltb time (lastTime ticks)
+
+unfoldable pub kindClash : ℕ → ℕ → Bool
+kindClash j k = not (eqb j 0) && not (eqb j k)
+
+unfoldable pub sourceClashIn : List ℕ → Sight → List ℕ → List ℕ → Bool
+sourceClashIn nums s source target = not (eqb (s .class) 0) && (kindClash (kindIn nums (s .source)) core || sameBytes source target)
+
+unfoldable pub targetClashIn : List ℕ → Sight → ℕ → Bool
+targetClashIn nums s k = isTracked k && kindClash (kindIn nums (s .target)) k
+
+unfoldable pub noRoomIn : List ℕ → Sight → ℕ → Bool
+noRoomIn nums s k =
+    ltb 256 (nameCount nums + newCore s + newName s k)
+    || (ltb 64 (coreCount nums + newCore s) || ltb 1024 (instanceCount nums + newInstance s k))
+
+unfoldable pub notNextIn : List ℕ → Sight → ℕ → ℕ → ℕ → Bool
+notNextIn nums s k a n = activates k a && (not (eqb (numberedIn nums (s .target)) 0) && not (eqb n (numberIn nums (s .target) + 1)))
+
+unfoldable pub coreServes : ℕ → ℕ → Found → Bool → Bool
+coreServes class mark f first = cond (eqb class 1) (leb mark 1) (cond (eqb mark 0) first (holds f mark))
+
+unfoldable pub coreBrokenIn : List ℕ → Sight → ℕ → Bool
+coreBrokenIn nums s k = not (eqb (s .class) 0) && not (coreServes (s .class) (markIn nums (s .source)) (s .instance) (eqb (stateIn nums s k) 0))
+
+unfoldable pub countFollowsIn : ℕ → ℕ → ℕ → Bool
+countFollowsIn c a n = cond (eqb a increment) (eqb n (c + 1)) (cond (eqb a decrement) (eqb (n + 1) c) (eqb n c))
+
+unfoldable pub leastCount : ℕ → ℕ
+leastCount a = cond (member a (increment ∷ used ∷ unlock-full ∷ lock-used ∷ full ∷ [])) 1 (cond (eqb a overfull) 2 0)
+
+unfoldable pub countBrokenIn : List ℕ → Sight → ℕ → ℕ → ℕ → Bool
+countBrokenIn nums s k a n =
+    eqb k semaphore
+    && (not (fixed a n) || (not (eqb (numberedIn nums (s .target)) 0) && not (countFollowsIn (numberIn nums (s .target)) a n)))

@@ -1,0 +1,86 @@
+// Single entries that the rules ask for, out of the rows that were looked up; 0 where there is no row.
+ghost use mathlib.Core.Path.{_≡_};
+ghost use mathlib.Core.Bool.{not};
+ghost use lib.Dec.{eqb};
+ghost use Prim.Native.Nat.{_+_, _≤_};
+ghost use lib.ListN.{length};
+ghost use Rattle.decide.specs.Known.{entryOf, oneNew, stateIn};
+use crate::sight::Sight;
+use rules::numbers::SEMAPHORE;
+use tables::entry::KIND;
+use tables::entry::MARK;
+use tables::entry::NUMBER;
+use tables::entry::NUMBERED;
+use tables::entry::STATE;
+use tables::find::Found;
+
+// An entry of the column that begins at base, in the row found; rows is how many the column has.
+fn entry(nums: &[u32], base: usize, rows: usize, f: Found) -> u32
+    requires { ⌜ (base + rows ≤ length (now nums)) × (length (now nums) ≡ 4362) ⌝ }
+    ensures { λ r. ⌜ r ≡ entryOf (now (nums .entry)) base rows f ⌝ }
+{
+    let Found::At(i) = f else {
+        return 0;
+    };
+    if rows <= i {
+        return 0;
+    }
+    nums[base + i]
+}
+
+// The kind of the name in a row.
+pub(crate) fn kind_in(nums: &[u32], f: Found) -> u32
+    requires { ⌜ length (now nums) ≡ 4362 ⌝ }
+    ensures { λ r. ⌜ r ≡ entryOf (now (nums .entry)) 10 256 f ⌝ }
+{
+    entry(nums, KIND, 256, f)
+}
+
+// The state of the core or semaphore in a row.
+pub(crate) fn mark_in(nums: &[u32], f: Found) -> u32
+    requires { ⌜ length (now nums) ≡ 4362 ⌝ }
+    ensures { λ r. ⌜ r ≡ entryOf (now (nums .entry)) 522 256 f ⌝ }
+{
+    entry(nums, MARK, 256, f)
+}
+
+// The state of an event line's semaphore or instance.
+pub(crate) fn state_in(nums: &[u32], s: Sight, kind: u32) -> u32
+    requires { ⌜ length (now nums) ≡ 4362 ⌝ }
+    ensures { λ r. ⌜ r ≡ stateIn (now (nums .entry)) s kind ⌝ }
+{
+    let target = s.target;
+    let instance = s.instance;
+    if kind == SEMAPHORE {
+        return mark_in(nums, target);
+    }
+    entry(nums, STATE, 1024, instance)
+}
+
+// 1 where a row is needed and there is none yet.
+pub fn one_new(needed: bool, f: Found) -> u64
+    ensures { λ r. ⌜ r ≡ oneNew needed f ⌝ }
+{
+    if !needed {
+        return 0;
+    }
+    match f {
+        Found::At(_) => 0,
+        Found::Nothing => 1,
+    }
+}
+
+// Whether the name in a row has a last number or count, and that number.
+pub(crate) fn numbered_in(nums: &[u32], f: Found) -> bool
+    requires { ⌜ length (now nums) ≡ 4362 ⌝ }
+    ensures { λ r. ⌜ r ≡ not (eqb (entryOf (now (nums .entry)) 1034 256 f) 0) ⌝ }
+{
+    entry(nums, NUMBERED, 256, f) != 0
+}
+
+pub(crate) fn number_in(nums: &[u32], f: Found) -> u32
+    requires { ⌜ length (now nums) ≡ 4362 ⌝ }
+    ensures { λ r. ⌜ r ≡ entryOf (now (nums .entry)) 778 256 f ⌝ }
+{
+    entry(nums, NUMBER, 256, f)
+}

@@ -1,0 +1,317 @@
+// The refusals 8 to 14 of an event line, from the tables as they are. Nothing is stored here.
+ghost use mathlib.Core.Path.{_≡_};
+ghost use Prim.Native.Nat.{_+_};
+ghost use lib.Dec.{eqb};
+ghost use lib.ListN.{length};
+ghost use Rattle.rules.specs.History.{activates};
+ghost use Rattle.rules.specs.Refusals.{fixed};
+ghost use Rattle.decide.specs.Happening.{asEvent};
+ghost use Rattle.decide.specs.Known.{timeFallsIn, kindClash, sourceClashIn, targetClashIn, noRoomIn, notNextIn, coreServes, coreBrokenIn, countFollowsIn, leastCount, countBrokenIn};
+ghost use Rattle.decide.specs.Decide.{stepsPlan, planOf, decided};
+use crate::happening::Happening;
+use crate::known::kind_in;
+use crate::known::mark_in;
+use crate::known::number_in;
+use crate::known::numbered_in;
+use crate::known::one_new;
+use crate::known::state_in;
+use crate::sight::Sight;
+use crate::sight::look;
+use crate::sight::tracked;
+use crate::sight::with_instances;
+use rules::chart::Move;
+use rules::chart::chart_step;
+use rules::numbers::CORE;
+use rules::numbers::*;
+use tables::entry::CORES;
+use tables::entry::INSTANCES;
+use tables::entry::LAST;
+use tables::entry::NAMES;
+use tables::entry::STARTED;
+use tables::find::Found;
+use tables::range::sized;
+use text::bytes::same;
+
+// What becomes of an event line: it is refused, or taken with what was looked up and the state that its semaphore or instance enters.
+pub enum Plan {
+    Refuse(u32),
+    Take(Sight, u32),
+}
+
+// 8: whether the time is less than that of the event line before.
+fn time_falls(nums: &[u32], ticks: &[u64], time: u64) -> bool
+    requires { ⌜ (length (now nums) ≡ 4362) × (length (now ticks) ≡ 1026) ⌝ }
+    ensures { λ r. ⌜ r ≡ timeFallsIn (now (nums .entry)) (now (ticks .entry)) time ⌝ }
+{
+    if nums[STARTED] == 0 {
+        return false;
+    }
+    time < ticks[LAST]
+}
+
+// Whether a name that is tracked as one kind, 0 for none, comes as another.
+fn kind_clash(tracked_as: u32, kind: u32) -> bool
+    ensures { λ r. ⌜ r ≡ kindClash «tracked_as» kind ⌝ }
+{
+    if tracked_as == 0 {
+        return false;
+    }
+    tracked_as != kind
+}
+
+// 9: whether the source of a core line is tracked as another kind, or is its target too.
+fn source_clash(nums: &[u32], s: Sight, source: &[u8], target: &[u8]) -> bool
+    requires { ⌜ length (now nums) ≡ 4362 ⌝ }
+    ensures { λ r. ⌜ r ≡ sourceClashIn (now (nums .entry)) s (now (source .entry)) (now (target .entry)) ⌝ }
+{
+    if s.class == 0 {
+        return false;
+    }
+    let row = s.source;
+    if kind_clash(kind_in(nums, row), CORE) {
+        return true;
+    }
+    same(source, target)
+}
+
+// 9: whether the target is tracked as another kind.
+fn target_clash(nums: &[u32], s: Sight, kind: u32) -> bool
+    requires { ⌜ length (now nums) ≡ 4362 ⌝ }
+    ensures { λ r. ⌜ r ≡ targetClashIn (now (nums .entry)) s kind ⌝ }
+{
+    if !tracked(kind) {
+        return false;
+    }
+    let row = s.target;
+    kind_clash(kind_in(nums, row), kind)
+}
+
+// 10: whether the names or instances that the line adds don't fit.
+fn no_room(nums: &[u32], s: Sight, kind: u32) -> bool
+    requires { ⌜ length (now nums) ≡ 4362 ⌝ }
+    ensures { λ r. ⌜ r ≡ noRoomIn (now (nums .entry)) s kind ⌝ }
+{
+    let source_row = s.source;
+    let target_row = s.target;
+    let instance_row = s.instance;
+    let core = one_new(s.class != 0, source_row);
+    let name = one_new(tracked(kind), target_row);
+    let instance = one_new(with_instances(kind), instance_row);
+    if 256 < nums[NAMES] as u64 + core + name {
+        return true;
+    }
+    if 64 < nums[CORES] as u64 + core {
+        return true;
+    }
+    1024 < nums[INSTANCES] as u64 + instance
+}
+
+// Whether an event is one that numbers its instance: activate or mtalimitexceeded of a process, start of a runnable.
+pub fn numbers_instance(kind: u32, word: u32) -> bool
+    ensures { λ r. ⌜ r ≡ activates kind word ⌝ }
+{
+    if kind == RUNNABLE {
+        return word == START;
+    }
+    if kind < TASK {
+        return false;
+    }
+    if INTERRUPT < kind {
+        return false;
+    }
+    if word == ACTIVATE {
+        return true;
+    }
+    word == MTALIMITEXCEEDED
+}
+
+// 12: whether the instance number is not the next.
+fn not_next(nums: &[u32], s: Sight, h: Happening) -> bool
+    requires { ⌜ length (now nums) ≡ 4362 ⌝ }
+    ensures { λ r. ⌜ r ≡ notNextIn (now (nums .entry)) s (h .kind) (h .word) (h .number) ⌝ }
+{
+    let row = s.target;
+    if !numbers_instance(h.kind, h.word) {
+        return false;
+    }
+    if !numbered_in(nums, row) {
+        return false;
+    }
+    h.number as u64 != number_in(nums, row) as u64 + 1
+}
+
+// Whether a core's state names the instance in row j.
+fn names_row(mark: u32, j: usize) -> bool
+    ensures { λ r. ⌜ r ≡ eqb mark (j + 2) ⌝ }
+{
+    if mark < 2 {
+        return false;
+    }
+    mark as usize - 2 == j
+}
+
+// Whether a core in the state mark serves an event of the class: 0 unknown, 1 idle, 2 + j held by instance j. `first` tells whether the
+// instance is seen for the first time.
+fn core_serves(class: u32, mark: u32, instance: Found, first: bool) -> bool
+    ensures { λ r. ⌜ r ≡ coreServes class mark instance first ⌝ }
+{
+    if class == 1 {
+        return mark <= 1;
+    }
+    if mark == 0 {
+        return first;
+    }
+    let Found::At(j) = instance else {
+        return false;
+    };
+    names_row(mark, j)
+}
+
+// 13: whether the core rule is broken.
+fn core_broken(nums: &[u32], s: Sight, kind: u32) -> bool
+    requires { ⌜ length (now nums) ≡ 4362 ⌝ }
+    ensures { λ r. ⌜ r ≡ coreBrokenIn (now (nums .entry)) s kind ⌝ }
+{
+    if s.class == 0 {
+        return false;
+    }
+    let row = s.source;
+    let instance = s.instance;
+    let first = state_in(nums, s, kind) == 0;
+    !core_serves(s.class, mark_in(nums, row), instance, first)
+}
+
+// Whether a semaphore's count follows the one before.
+fn count_follows(before: u32, word: u32, count: u32) -> bool
+    ensures { λ r. ⌜ r ≡ countFollowsIn before word count ⌝ }
+{
+    if word == INCREMENT {
+        return count as u64 == before as u64 + 1;
+    }
+    if word == DECREMENT {
+        return count as u64 + 1 == before as u64;
+    }
+    count == before
+}
+
+// The least count that an event may bear, where it has one.
+fn least_count(word: u32) -> u32
+    ensures { λ r. ⌜ r ≡ leastCount word ⌝ }
+{
+    if word == INCREMENT {
+        return 1;
+    }
+    if word == USED {
+        return 1;
+    }
+    if word == UNLOCK_FULL {
+        return 1;
+    }
+    if word == LOCK_USED {
+        return 1;
+    }
+    if word == FULL {
+        return 1;
+    }
+    if word == OVERFULL { 2 } else { 0 }
+}
+
+// Whether a count is one that its event may bear.
+fn count_fits(word: u32, count: u32) -> bool
+    ensures { λ r. ⌜ r ≡ fixed word count ⌝ }
+{
+    if word == FREE {
+        return count == 0;
+    }
+    if word == UNLOCK {
+        return count == 0;
+    }
+    if word == LOCK {
+        return count == 1;
+    }
+    least_count(word) <= count
+}
+
+// 14: whether a semaphore's count is broken.
+fn count_broken(nums: &[u32], s: Sight, h: Happening) -> bool
+    requires { ⌜ length (now nums) ≡ 4362 ⌝ }
+    ensures { λ r. ⌜ r ≡ countBrokenIn (now (nums .entry)) s (h .kind) (h .word) (h .count) ⌝ }
+{
+    let row = s.target;
+    if h.kind != SEMAPHORE {
+        return false;
+    }
+    if !count_fits(h.word, h.count) {
+        return true;
+    }
+    if !numbered_in(nums, row) {
+        return false;
+    }
+    !count_follows(number_in(nums, row), h.word, h.count)
+}
+
+// What becomes of an event line by its chart, its number, its core and its count.
+fn decide_steps(nums: &[u32], s: Sight, h: Happening) -> Plan
+    requires { ⌜ length (now nums) ≡ 4362 ⌝ }
+    ensures { λ r. ⌜ r ≡ stepsPlan (now (nums .entry)) s (h .kind) (h .word) (h .number) (h .count) ⌝ }
+{
+    let m = chart_step(h.kind, h.word, state_in(nums, s, h.kind));
+    let Move::To(state) = m else {
+        return Plan::Refuse(11);
+    };
+    if not_next(nums, s, h) {
+        return Plan::Refuse(12);
+    }
+    if core_broken(nums, s, h.kind) {
+        return Plan::Refuse(13);
+    }
+    if count_broken(nums, s, h) {
+        return Plan::Refuse(14);
+    }
+    Plan::Take(s, state)
+}
+
+// What becomes of an event line by tables of the right sizes: the lowest of 8 to 14 that applies, or that it is taken.
+fn decide_in(
+    names: &[u8],
+    nums: &[u32],
+    ticks: &[u64],
+    h: Happening,
+    source: &[u8],
+    target: &[u8],
+) -> Plan
+    requires { ⌜ (length (now nums) ≡ 4362) × (length (now ticks) ≡ 1026) ⌝ }
+    ensures { λ r. ⌜ r ≡ planOf (now (names .entry)) (now (nums .entry)) (now (ticks .entry)) (asEvent h (now (source .entry)) (now (target .entry))) ⌝ }
+{
+    let s = look(names, nums, h, source, target);
+    if time_falls(nums, ticks, h.time) {
+        return Plan::Refuse(8);
+    }
+    if source_clash(nums, s, source, target) {
+        return Plan::Refuse(9);
+    }
+    if target_clash(nums, s, h.kind) {
+        return Plan::Refuse(9);
+    }
+    if no_room(nums, s, h.kind) {
+        return Plan::Refuse(10);
+    }
+    decide_steps(nums, s, h)
+}
+
+// What becomes of an event line by any tables: 15 where one has a wrong size.
+pub fn decide(
+    names: &[u8],
+    nums: &[u32],
+    ticks: &[u64],
+    h: Happening,
+    source: &[u8],
+    target: &[u8],
+) -> Plan
+    ensures { λ r. ⌜ r ≡ decided (now (names .entry)) (now (nums .entry)) (now (ticks .entry)) (asEvent h (now (source .entry)) (now (target .entry))) ⌝ }
+{
+    if !sized(names.len(), nums.len(), ticks.len()) {
+        return Plan::Refuse(15);
+    }
+    decide_in(names, nums, ticks, h, source, target)
+}
