@@ -2,19 +2,19 @@
 ghost use mathlib.Core.Path.{_≡_};
 ghost use Rattle.text.specs.Bytes.{sameBytes, startsWith, findFrom};
 
-// Whether s and t are the same bytes.
+// Whether s and t are the same bytes. They are compared from the back: names of one length often differ in their last bytes only.
 pub fn same(s: &[u8], t: &[u8]) -> bool
     ensures { λ r. ⌜ r ≡ sameBytes (now (s .entry)) (now (t .entry)) ⌝ }
 {
     if s.len() != t.len() {
         return false;
     }
-    let mut i = 0;
-    while i < s.len() {
+    let mut i = s.len();
+    while 0 < i {
+        i -= 1;
         if s[i] != t[i] {
             return false;
         }
-        i += 1;
     }
     true
 }
