@@ -1,8 +1,9 @@
 // Looking a name or an instance up.
 ghost use mathlib.Core.Path.{_≡_};
-ghost use Prim.Native.Nat.{_<_};
+ghost use mathlib.Core.Bool.{false};
+ghost use Prim.Native.Nat.{_+_, _<_, _≤_};
 ghost use lib.ListN.{length};
-ghost use Rattle.tables.specs.Find.{rowIs, instanceIs, findName, findInstance};
+ghost use Rattle.tables.specs.Find.{rowIs, instanceIs, findName, findInstance, lastBelow};
 use crate::entry::INSTANCE;
 use crate::entry::INSTANCES;
 use crate::entry::LENGTH;
@@ -72,6 +73,40 @@ fn instance_is(nums: &[u32], owner: u32, number: u32, j: usize) -> bool
     nums[OWNER + j] == owner
 }
 
+// Whether one of the eight rows from `from` on is the instance of an owner with a number; `false` is what it promises. All eight are looked
+// at with no exit between, so that they can be compared at once.
+fn eight_have(nums: &[u32], owner: u32, number: u32, from: usize) -> bool
+    requires { ⌜ («from» + 8 ≤ 1024) × (length (now nums) ≡ 4362) ⌝ }
+    ensures { λ r. ⌜ (r ≡ false → lastBelow (instanceIs (now (nums .entry)) owner number) («from» + 8) ≡ lastBelow (instanceIs (now (nums .entry)) owner number) «from») ⌝ }
+{
+    let mut have = false;
+    let mut k = 0;
+    while k < 8 {
+        let j = from + k;
+        have = have | ((nums[INSTANCE + j] == number) & (nums[OWNER + j] == owner));
+        k += 1;
+    }
+    have
+}
+
+// A number from `to` downwards, in steps of eight, from which on no row below `to` is that instance.
+fn skip_rows(nums: &[u32], owner: u32, number: u32, to: usize) -> usize
+    requires { ⌜ length (now nums) ≡ 4362 ⌝ }
+    ensures { λ r. ⌜ lastBelow (instanceIs (now (nums .entry)) owner number) to ≡ lastBelow (instanceIs (now (nums .entry)) owner number) r ⌝ }
+{
+    if 1024 < to {
+        return to;
+    }
+    let mut j = to;
+    while 8 <= j {
+        if eight_have(nums, owner, number, j - 8) {
+            return j;
+        }
+        j -= 8;
+    }
+    j
+}
+
 // The last row of an instance: the newest is looked at first.
 pub fn find_instance(nums: &[u32], owner: u32, number: u32) -> Found
     ensures { λ r. ⌜ r ≡ findInstance (now (nums .entry)) owner number ⌝ }
@@ -79,7 +114,8 @@ pub fn find_instance(nums: &[u32], owner: u32, number: u32) -> Found
     if nums.len() != NUMS_SIZE {
         return Found::Nothing;
     }
-    let mut j = nums[INSTANCES] as usize;
+    let n = nums[INSTANCES] as usize;
+    let mut j = skip_rows(nums, owner, number, n);
     while 0 < j {
         j -= 1;
         if instance_is(nums, owner, number, j) {
