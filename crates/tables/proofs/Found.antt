@@ -1,6 +1,6 @@
 -- What the look-ups find, for any test: the first number that passes, the last number that passes; and what the tests of a row mean.
 use mathlib.Core.Path.{_≡_, refl, sym, ap, subst, _∙_}
-use mathlib.Core.Bool.{Bool, true, false, _&&_, _||_, cond, and-false}
+use mathlib.Core.Bool.{Bool, true, false, not, _&&_, _||_, cond, and-false}
 use mathlib.Core.List.{List}
 use mathlib.Core.Logic.{⊎-elim}
 use Prim.Native.Nat.{ℕ, zero, suc, _+_, _-_, _*_, _≤_, _<_}
@@ -8,10 +8,11 @@ use native.Mathlib.Nat.{not-suc-le-zero, le-of-suc-le-suc, eq-or-lt-of-le}
 use native.Mathlib.Numerals.{add-one}
 use native.Mathlib.Omega.{arith}
 use lib.Dec.{eqb, ltb}
-use lib.ListN.{length, take, drop, length-take, length-drop}
-use borrow.Author.Tests.{eq-eqb}
+use lib.ListN.{length, getD, take, drop, length-take, length-drop}
+use lib.Seq.{getD-take, getD-drop}
+use borrow.Author.Tests.{eq-eqb, eqb-false, not-true}
 use Rattle.text.specs.Bytes.{sameBytes}
-use Rattle.text.proofs.Bools.{or-l, or-r}
+use Rattle.text.proofs.Bools.{is-false, or-l, or-r}
 use Rattle.text.proofs.Words.{same-eq, eq-same}
 use Rattle.tables.specs.declared.find.Found.{Found}
 use Rattle.tables.specs.declared.find.Found.the-variants.{At, Nothing}
@@ -134,6 +135,23 @@ lent-name names nums i = let e : (64 * i + lengthAt nums i) - 64 * i ≡ lengthA
 
 pub row-name : (names nums name : List ℕ) (i : ℕ) → rowIs names nums name i ≡ true → nameAt names nums i ≡ name
 row-name names nums name i e = row-means names nums name i .holds e .1 .1 .1
+
+-- a row with another byte at an index of the name does not hold it, however long it is
+pub other-name : (names name : List ℕ) (i j : ℕ) → j < length name → (getD names (64 * i + j) 0 ≡ getD name j 0 → ⊥) → (nums : List ℕ) → rowIs names nums name i ≡ false
+other-name names name i j h other nums =
+    is-false (rowIs names nums name i) (λ e.
+    let m = row-means names nums name i .holds e in
+    let l : j < lengthAt nums i = omega (arith, m .1 .0) in
+    other (sym (getD-drop (64 * i) names j 0) ∙ sym (getD-take (lengthAt nums i) (drop (64 * i) names) j 0 l) ∙ ap (λ (s : List ℕ). getD s j 0) (m .1 .1 .1)))
+
+-- bytes compared together: where two of them differ, the row does not hold the name
+pub differ-turn : (names name : List ℕ) (i n at k : ℕ) (differ : Bool) → at ≡ 64 * i + n → n + k < length name
+    → (differ ≡ true → (nums : List ℕ) → rowIs names nums name i ≡ false)
+    → differ || not (eqb (getD names (at + k) 0) (getD name (n + k) 0)) ≡ true → (nums : List ℕ) → rowIs names nums name i ≡ false
+differ-turn names name i n at k true a h so e nums = so refl nums
+differ-turn names name i n at k false a h so e nums =
+    let j : at + k ≡ 64 * i + (n + k) = omega arith in
+    other-name names name i (n + k) h (eqb-false _ _ (not-true _ (rw j at e))) nums
 
 pub name-size : (names nums : List ℕ) (i : ℕ) → length names ≡ namesSize → i < 256 → lengthAt nums i ≤ 64 → length (nameAt names nums i) ≡ lengthAt nums i
 name-size names nums i s h k = simp (length-take, length-drop) (omega arith)

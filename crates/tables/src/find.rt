@@ -1,9 +1,10 @@
 // Looking a name or an instance up.
 ghost use mathlib.Core.Path.{_≡_};
-ghost use mathlib.Core.Bool.{false};
-ghost use Prim.Native.Nat.{_+_, _<_, _≤_};
+ghost use mathlib.Core.Bool.{true, false};
+ghost use mathlib.Core.List.{List};
+ghost use Prim.Native.Nat.{ℕ, _+_, _-_, _*_, _<_, _≤_};
 ghost use lib.ListN.{length};
-ghost use Rattle.tables.specs.Find.{rowIs, instanceIs, findName, findInstance, lastBelow};
+ghost use Rattle.tables.specs.Find.{rowIs, instanceIs, findName, findInstance, firstFrom, lastBelow};
 use crate::entry::INSTANCE;
 use crate::entry::INSTANCES;
 use crate::entry::LENGTH;
@@ -38,6 +39,65 @@ fn row_is(names: &[u8], nums: &[u32], name: &[u8], i: usize) -> bool
     same(&names[at..to], name)
 }
 
+// Whether the last four bytes of row i, were it as long as the name, are others than the name's; `true` is what it promises. All four are
+// looked at with no exit between, so that they can be compared at once.
+fn ends_differ(names: &[u8], name: &[u8], i: usize) -> bool
+    requires { ⌜ (4 ≤ length (now name)) × (64 * i + length (now name) ≤ length (now names)) × (length (now names) ≡ 16384) ⌝ }
+    ensures { λ r. ⌜ (r ≡ true → (nums : List ℕ) → rowIs (now (names .entry)) nums (now (name .entry)) i ≡ false) ⌝ }
+{
+    let n = name.len() - 4;
+    let at = 64 * i + n;
+    let mut differ = false;
+    let mut k = 0;
+    while k < 4 {
+        differ = differ | (names[at + k] != name[n + k]);
+        k += 1;
+    }
+    differ
+}
+
+// A row from `from` on before which none holds the name.
+fn skip_names(names: &[u8], name: &[u8], from: usize, to: usize) -> usize
+    requires { ⌜ length (now names) ≡ 16384 ⌝ }
+    ensures { λ r. ⌜ («from» ≤ r) × ((nums : List ℕ) → firstFrom (rowIs (now (names .entry)) nums (now (name .entry))) «from» (to - «from») ≡ firstFrom (rowIs (now (names .entry)) nums (now (name .entry))) r (to - r)) ⌝ }
+{
+    if name.len() < 4 {
+        return from;
+    }
+    if 64 < name.len() {
+        return from;
+    }
+    if 256 < to {
+        return from;
+    }
+    let mut i = from;
+    while i < to {
+        if !ends_differ(names, name, i) {
+            return i;
+        }
+        i += 1;
+    }
+    i
+}
+
+// The first of n rows that holds the name.
+fn first_row(names: &[u8], nums: &[u32], name: &[u8], n: usize) -> Found
+    requires { ⌜ (length (now names) ≡ 16384) × (length (now nums) ≡ 4362) ⌝ }
+    ensures { λ r. ⌜ r ≡ firstFrom (rowIs (now (names .entry)) (now (nums .entry)) (now (name .entry))) 0 n ⌝ }
+{
+    let mut from = 0;
+    loop {
+        let i = skip_names(names, name, from, n);
+        if n <= i {
+            return Found::Nothing;
+        }
+        if row_is(names, nums, name, i) {
+            return Found::At(i);
+        }
+        from = i + 1;
+    }
+}
+
 // The first row that holds the name.
 pub fn find_name(names: &[u8], nums: &[u32], name: &[u8]) -> Found
     ensures { λ r. ⌜ r ≡ findName (now (names .entry)) (now (nums .entry)) (now (name .entry)) ⌝ }
@@ -49,14 +109,7 @@ pub fn find_name(names: &[u8], nums: &[u32], name: &[u8]) -> Found
         return Found::Nothing;
     }
     let n = nums[NAMES] as usize;
-    let mut i = 0;
-    while i < n {
-        if row_is(names, nums, name, i) {
-            return Found::At(i);
-        }
-        i += 1;
-    }
-    Found::Nothing
+    first_row(names, nums, name, n)
 }
 
 // Whether row j is the instance of an owner with a number.
