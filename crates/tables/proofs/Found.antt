@@ -1,15 +1,18 @@
 -- What the look-ups find, for any test: the first number that passes, the last number that passes; and what the tests of a row mean.
 use mathlib.Core.Path.{_≡_, refl, sym, ap, subst, _∙_}
-use mathlib.Core.Bool.{Bool, true, false, cond}
+use mathlib.Core.Bool.{Bool, true, false, not, _&&_, _||_, cond, and-false}
 use mathlib.Core.List.{List}
 use mathlib.Core.Logic.{⊎-elim}
 use Prim.Native.Nat.{ℕ, zero, suc, _+_, _-_, _*_, _≤_, _<_}
 use native.Mathlib.Nat.{not-suc-le-zero, le-of-suc-le-suc, eq-or-lt-of-le}
 use native.Mathlib.Numerals.{add-one}
 use native.Mathlib.Omega.{arith}
-use lib.ListN.{length, take, drop, length-take, length-drop}
-use borrow.Author.Tests.{eq-eqb}
+use lib.Dec.{eqb, ltb}
+use lib.ListN.{length, getD, take, drop, length-take, length-drop}
+use lib.Seq.{getD-take, getD-drop}
+use borrow.Author.Tests.{eq-eqb, eqb-false, not-true}
 use Rattle.text.specs.Bytes.{sameBytes}
+use Rattle.text.proofs.Bools.{is-false, or-l, or-r}
 use Rattle.text.proofs.Words.{same-eq, eq-same}
 use Rattle.tables.specs.declared.find.Found.{Found}
 use Rattle.tables.specs.declared.find.Found.the-variants.{At, Nothing}
@@ -59,6 +62,17 @@ module _ (f : ℕ → Bool) where
   pub last-end : (n : ℕ) → n ≤ 0 → lastBelow f n ≡ Nothing
   unfolding lastBelow
   last-end n h = let e : n ≡ 0 = omega arith in rw (e, lastBelow)
+
+  -- ---- rows looked at together: where none of them passes, the last that passes is the last below them
+
+  pub gather-start : (from : ℕ) → lastBelow f (from + 0) ≡ lastBelow f from
+  gather-start from = let e : from + 0 ≡ from = omega arith in rw e
+
+  pub gather-turn : (from k : ℕ) (have test : Bool) → (test ≡ false → f (from + k) ≡ false) → (have ≡ false → lastBelow f (from + k) ≡ lastBelow f from)
+      → have || test ≡ false → lastBelow f (from + (k + 1)) ≡ lastBelow f from
+  gather-turn from k have test other so e =
+      let n : (from + (k + 1)) - 1 ≡ from + k = omega arith in
+      last-miss (from + (k + 1)) (omega arith) (rw n (other (or-r have test e))) ∙ rw n (so (or-l have test e))
 
   -- ---- what was found
 
@@ -122,6 +136,23 @@ lent-name names nums i = let e : (64 * i + lengthAt nums i) - 64 * i ≡ lengthA
 pub row-name : (names nums name : List ℕ) (i : ℕ) → rowIs names nums name i ≡ true → nameAt names nums i ≡ name
 row-name names nums name i e = row-means names nums name i .holds e .1 .1 .1
 
+-- a row with another byte at an index of the name does not hold it, however long it is
+pub other-name : (names name : List ℕ) (i j : ℕ) → j < length name → (getD names (64 * i + j) 0 ≡ getD name j 0 → ⊥) → (nums : List ℕ) → rowIs names nums name i ≡ false
+other-name names name i j h other nums =
+    is-false (rowIs names nums name i) (λ e.
+    let m = row-means names nums name i .holds e in
+    let l : j < lengthAt nums i = omega (arith, m .1 .0) in
+    other (sym (getD-drop (64 * i) names j 0) ∙ sym (getD-take (lengthAt nums i) (drop (64 * i) names) j 0 l) ∙ ap (λ (s : List ℕ). getD s j 0) (m .1 .1 .1)))
+
+-- bytes compared together: where two of them differ, the row does not hold the name
+pub differ-turn : (names name : List ℕ) (i n at k : ℕ) (differ : Bool) → at ≡ 64 * i + n → n + k < length name
+    → (differ ≡ true → (nums : List ℕ) → rowIs names nums name i ≡ false)
+    → differ || not (eqb (getD names (at + k) 0) (getD name (n + k) 0)) ≡ true → (nums : List ℕ) → rowIs names nums name i ≡ false
+differ-turn names name i n at k true a h so e nums = so refl nums
+differ-turn names name i n at k false a h so e nums =
+    let j : at + k ≡ 64 * i + (n + k) = omega arith in
+    other-name names name i (n + k) h (eqb-false _ _ (not-true _ (rw j at e))) nums
+
 pub name-size : (names nums : List ℕ) (i : ℕ) → length names ≡ namesSize → i < 256 → lengthAt nums i ≤ 64 → length (nameAt names nums i) ≡ lengthAt nums i
 name-size names nums i s h k = simp (length-take, length-drop) (omega arith)
 
@@ -131,3 +162,8 @@ name-row names nums name i s h k e = row-means names nums name i .shows (h, (sym
 pub instance-means : (nums : List ℕ) (owner number j : ℕ) → Means (instanceIs nums owner number j) ((j < 1024) × ((instanceAt nums j ≡ number) × (ownerAt nums j ≡ owner)))
 unfolding instanceIs
 instance-means nums owner number j = means-and (means-lt j 1024) (means-and (means-eq (instanceAt nums j) number) (means-eq (ownerAt nums j) owner))
+
+-- a row whose number or owner is another is not that instance
+pub other-instance : (nums : List ℕ) (owner number j : ℕ) → eqb (instanceAt nums j) number && eqb (ownerAt nums j) owner ≡ false → instanceIs nums owner number j ≡ false
+unfolding instanceIs
+other-instance nums owner number j e = rw e (and-false (ltb j 1024))

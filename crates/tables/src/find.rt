@@ -1,8 +1,10 @@
 // Looking a name or an instance up.
 ghost use mathlib.Core.Path.{_≡_};
-ghost use Prim.Native.Nat.{_<_};
+ghost use mathlib.Core.Bool.{true, false};
+ghost use mathlib.Core.List.{List};
+ghost use Prim.Native.Nat.{ℕ, _+_, _-_, _*_, _<_, _≤_};
 ghost use lib.ListN.{length};
-ghost use Rattle.tables.specs.Find.{rowIs, instanceIs, findName, findInstance};
+ghost use Rattle.tables.specs.Find.{rowIs, instanceIs, findName, findInstance, firstFrom, lastBelow};
 use crate::entry::INSTANCE;
 use crate::entry::INSTANCES;
 use crate::entry::LENGTH;
@@ -37,6 +39,65 @@ fn row_is(names: &[u8], nums: &[u32], name: &[u8], i: usize) -> bool
     same(&names[at..to], name)
 }
 
+// Whether the last four bytes of row i, were it as long as the name, are others than the name's; `true` is what it promises. All four are
+// looked at with no exit between, so that they can be compared at once.
+fn ends_differ(names: &[u8], name: &[u8], i: usize) -> bool
+    requires { ⌜ (4 ≤ length (now name)) × (64 * i + length (now name) ≤ length (now names)) × (length (now names) ≡ 16384) ⌝ }
+    ensures { λ r. ⌜ (r ≡ true → (nums : List ℕ) → rowIs (now (names .entry)) nums (now (name .entry)) i ≡ false) ⌝ }
+{
+    let n = name.len() - 4;
+    let at = 64 * i + n;
+    let mut differ = false;
+    let mut k = 0;
+    while k < 4 {
+        differ = differ | (names[at + k] != name[n + k]);
+        k += 1;
+    }
+    differ
+}
+
+// A row from `from` on before which none holds the name.
+fn skip_names(names: &[u8], name: &[u8], from: usize, to: usize) -> usize
+    requires { ⌜ length (now names) ≡ 16384 ⌝ }
+    ensures { λ r. ⌜ («from» ≤ r) × ((nums : List ℕ) → firstFrom (rowIs (now (names .entry)) nums (now (name .entry))) «from» (to - «from») ≡ firstFrom (rowIs (now (names .entry)) nums (now (name .entry))) r (to - r)) ⌝ }
+{
+    if name.len() < 4 {
+        return from;
+    }
+    if 64 < name.len() {
+        return from;
+    }
+    if 256 < to {
+        return from;
+    }
+    let mut i = from;
+    while i < to {
+        if !ends_differ(names, name, i) {
+            return i;
+        }
+        i += 1;
+    }
+    i
+}
+
+// The first of n rows that holds the name.
+fn first_row(names: &[u8], nums: &[u32], name: &[u8], n: usize) -> Found
+    requires { ⌜ (length (now names) ≡ 16384) × (length (now nums) ≡ 4362) ⌝ }
+    ensures { λ r. ⌜ r ≡ firstFrom (rowIs (now (names .entry)) (now (nums .entry)) (now (name .entry))) 0 n ⌝ }
+{
+    let mut from = 0;
+    loop {
+        let i = skip_names(names, name, from, n);
+        if n <= i {
+            return Found::Nothing;
+        }
+        if row_is(names, nums, name, i) {
+            return Found::At(i);
+        }
+        from = i + 1;
+    }
+}
+
 // The first row that holds the name.
 pub fn find_name(names: &[u8], nums: &[u32], name: &[u8]) -> Found
     ensures { λ r. ⌜ r ≡ findName (now (names .entry)) (now (nums .entry)) (now (name .entry)) ⌝ }
@@ -48,14 +109,7 @@ pub fn find_name(names: &[u8], nums: &[u32], name: &[u8]) -> Found
         return Found::Nothing;
     }
     let n = nums[NAMES] as usize;
-    let mut i = 0;
-    while i < n {
-        if row_is(names, nums, name, i) {
-            return Found::At(i);
-        }
-        i += 1;
-    }
-    Found::Nothing
+    first_row(names, nums, name, n)
 }
 
 // Whether row j is the instance of an owner with a number.
@@ -72,6 +126,40 @@ fn instance_is(nums: &[u32], owner: u32, number: u32, j: usize) -> bool
     nums[OWNER + j] == owner
 }
 
+// Whether one of the eight rows from `from` on is the instance of an owner with a number; `false` is what it promises. All eight are looked
+// at with no exit between, so that they can be compared at once.
+fn eight_have(nums: &[u32], owner: u32, number: u32, from: usize) -> bool
+    requires { ⌜ («from» + 8 ≤ 1024) × (length (now nums) ≡ 4362) ⌝ }
+    ensures { λ r. ⌜ (r ≡ false → lastBelow (instanceIs (now (nums .entry)) owner number) («from» + 8) ≡ lastBelow (instanceIs (now (nums .entry)) owner number) «from») ⌝ }
+{
+    let mut have = false;
+    let mut k = 0;
+    while k < 8 {
+        let j = from + k;
+        have = have | ((nums[INSTANCE + j] == number) & (nums[OWNER + j] == owner));
+        k += 1;
+    }
+    have
+}
+
+// A number from `to` downwards, in steps of eight, from which on no row below `to` is that instance.
+fn skip_rows(nums: &[u32], owner: u32, number: u32, to: usize) -> usize
+    requires { ⌜ length (now nums) ≡ 4362 ⌝ }
+    ensures { λ r. ⌜ lastBelow (instanceIs (now (nums .entry)) owner number) to ≡ lastBelow (instanceIs (now (nums .entry)) owner number) r ⌝ }
+{
+    if 1024 < to {
+        return to;
+    }
+    let mut j = to;
+    while 8 <= j {
+        if eight_have(nums, owner, number, j - 8) {
+            return j;
+        }
+        j -= 8;
+    }
+    j
+}
+
 // The last row of an instance: the newest is looked at first.
 pub fn find_instance(nums: &[u32], owner: u32, number: u32) -> Found
     ensures { λ r. ⌜ r ≡ findInstance (now (nums .entry)) owner number ⌝ }
@@ -79,7 +167,8 @@ pub fn find_instance(nums: &[u32], owner: u32, number: u32) -> Found
     if nums.len() != NUMS_SIZE {
         return Found::Nothing;
     }
-    let mut j = nums[INSTANCES] as usize;
+    let n = nums[INSTANCES] as usize;
+    let mut j = skip_rows(nums, owner, number, n);
     while 0 < j {
         j -= 1;
         if instance_is(nums, owner, number, j) {

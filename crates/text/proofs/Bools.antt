@@ -1,6 +1,6 @@
--- Taking tests apart: a conjunction, and two numbers compared.
+-- Taking tests apart: a conjunction, a disjunction, and two numbers compared.
 use mathlib.Core.Path.{_≡_, refl, sym}
-use mathlib.Core.Bool.{Bool, true, false, _&&_}
+use mathlib.Core.Bool.{Bool, true, false, _&&_, _||_}
 use mathlib.Core.Logic.{_⊎_, inl, inr}
 use Prim.Native.Nat.{ℕ, _≤_, _<_}
 use lib.Dec.{ltb}
@@ -13,6 +13,14 @@ and-l false b e = e
 pub and-r : (a b : Bool) → a && b ≡ true → b ≡ true
 and-r true b e = e
 and-r false b e = let z : true ≡ false = sym e in cc
+
+pub or-l : (a b : Bool) → a || b ≡ false → a ≡ false
+or-l true b e = e
+or-l false b e = refl
+
+pub or-r : (a b : Bool) → a || b ≡ false → b ≡ false
+or-r true b e = let z : true ≡ false = e in cc
+or-r false b e = e
 
 -- a test that is not true is false
 pub is-false : (b : Bool) → (b ≡ true → ⊥) → b ≡ false

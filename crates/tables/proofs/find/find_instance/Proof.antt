@@ -1,4 +1,4 @@
--- `tables::find::find_instance` meets its contract. The invariant: the last row of the instance is the last such row below `j`.
+-- `tables::find::find_instance` meets its contract. No row that `skip_rows` passes over is the instance. The invariant: the last row of the instance is the last such row below `j`.
 -- Assumes nothing.
 use mathlib.Core.Path.{_≡_, sym, _∙_}
 use native.Mathlib.Omega.{arith}
@@ -10,10 +10,10 @@ use Rattle.tables.proofs.find.find_instance.Statement.{statement}
 use Rattle.tables.proofs.find.find_instance.Tie as tie
 
 abbrev Inv-loop : tie.InvT-loop
-Inv-loop nums owner number j₀ j = findInstance nums owner number ≡ lastBelow (instanceIs nums owner number) j
+Inv-loop nums owner number n j₀ j = findInstance nums owner number ≡ lastBelow (instanceIs nums owner number) j
 
 abbrev μ-loop : tie.MeasureT-loop
-μ-loop nums owner number j₀ j = j
+μ-loop nums owner number n j₀ j = j
 
 returns : tie.Need-returns Inv-loop μ-loop
 unfolding findInstance
@@ -41,7 +41,8 @@ find-instance-spec =
     returns
     (λ c. search needs)
     (λ c. omega (arith, c .shared-slice-known2 .given 9))
-    (λ c. instance-found _ _ _ (c .before .if1 .left))
+    (λ c κs. search needs)
+    (λ c. instance-found _ _ _ (c .before .before .if1 .left) ∙ c .skip-rows .ensures)
     (λ c. search needs)
     (λ c κs. search needs)
     returns-2

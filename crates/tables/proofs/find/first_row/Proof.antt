@@ -1,0 +1,50 @@
+-- `tables::find::first_row` meets its contract. The invariant: the first row that holds the name is the first such row from `from` on.
+-- Assumes nothing.
+use mathlib.Core.Path.{_≡_, refl, sym, _∙_}
+use Prim.Native.Nat.{_-_}
+use native.Mathlib.Nat.{sub-zero}
+use native.Mathlib.Omega.{arith}
+use borrow.Author.Needs.{needs}
+use Rattle.tables.specs.Find.{rowIs, firstFrom}
+use Rattle.tables.proofs.Found.{first-hit, first-miss, first-end}
+use Rattle.tables.proofs.find.first_row.Statement.{statement}
+use Rattle.tables.proofs.find.first_row.Tie as tie
+
+abbrev Inv-loop : tie.InvT-loop
+Inv-loop names nums name n from₀ from = firstFrom (rowIs names nums name) 0 n ≡ firstFrom (rowIs names nums name) from (n - from)
+
+abbrev μ-loop : tie.MeasureT-loop
+μ-loop names nums name n from₀ from = n - from
+
+loop-holds : tie.Need-loop-holds Inv-loop μ-loop
+loop-holds c = rw sub-zero
+
+returns : tie.Need-returns Inv-loop μ-loop
+returns c =
+    let at = c .before in
+    sym (at .before .loop .inv ∙ at .skip-names .ensures .1 _ ∙ first-end _ (at .skip-names .result) _ (c .if1 .taken))
+
+returns-2 : tie.Need-returns-2 Inv-loop μ-loop
+returns-2 c =
+    let at = c .before .before .before in
+    sym (at .before .loop .inv ∙ at .skip-names .ensures .1 _ ∙ first-hit _ (at .skip-names .result) _ (c .before .before .if1 .left) (sym (c .before .row-is .ensures) ∙ c .if2 .taken))
+
+loop-again : tie.Need-loop-again Inv-loop μ-loop
+loop-again c =
+    let at = c .before .before .before in
+    at .before .loop .inv ∙ at .skip-names .ensures .1 _ ∙ first-miss _ (at .skip-names .result) _ (c .before .before .if1 .left) (sym (c .before .row-is .ensures) ∙ c .if2 .left)
+
+pub first-row-spec : {M : Type 1} → statement M
+first-row-spec =
+    tie.close
+    (tie.spec
+    Inv-loop
+    μ-loop
+    loop-holds
+    (λ c κs. search needs)
+    returns
+    (λ c κs. search needs)
+    returns-2
+    (λ c. search needs)
+    (λ c. search needs)
+    loop-again)

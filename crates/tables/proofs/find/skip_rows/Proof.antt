@@ -1,0 +1,35 @@
+-- `tables::find::skip_rows` meets its contract. The invariant: the instance's last row below `to` is its last row below `j`.
+-- Assumes nothing.
+use mathlib.Core.Path.{_≡_, refl, _∙_}
+use Prim.Native.Nat.{_+_, _-_, _≤_}
+use native.Mathlib.Omega.{arith}
+use borrow.Author.Needs.{needs}
+use Rattle.tables.specs.Find.{instanceIs, lastBelow}
+use Rattle.tables.proofs.find.skip_rows.Statement.{statement}
+use Rattle.tables.proofs.find.skip_rows.Tie as tie
+
+abbrev Inv-loop : tie.InvT-loop
+Inv-loop nums owner number to j₀ j = (j ≤ 1024) × (lastBelow (instanceIs nums owner number) to ≡ lastBelow (instanceIs nums owner number) j)
+
+abbrev μ-loop : tie.MeasureT-loop
+μ-loop nums owner number to j₀ j = j
+
+loop-again : tie.Need-loop-again Inv-loop μ-loop
+loop-again c =
+    let l = c .before .before .before in
+    let n : (l .loop .j - 8) + 8 ≡ l .loop .j = omega arith in
+    (search needs, l .loop .inv .1 ∙ rw n at (c .before .eight-have .ensures (c .if2 .left)))
+
+pub skip-rows-spec : {M : Type 1} → statement M
+skip-rows-spec =
+    tie.close
+    (tie.spec
+    Inv-loop
+    μ-loop
+    (λ c. refl)
+    (λ c. (search needs, refl))
+    (λ c κs. search needs)
+    (λ c. c .before .before .before .loop .inv .1)
+    (λ c. search needs)
+    loop-again
+    (λ c. c .before .loop .inv .1))
