@@ -1,9 +1,12 @@
 -- Document 01's examples that speak of events, and one on each side of its finer readings, as one statement over one list: the checker computes each
--- verdict and sheet from the definitions.
+-- verdict and sheet from the definitions, and after hundreds of names by the laws of `ManyNames` too.
+use mathlib.Core.Path.{_≡_}
 use mathlib.Core.Bool.{Bool, true, false, _&&_}
 use mathlib.Core.List.{List, [], _∷_}
-use Prim.Native.Nat.{ℕ, zero, suc}
+use Prim.Native.Nat.{ℕ}
+use native.Mathlib.Omega.{arith}
 use lib.Dec.{T, eqb}
+use borrow.Author.Tests.{eq-eqb}
 use Rattle.text.specs.Literal.{bytes}
 use Rattle.text.specs.Bytes.{sameBytes}
 use Rattle.rules.specs.Words.{task, interrupt, runnable, semaphore}
@@ -16,18 +19,11 @@ use Rattle.rules.specs.History.{hasInstances, isTracked, named, kindIn, 
 use Rattle.rules.specs.Refusals.{timeFalls, secondKind, sourceClash, targetClash, noRoom, offChart, notNext, coreBroken, countFollows, fixed, countBroken, rules, answerTo}
 use Rattle.rules.specs.Verdict.{answer, taken, verdict}
 use Rattle.rules.specs.Sheet.{ticks, Row, Sheet, sheet}
-
--- an event line of each type: time, source and its instance, target and its instance, event
-abbrev pub line : ℕ → ℕ → List ℕ → ℕ → List ℕ → ℕ → ℕ → Event
-line k t s i p j a = record { time = t; source = s; sourceInstance = i; kind = k; target = p; targetInstance = j; word = a; count = 0 }
+use Rattle.rules.proofs.ManyNames.{line, trigger, many, newName, newCore, name-after, trigger-after, core-after}
 
 -- of a semaphore: time, source, target, event, note
 abbrev pub sem : ℕ → List ℕ → List ℕ → ℕ → ℕ → Event
 sem t s p a n = record { time = t; source = s; sourceInstance = 0; kind = semaphore; target = p; targetInstance = 0; word = a; count = n }
-
--- a trigger of a stimulus, which only moves the time
-abbrev pub trigger : ℕ → Event
-trigger t = record { time = t; source = bytes "S"; sourceInstance = 0; kind = 0; target = bytes "S"; targetInstance = 0; word = 0; count = 0 }
 
 abbrev pub row : List ℕ → List ℕ → Row
 row n fs = record { name = n; figures = fs }
@@ -86,19 +82,9 @@ S t j a = line task t (bytes "Stimulus") 0 (bytes "Task_A") j a
 abbrev pub Q : ℕ → ℕ → Event
 Q a n = sem 0 (bytes "P") (bytes "Sem1") a n
 
--- a history of n events, and the events that bring a new runnable and a new core
-abbrev pub many : (ℕ → Event) → ℕ → List Event
-many f zero = []
-many f (suc n) = f n ∷ many f n
-
-abbrev pub newName : ℕ → Event
-newName i = line runnable 0 (bytes "P") 0 (i ∷ []) 0 start
-
-abbrev pub newCore : ℕ → Event
-newCore i = line task 0 (0 ∷ i ∷ []) 0 (bytes "Task_A") i start
-
-abbrev pub examples : List Example
-examples =
+-- those that the definitions alone compute quickly
+abbrev computed : List Example
+computed =
     -- document 01: "Task_A 0 and then Task_B 0 started on Core_1 with no leaving: 13"; "Task_A 0 started twice on Core_1: 11";
     -- "activate 3, then activate 5 of one task: 12"; "resume as the first event of an instance: taken"; the two listings
     says (A 100 0 start ∷ B 200 0 start ∷ []) 13 2
@@ -124,13 +110,9 @@ examples =
     -- a process is first mentioned by the line that tracks it
     ∷ shows (line runnable 0 (bytes "Task_B") 0 (bytes "r") 0 start ∷ S 0 0 activate ∷ line task 0 (bytes "Stimulus") 0 (bytes "Task_B") 0 activate ∷ []) 0 []
     (row (bytes "Task_A") (0 ∷ []) ∷ row (bytes "Task_B") (0 ∷ []) ∷ [])
-    -- 10: "256 names taken, a 257th: 10", of them 64 cores
-    ∷ answers (many newName 255) (newName 255) 0
-    ∷ answers (many newName 256) (newName 256) 10
-    ∷ answers (many newName 256) (trigger 0) 0
+    -- 10: of the names 64 cores; 9 is lower
     ∷ answers (many newCore 63) (newCore 63) 0
     ∷ answers (many newCore 64) (newCore 64) 10
-    ∷ answers (many newName 255) (newCore 0) 10
     ∷ answers (many newName 255) (line task 0 (bytes "Task_A") 0 (bytes "Task_A") 0 start) 9
     ∷ answers (many newCore 64) (line task 0 (bytes "Task_A") 0 (bytes "Task_B") 0 start) 9
     ∷ answers (many newCore 64) (line task 0 (bytes "Core_65") 0 (bytes "Task_A") 64 release) 0
@@ -171,6 +153,15 @@ examples =
     ∷ says (Q overfull 1 ∷ []) 14 1
     ∷ []
 
+-- 10: "256 names taken, a 257th: 10"
+abbrev pub examples : List Example
+examples =
+    answers (many newName 255) (newName 255) 0
+    ∷ answers (many newName 256) (newName 256) 10
+    ∷ answers (many newName 256) (trigger 0) 0
+    ∷ answers (many newName 255) (newCore 0) 10
+    ∷ computed
+
 unfoldable pub sameRows : List Row → List Row → Bool
 sameRows [] [] = true
 sameRows [] (y ∷ t) = false
@@ -192,6 +183,22 @@ unfoldable pub right : List Example → Bool
 right [] = true
 right (x ∷ xs) = isRight x && right xs
 
-pub examples-right : T (right examples)
+computed-right : T (right computed)
 unfolding right isRight sameVerdict sameSheet sameRows sameBytes verdict taken sheet ticks answerTo rules timeFalls secondKind sourceClash targetClash noRoom offChart notNext coreBroken countBroken names instances chartOf processChart runnableChart semaphoreChart isProcess takes gives keeps onCore hasInstances isTracked named kindIn activates lastNumber lastCount fixed countFollows
-examples-right = tt
+computed-right = tt
+
+-- after many names the laws say whether there is room, and the rest is computed
+by-law : (answer (many newName 255) (newName 255) ≡ 0) × (answer (many newName 256) (newName 256) ≡ 10) × (answer (many newName 256) (trigger 0) ≡ 0) × (answer (many newName 255) (newCore 0) ≡ 10)
+unfolding sameBytes timeFalls secondKind sourceClash targetClash offChart notNext coreBroken countBroken chartOf processChart runnableChart semaphoreChart isProcess takes gives keeps onCore hasInstances isTracked kindIn activates lastNumber lastCount fixed countFollows
+by-law = (name-after 255 (omega arith), name-after 256 (omega arith), trigger-after 256 (omega arith), core-after 255 (omega arith))
+
+answered : (h : List Event) (e : Event) (n : ℕ) (xs : List Example) → answer h e ≡ n → T (right xs) → T (right (answers h e n ∷ xs))
+unfolding right isRight
+answered h e n xs q r = rw (eq-eqb _ _ q) r
+
+pub examples-right : T (right examples)
+examples-right =
+    answered _ _ _ _ (by-law .0)
+    (answered _ _ _ _ (by-law .1)
+    (answered _ _ _ _ (by-law .2)
+    (answered _ _ _ _ (by-law .3) computed-right)))

@@ -1,5 +1,6 @@
 -- The laws of the rules. `Laws` has what holds after any events taken; `Examples` what the definitions compute.
 pub mod Examples
+pub mod ManyNames
 pub mod Tests
 pub mod Sums
 pub mod ChartFact

@@ -1,0 +1,149 @@
+-- A history of n events that each bring a new runnable tracks n names, no core and at most n instances. By these laws the answers after 255 and 256 names
+-- are computed in one walk of the history; by the definitions alone the checker would compare every two names.
+use mathlib.Core.Path.{_≡_, refl, ap, _∙_}
+use mathlib.Core.Bool.{Bool, true, false, _||_, cond}
+use mathlib.Core.Option.{none}
+use mathlib.Core.List.{List, [], _∷_}
+use Prim.Native.Nat.{ℕ, zero, suc, _+_, _≤_, _<_}
+use native.Mathlib.Omega.{arith}
+use lib.Dec.{eqb, ltb}
+use lib.ListN.{length, length-append}
+use borrow.Author.Tests.{ne-eqb, le-ltb, lt-ltb}
+use Rattle.text.specs.Literal.{bytes}
+use Rattle.text.specs.Bytes.{sameBytes}
+use Rattle.text.proofs.Words.{same-eq, same-refl, other-length}
+use Rattle.rules.specs.Lists.{any, only, when, orElse, addUnless, addNew}
+use Rattle.rules.specs.Words.{core, task, runnable, start}
+use Rattle.rules.specs.Charts.{isProcess}
+use Rattle.rules.specs.Event.{Event, Instance, sameInstance, instanceOf}
+use Rattle.rules.specs.Core.{takes, onCore}
+use Rattle.rules.specs.History.{hasInstances, isTracked, named, names, kindIn, kindOf, isKind, cores, instances}
+use Rattle.rules.specs.Refusals.{look, timeFalls, secondKind, noRoom, offChart, notNext, coreBroken, countBroken, rule, rules, firstBroken, answerTo}
+use Rattle.rules.specs.Verdict.{answer}
+use Rattle.rules.proofs.Sums.{any-new}
+
+-- an event line of each type: time, source and its instance, target and its instance, event
+abbrev pub line : ℕ → ℕ → List ℕ → ℕ → List ℕ → ℕ → ℕ → Event
+line k t s i p j a = record { time = t; source = s; sourceInstance = i; kind = k; target = p; targetInstance = j; word = a; count = 0 }
+
+-- a trigger of a stimulus, which only moves the time
+abbrev pub trigger : ℕ → Event
+trigger t = record { time = t; source = bytes "S"; sourceInstance = 0; kind = 0; target = bytes "S"; targetInstance = 0; word = 0; count = 0 }
+
+-- a history of n events, and the events that bring a new runnable and a new core
+abbrev pub many : (ℕ → Event) → ℕ → List Event
+many f zero = []
+many f (suc n) = f n ∷ many f n
+
+abbrev pub newName : ℕ → Event
+newName i = line runnable 0 (bytes "P") 0 (i ∷ []) 0 start
+
+abbrev pub newCore : ℕ → Event
+newCore i = line task 0 (0 ∷ i ∷ []) 0 (bytes "Task_A") i start
+
+-- ---- what is counted
+
+one-more : {A : Type 0} (b : Bool) (xs : List A) (y : A) → length (addUnless b xs y) ≤ length xs + 1
+one-more true xs y = omega arith
+one-more false xs y = omega (arith, length-append xs (y ∷ []))
+
+added : (x : List ℕ) (xs : List (List ℕ)) → any (sameBytes x) xs ≡ false → length (addNew sameBytes xs x) ≡ length xs + 1
+added x xs q = rw q (length-append xs (x ∷ []))
+
+-- a name that is none of them
+absent : (n : ℕ) (x : List ℕ) → ((i : ℕ) → i < n → sameBytes x (i ∷ []) ≡ false) → any (sameBytes x) (names (many newName n)) ≡ false
+unfolding names named hasInstances isTracked isProcess onCore
+absent zero x q = refl
+absent (suc n) x q =
+    any-new sameBytes same-eq same-refl (names (many newName n)) (n ∷ []) x
+    ∙ rw (absent n x (λ i h. q i (omega (arith, h))), q n (omega arith))
+
+next-absent : (n : ℕ) → any (sameBytes (n ∷ [])) (names (many newName n)) ≡ false
+unfolding sameBytes
+next-absent n = absent n (n ∷ []) (λ i h. rw (ne-eqb n i (λ q. omega (arith, h, q))))
+
+names-many : (n : ℕ) → length (names (many newName n)) ≡ n
+unfolding names named hasInstances isTracked isProcess onCore
+names-many zero = refl
+names-many (suc n) = added (n ∷ []) (names (many newName n)) (next-absent n) ∙ omega (arith, names-many n)
+
+instances-many : (n : ℕ) → length (instances (many newName n)) ≤ n
+unfolding instances hasInstances isProcess
+instances-many zero = omega arith
+instances-many (suc n) =
+    let x : Instance = instanceOf (newName n) in
+    omega (arith, instances-many n, one-more (any (sameInstance x) (instances (many newName n))) (instances (many newName n)) x)
+
+no-core : (n : ℕ) (x : List ℕ) → isKind (eqb core) (kindOf x (many newName n)) ≡ false
+unfolding kindIn hasInstances isTracked isProcess onCore
+no-core zero x = refl
+no-core (suc n) x = by-test (sameBytes x (n ∷ [])) (no-core n x)
+  where
+    by-test : (b : Bool) → isKind (eqb core) (kindOf x (many newName n)) ≡ false →
+        isKind (eqb core) (orElse (orElse (when b runnable) none) (kindOf x (many newName n))) ≡ false
+    by-test true q = refl
+    by-test false q = q
+
+only-none : {A : Type 0} (f : A → Bool) → ((x : A) → f x ≡ false) → (xs : List A) → only f xs ≡ []
+only-none f q [] = refl
+only-none f q (x ∷ xs) = rw (q x) (only-none f q xs)
+
+cores-many : (n : ℕ) → cores (many newName n) ≡ []
+cores-many n = only-none (λ x. isKind (eqb core) (kindOf x (many newName n))) (no-core n) (names (many newName n))
+
+-- ---- the answer, given whether there is room
+
+abbrev pub answerIf : Bool → List Event → Event → ℕ
+answerIf full h e =
+    cond (timeFalls (look h e) e) 8
+    (cond (secondKind (look h e) e) 9
+    (cond full 10
+    (firstBroken (rule 11 offChart ∷ rule 12 notNext ∷ rule 13 coreBroken ∷ rule 14 countBroken ∷ []) (look h e) e)))
+
+answer-if : (h : List Event) (e : Event) (full : Bool) → noRoom (look h e) e ≡ full → answer h e ≡ answerIf full h e
+unfolding answerTo rules
+answer-if h e full q = ap (λ b. answerIf b h e) q
+
+-- without cores, and with few instances, the names decide
+names-decide : (n c i : ℕ) → c ≡ 0 → i ≤ 1024 → ltb 256 n || (ltb 64 c || ltb 1024 i) ≡ ltb 256 n
+names-decide n c i q r = rw (le-ltb 64 c (omega (arith, q)), le-ltb 1024 i r) (or-false (ltb 256 n))
+  where
+    or-false : (b : Bool) → b || false ≡ b
+    or-false true = refl
+    or-false false = refl
+
+-- after n names: one more; an event that tracks none; a core and its process, both new
+pub name-after : (n : ℕ) → n < 1024 → answer (many newName n) (newName n) ≡ answerIf (ltb 256 (n + 1)) (many newName n) (newName n)
+unfolding noRoom
+name-after n h =
+    let few : length (instances (many newName (suc n))) ≤ 1024 = omega (arith, instances-many (suc n), h) in
+    let all : length (names (many newName (suc n))) ≡ n + 1 = omega (arith, names-many (suc n)) in
+    answer-if (many newName n) (newName n) (ltb 256 (n + 1)) (names-decide (length (names (many newName (suc n)))) _ _ (ap length (cores-many (suc n))) few ∙ ap (ltb 256) all)
+
+pub trigger-after : (n : ℕ) → n ≤ 1024 → answer (many newName n) (trigger 0) ≡ answerIf (ltb 256 n) (many newName n) (trigger 0)
+unfolding noRoom names named instances kindIn hasInstances isTracked isProcess onCore
+trigger-after n h =
+    let few : length (instances (many newName n)) ≤ 1024 = omega (arith, instances-many n, h) in
+    answer-if (many newName n) (trigger 0) (ltb 256 n) (names-decide (length (names (many newName n))) _ _ (ap length (cores-many n)) few ∙ ap (ltb 256) (names-many n))
+
+pub core-after : (n : ℕ) → 255 ≤ n → answer (many newName n) (newCore 0) ≡ answerIf true (many newName n) (newCore 0)
+unfolding noRoom names named hasInstances isTracked isProcess onCore takes
+core-after n h = answer-if (many newName n) (newCore 0) true (rw (lt-ltb 256 _ more))
+  where
+    the-core : List ℕ
+    the-core = newCore 0 .source
+
+    the-task : List ℕ
+    the-task = newCore 0 .target
+
+    new-core : any (sameBytes the-core) (names (many newName n)) ≡ false
+    new-core = absent n the-core (λ i q. other-length the-core (i ∷ []) (λ q. omega (arith, q)))
+
+    new-task : any (sameBytes the-task) (addNew sameBytes (names (many newName n)) the-core) ≡ false
+    new-task =
+        any-new sameBytes same-eq same-refl (names (many newName n)) the-core the-task
+        ∙ rw (absent n the-task (λ i q. other-length the-task (i ∷ []) (λ q. omega (arith, q))))
+        (other-length the-task the-core (λ q. omega (arith, q)))
+
+    more : 256 < length (names (newCore 0 ∷ many newName n))
+    more = omega (arith, added the-task (addNew sameBytes (names (many newName n)) the-core) new-task, added the-core (names (many newName n)) new-core, names-many n, h)
