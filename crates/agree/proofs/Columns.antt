@@ -18,8 +18,8 @@ use Rattle.tables.proofs.Stores.{same, other}
 use Rattle.decide.specs.declared.happening.Happening.{Happening}
 use Rattle.decide.specs.declared.sight.Sight.{Sight}
 use Rattle.decide.specs.Known.{newCore, newName}
-use Rattle.judge.specs.Store.{targetRow, storeRow, storeInstance, storeMark, storeNumber, withRows, withTarget, withCore, withHeads}
-use Rattle.judge.proofs.Stores.{length-storeRow, length-storeMark, length-storeInstance}
+use Rattle.store.specs.Store.{targetRow, storeRow, storeInstance, storeMark, storeNumber, withRows, withTarget, withCore, withHeads}
+use Rattle.store.proofs.Stores.{length-storeRow, length-storeMark, length-storeInstance}
 
 -- ---- one store
 

@@ -24,8 +24,8 @@ use Rattle.decide.specs.declared.happening.Happening.{Happening}
 use Rattle.decide.specs.declared.sight.Sight.{Sight}
 use Rattle.decide.specs.Happening.{asEvent}
 use Rattle.decide.specs.Known.{oneNew, newCore, newName, newInstance}
-use Rattle.judge.specs.Store.{rowOr, coreRow, targetRow, instanceRow, storeName, storeInstance, withRows, withTarget, withCore, takenNames, takenNums}
-use Rattle.judge.proofs.Stores.{length-storeName, length-withRows, length-withTarget, length-withCore}
+use Rattle.store.specs.Store.{rowOr, coreRow, targetRow, instanceRow, storeName, storeInstance, withRows, withTarget, withCore, takenNames, takenNums}
+use Rattle.store.proofs.Stores.{length-storeName, length-withRows, length-withTarget, length-withCore}
 use Rattle.agree.proofs.Columns.{length-if, Outside, isNewCore, isNewTarget, Fills, Counts, row-kind, row-length, row-mark, row-number, row-numbered, number-number, number-numbered}
 use Rattle.agree.proofs.Columns.{instance-owner, instance-number, instance-state, rows-stored, rows-beside, target-beside, target-mark, target-number, target-instance}
 use Rattle.agree.proofs.Columns.{core-beside, core-mark, heads-beside, heads-stored}

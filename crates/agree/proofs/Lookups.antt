@@ -28,7 +28,7 @@ use Rattle.tables.proofs.Found.{first-at, first-none, last-at, last-none, name-
 use Rattle.decide.specs.Sight.{coreClass, lookIf, instanceIn, sightOf}
 use Rattle.decide.specs.Known.{oneNew, newCore, newName, newInstance as newRow}
 use Rattle.decide.proofs.Classes.{class-on}
-use Rattle.judge.specs.Store.{rowOr, coreRow, targetRow, instanceRow}
+use Rattle.store.specs.Store.{rowOr, coreRow, targetRow, instanceRow}
 use Rattle.judge.specs.Feed.{Tables}
 use Rattle.agree.specs.Places.{place, seek, rowOf, instanceRowOf}
 use Rattle.agree.specs.Shown.{Shown}

@@ -26,7 +26,7 @@ use Rattle.rules.proofs.Meets.{Met}
 use Rattle.tables.specs.Entry.{nameCount, nameAt, lengthAt, kindAt, markAt, numberAt, numberedAt}
 use Rattle.decide.specs.declared.happening.Happening.{Happening}
 use Rattle.decide.specs.Happening.{asEvent}
-use Rattle.judge.specs.Store.{targetRow}
+use Rattle.store.specs.Store.{targetRow}
 use Rattle.judge.specs.Feed.{Tables}
 use Rattle.agree.specs.Places.{rowOf, instanceRowOf}
 use Rattle.agree.specs.Shown.{coreMark, theSemaphore, MarkShown, numberOf, NameShown, Shown}

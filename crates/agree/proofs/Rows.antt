@@ -25,7 +25,7 @@ use Rattle.decide.specs.declared.happening.Happening.{Happening}
 use Rattle.decide.specs.Happening.{asEvent}
 use Rattle.decide.specs.Sight.{coreClass}
 use Rattle.decide.proofs.Classes.{class-on}
-use Rattle.judge.specs.Store.{coreRow, targetRow, instanceRow, takenNums}
+use Rattle.store.specs.Store.{coreRow, targetRow, instanceRow, takenNums}
 use Rattle.judge.specs.Feed.{Tables}
 use Rattle.agree.specs.Places.{place, rowOf, instanceRowOf}
 use Rattle.agree.specs.Shown.{Shown}

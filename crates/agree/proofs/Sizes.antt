@@ -11,8 +11,8 @@ use Rattle.rules.proofs.Answers.{Passed}
 use Rattle.tables.specs.Entry.{namesSize, numsSize, ticksSize}
 use Rattle.decide.specs.declared.happening.Happening.{Happening}
 use Rattle.decide.specs.Happening.{asEvent}
+use Rattle.store.proofs.Stores.{length-takenNames, length-takenNums, length-takenTicks}
 use Rattle.judge.specs.Feed.{Tables}
-use Rattle.judge.proofs.Stores.{length-takenNames, length-takenNums, length-takenTicks}
 use Rattle.agree.specs.Shown.{firstOf, startedOf, HeadShown, Shown}
 use Rattle.agree.specs.Taken.{sightIn, takenBy}
 use Rattle.agree.proofs.Grown.{names-length, cores-length, instances-length}

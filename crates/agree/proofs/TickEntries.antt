@@ -14,8 +14,8 @@ use Rattle.tables.specs.Entry.{ticksSize, startedEntry, nameCount, firstTime, l
 use Rattle.tables.proofs.Stores.{same, other}
 use Rattle.decide.specs.declared.sight.Sight.{Sight}
 use Rattle.decide.specs.Known.{oneNew, newCore, newName}
-use Rattle.judge.specs.Store.{rowOr, coreRow, targetRow, storeSums, settled, withTimes, withSums, takenTicks}
-use Rattle.judge.proofs.Stores.{length-storeSums, length-withSums, length-settled}
+use Rattle.store.specs.Store.{rowOr, coreRow, targetRow, storeSums, settled, withTimes, withSums, takenTicks}
+use Rattle.store.proofs.Stores.{length-storeSums, length-withSums, length-settled}
 
 -- an entry after a store
 entry : (l : List ℕ) (i j v : ℕ) → i < length l → getD (set l i v) j 0 ≡ cond (eqb i j) v (getD l j 0)

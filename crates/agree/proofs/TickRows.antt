@@ -25,7 +25,7 @@ use Rattle.tables.specs.Entry.{lastTime, sinceAt}
 use Rattle.decide.specs.Known.{newCore, newName}
 use Rattle.decide.specs.Sight.{coreClass}
 use Rattle.decide.proofs.Classes.{class-on}
-use Rattle.judge.specs.Store.{coreRow, targetRow, takenTicks}
+use Rattle.store.specs.Store.{coreRow, targetRow, takenTicks}
 use Rattle.judge.specs.Feed.{Tables}
 use Rattle.agree.specs.Places.{rowOf}
 use Rattle.agree.specs.Shown.{Shown}

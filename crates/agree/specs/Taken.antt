@@ -11,7 +11,7 @@ use Rattle.decide.specs.declared.happening.Happening.{Happening}
 use Rattle.decide.specs.declared.sight.Sight.{Sight}
 use Rattle.decide.specs.Happening.{asEvent}
 use Rattle.decide.specs.Sight.{coreClass, lookIf}
-use Rattle.judge.specs.Store.{takenNames, takenNums, takenTicks}
+use Rattle.store.specs.Store.{takenNames, takenNums, takenTicks}
 use Rattle.judge.specs.Feed.{Tables, tables}
 use Rattle.agree.specs.Places.{seek}
 

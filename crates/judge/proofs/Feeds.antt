@@ -31,10 +31,10 @@ use Rattle.decide.specs.declared.sight.Sight.{Sight}
 use Rattle.decide.specs.Happening.{happeningOf, asEvent}
 use Rattle.decide.specs.Decide.{planOf, decided}
 use Rattle.decide.proofs.Decided.{decided-sized}
+use Rattle.store.specs.Store.{takenNames, takenNums, takenTicks, stored}
+use Rattle.store.proofs.Stores.{stored-sized, length-takenNames, length-takenNums, length-takenTicks}
 use Rattle.judge.specs.declared.feed.Verdict.{Verdict}
-use Rattle.judge.specs.Store.{takenNames, takenNums, takenTicks}
 use Rattle.judge.specs.Feed.{Tables, tables, After, after, placeIn, remembered, counted, carried, eventLined, readLined, placedLine, lined, fedLine, allLined, chunked, fedChunk, verdict, verdictIn, verdictOf, freshTables, AfterTrace, traced, judgedTrace}
-use Rattle.judge.proofs.Stores.{length-takenNames, length-takenNums, length-takenTicks}
 
 -- ---- sizes
 
@@ -145,21 +145,21 @@ if-some (suc n) x y h = refl
 -- ---- an event line
 
 module _ (t : Tables) where
+  sizes : Sized t → Sizes (t .names) (t .nums) (t .ticks)
+  sizes z = record { names-size = z .0; nums-size = z .1 .0; ticks-size = z .1 .1 }
+
   pub refused-carried : {p : Plan} {r n : ℕ} {m : List ℕ} (h : Happening) (source target : List ℕ) → p ≡ Refuse n → r ≡ n → m ≡ remembered (t .nums) n
       → after r (t .names) m (t .ticks) ≡ carried p t h source target
   refused-carried h source target p r m = rw (p, r, m)
 
-  pub taken-carried : {p : Plan} {s : Sight} {state : ℕ} {a b d : List ℕ} (h : Happening) (source target : List ℕ) → p ≡ Take s state
-      → (a ≡ takenNames (t .names) (t .nums) s (asEvent h source target)) × ((b ≡ takenNums (t .nums) s state h (length source) (length target)) × (d ≡ takenTicks (t .ticks) (t .nums) s (h .kind) (h .time)))
-      → after 0 a b d ≡ carried p t h source target
-  taken-carried h source target p q = rw (p, q .0, q .1 .0, q .1 .1)
+  pub taken-carried : {p : Plan} {s : Sight} {state : ℕ} {u : Tables} (h : Happening) (source target : List ℕ) → Sized t → p ≡ Take s state
+      → u ≡ stored t s state h source target → after 0 (u .names) (u .nums) (u .ticks) ≡ carried p t h source target
+  taken-carried {s = s} {state} h source target z p q = rw (p, q, stored-sized t s state h source target (sizes z))
 
   pub carried-lined : {p : Plan} {h : Happening} {source target : List ℕ} (l : List ℕ) (e : ReadEvent) (count : ℕ) → Sized t → h ≡ happeningOf e count → source ≡ fieldOf l 2 → target ≡ fieldOf l 5
       → p ≡ decided (t .names) (t .nums) (t .ticks) (asEvent h source target) → carried p t h source target ≡ eventLined t l e count
   unfolding eventLined
-  carried-lined {h = h} {source} {target} l e count z ph ps pt pp =
-      let sizes : Sizes (t .names) (t .nums) (t .ticks) = record { names-size = z .0; nums-size = z .1 .0; ticks-size = z .1 .1 } in
-      rw (pp, decided-sized (asEvent h source target) sizes, ph, ps, pt)
+  carried-lined {h = h} {source} {target} l e count z ph ps pt pp = rw (pp, decided-sized (asEvent h source target) (sizes z), ph, ps, pt)
 
 -- ---- a line
 

@@ -1,4 +1,3 @@
 -- The laws of the judge, which the proofs of this crate and of the crates above it cite.
-pub mod Stores
 pub mod Feeds
 pub mod Tight

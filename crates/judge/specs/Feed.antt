@@ -13,6 +13,7 @@ use Rattle.line.specs.Reading.{readLine}
 use Rattle.rules.specs.declared.place.Place.{Place}
 use Rattle.rules.specs.Lists.{ifZero}
 use Rattle.rules.specs.Trace.{scaleNumber, placed}
+pub use Rattle.tables.specs.Entry.{Tables, tables}
 use Rattle.tables.specs.Entry.{namesSize, numsSize, ticksSize, verdictNumber, verdictLine, lineCount, scaleEntry, creatorEntry, dateEntry, startedEntry, firstTime, lastTime}
 use Rattle.tables.specs.Range.{isSized, tableAnswer}
 use Rattle.decide.specs.declared.happening.Happening.{Happening}
@@ -20,19 +21,11 @@ use Rattle.decide.specs.declared.plan.Plan.{Plan}
 use Rattle.decide.specs.declared.plan.Plan.the-variants.{Refuse, Take}
 use Rattle.decide.specs.Happening.{happeningOf, asEvent}
 use Rattle.decide.specs.Decide.{planOf}
+use Rattle.store.specs.Store.{takenNames, takenNums, takenTicks}
 use Rattle.judge.specs.declared.feed.Fed.{Fed}
 use Rattle.judge.specs.declared.feed.Verdict.{Verdict}
-use Rattle.judge.specs.Store.{takenNames, takenNums, takenTicks}
 
--- the three tables, and an answer with the three tables afterwards
-pub record Tables : Type 0 where
-  pub names : List ℕ
-  pub nums : List ℕ
-  pub ticks : List ℕ
-
-abbrev pub tables : List ℕ → List ℕ → List ℕ → Tables
-tables names nums ticks = record { names = names; nums = nums; ticks = ticks }
-
+-- an answer with the three tables afterwards
 pub record After : Type 0 where
   pub answer : ℕ
   pub left : Tables

@@ -1,3 +1,2 @@
--- The judge over lent tables: what an event line stores, one line, many lines, and the verdict.
-pub mod Store
+-- The judge over lent tables: one line, many lines, a whole trace, and the verdict if it ended now.
 pub mod Feed

@@ -3,6 +3,15 @@ use mathlib.Core.List.{List}
 use Prim.Native.Nat.{ℕ, _+_, _*_}
 use lib.ListN.{getD, take, drop}
 
+-- the three tables
+pub record Tables : Type 0 where
+  pub names : List ℕ
+  pub nums : List ℕ
+  pub ticks : List ℕ
+
+abbrev pub tables : List ℕ → List ℕ → List ℕ → Tables
+tables names nums ticks = record { names = names; nums = nums; ticks = ticks }
+
 -- the sizes
 abbrev pub namesSize : ℕ
 namesSize = 16384

@@ -6,15 +6,19 @@ use Rattle.judge.proofs.Feeds.{refused-carried, taken-carried, carried-
 use Rattle.judge.proofs.feed.event_in.Statement.{statement}
 use Rattle.judge.proofs.feed.event_in.Tie as tie
 
+-- from the place where the plan is known to the start
+abbrev begun : tie.After-decide → tie.Start
+begun c = c .before .before .before .before .before .before .before .before .before .before .before
+
 -- the plan carried out
 planned : (c : tie.After-decide) →
     let f = c .before .before .before .before in
-    let a = f .before .before .before .before .before .before .before .args in
+    let a = begun c .args in
     let t = tables (a .names .now) (a .nums .now) (a .ticks .now) in
     carried (c .decide .result) t (f .before .before .to-rules .result) (f .before .field .result .now) (f .field2 .result .now) ≡ eventLined t (a .l .now) (a .e) (a .count)
 planned c =
     let f = c .before .before .before .before in
-    carried-lined _ _ _ _ (f .before .before .before .before .before .before .before .pre) (f .before .before .to-rules .ensures) (f .before .field .ensures) (f .field2 .ensures) (c .decide .ensures)
+    carried-lined _ _ _ _ (begun c .pre) (f .before .before .to-rules .ensures) (f .before .field .ensures) (f .field2 .ensures) (c .decide .ensures)
 
 returns : tie.Need-returns
 returns c =
@@ -26,7 +30,7 @@ returns-2 : tie.Need-returns-2
 returns-2 c =
     let t = c .before .before .before .before .before .before in
     let p = t .before .before .before .before .before in
-    taken-carried _ _ _ _ (p .p2 .given .1) (t .take .ensures) ∙ planned (p .before .before)
+    taken-carried _ _ _ _ (begun (p .before .before) .pre) (p .p2 .given .1) (t .take .ensures) ∙ planned (p .before .before)
 
 pub event-in-spec : {M : Type 1} → statement M
 event-in-spec =

@@ -1,0 +1,155 @@
+-- Laws of the stores of an event line. Each keeps the length of its table, and arms of an `if` that meet again leave what the definitions say.
+use mathlib.Core.Path.{_≡_, refl, sym, _∙_}
+use mathlib.Core.Bool.{Bool, true, false, not, _&&_, cond}
+use mathlib.Core.List.{List}
+use Prim.Native.Nat.{ℕ, _+_, _-_, _*_, _%_, _^_, _≤_, _<_}
+use native.Mathlib.Omega.{arith}
+use lib.Dec.{eqb, ltb}
+use lib.ListN.{length, getD, set, length-set}
+use borrow.Author.Tests.{eq-eqb, ne-eqb}
+use Rattle.text.specs.Put.{put}
+use Rattle.text.proofs.Writes.{put-length}
+use Rattle.rules.specs.Words.{core, semaphore}
+use Rattle.rules.specs.Event.{Event}
+use Rattle.rules.specs.History.{hasInstances, activates}
+use Rattle.tables.specs.Entry.{Tables, tables, startedEntry, nameCount, firstTime}
+use Rattle.tables.proofs.Stores.{other}
+use Rattle.tables.proofs.Valid.{Sizes, sizes-mean}
+use Rattle.decide.specs.declared.happening.Happening.{Happening}
+use Rattle.decide.specs.declared.sight.Sight.{Sight}
+use Rattle.decide.specs.Happening.{asEvent}
+use Rattle.decide.specs.Known.{newCore, newName, newInstance}
+use Rattle.store.specs.Store.{coreRow, targetRow, instanceRow, storeName, storeRow, storeSums, storeInstance, storeMark, storeNumber, takenNames, withRows, withTarget, withCore, withHeads, takenNums, settled, withTimes, withSums, takenTicks, stored}
+
+-- ---- tables of the right sizes
+
+pub stored-sized : (t : Tables) (s : Sight) (state : ℕ) (h : Happening) (source target : List ℕ) → Sizes (t .names) (t .nums) (t .ticks)
+    → stored t s state h source target ≡ tables (takenNames (t .names) (t .nums) s (asEvent h source target)) (takenNums (t .nums) s state h (length source) (length target)) (takenTicks (t .ticks) (t .nums) s (h .kind) (h .time))
+unfolding stored
+stored-sized t s state h source target z = rw (sizes-mean (t .names) (t .nums) (t .ticks) .shows z)
+
+-- ---- a store that is made where a number is 1
+
+pub made : {r v : ℕ} {m x : List ℕ} (y : List ℕ) → r ≡ v → r ≡ 1 → m ≡ x → m ≡ cond (eqb v 1) x y
+made {r} {v} y e t p = rw (eq-eqb v 1 (sym e ∙ t)) p
+
+pub unmade : {r v : ℕ} {m y : List ℕ} (x : List ℕ) → r ≡ v → (r ≡ 1 → ⊥) → m ≡ y → m ≡ cond (eqb v 1) x y
+unmade {r} {v} x e t p = rw (ne-eqb v 1 (λ q. t (e ∙ q))) p
+
+-- ---- the counts after one another: each is read after the stores before it
+
+skip : (l : List ℕ) (i j v : ℕ) → i < j → getD (set l i v) j 0 ≡ getD l j 0
+skip l i j v h = other l i j v (λ q. omega arith)
+
+pub heads-stored : {a b d e : ℕ} (nums : List ℕ) (names cores instances : ℕ) → a ≡ (getD nums 2 0 + 1) % 2 ^ 32 → b ≡ (getD (set (set nums 2 a) 6 1) 7 0 + names) % 2 ^ 32 → d ≡ (getD (set (set (set nums 2 a) 6 1) 7 b) 8 0 + cores) % 2 ^ 32 → e ≡ (getD (set (set (set (set nums 2 a) 6 1) 7 b) 8 d) 9 0 + instances) % 2 ^ 32 → set (set (set (set (set nums 2 a) 6 1) 7 b) 8 d) 9 e ≡ withHeads nums names cores instances
+unfolding withHeads
+heads-stored {a} {b} {d} {e} nums names cores instances p q r t =
+    let l = set (set nums 2 a) 6 1 in
+    let f : (j : ℕ) → 6 < j → getD l j 0 ≡ getD nums j 0 = λ j h. skip (set nums 2 a) 6 j 1 h ∙ skip nums 2 j a (omega arith) in
+    let q' : b ≡ (getD nums 7 0 + names) % 2 ^ 32 = rw (f 7 (omega arith)) at q in
+    let r' : d ≡ (getD nums 8 0 + cores) % 2 ^ 32 = rw (skip l 7 8 b (omega arith), f 8 (omega arith)) at r in
+    let t' : e ≡ (getD nums 9 0 + instances) % 2 ^ 32 = rw (skip (set l 7 b) 8 9 d (omega arith), skip l 7 9 b (omega arith), f 9 (omega arith)) at t in
+    rw (p, q', r', t')
+
+-- ---- the stores to nums after one another, with the rows and counts as they were before them
+
+pub nums-taken : {i p j x y z : ℕ} {a b d e : List ℕ} (nums : List ℕ) (s : Sight) (t : ℕ) (h : Happening) (n m : ℕ) → i ≡ coreRow nums s → p ≡ targetRow nums s → j ≡ instanceRow nums s → x ≡ newCore s → y ≡ newName s (h .kind) → z ≡ newInstance s (h .kind) → a ≡ withRows nums s (h .kind) n m → b ≡ withTarget a p j t h → d ≡ withCore b (s .class) i j → e ≡ withHeads d (x + y) x z → e ≡ takenNums nums s t h n m
+unfolding takenNums
+nums-taken nums s t h n m pi pp pj px py pz pa pb pd pe = pe ∙ rw (pd, pb, pa, pi, pp, pj, px, py, pz)
+
+-- ---- lengths
+
+length-cond : (b : Bool) (x y : List ℕ) {n : ℕ} → length x ≡ n → length y ≡ n → length (cond b x y) ≡ n
+length-cond true x y p q = p
+length-cond false x y p q = q
+
+-- a store that is made or not, and another after it
+length-two : (a b : Bool) (f : List ℕ → List ℕ) (x l : List ℕ) → ((m : List ℕ) → length (f m) ≡ length m) → length x ≡ length l → length (cond b (f (cond a x l)) (cond a x l)) ≡ length l
+length-two a b f x l h e =
+    let i : length (cond a x l) ≡ length l = length-cond a x l e refl in
+    length-cond b (f (cond a x l)) (cond a x l) (h (cond a x l) ∙ i) i
+
+pub length-storeName : (names : List ℕ) (i : ℕ) (name : List ℕ) → length (storeName names i name) ≡ length names
+unfolding storeName
+length-storeName names i name =
+    length-cond (ltb i 256) (put names (64 * i) name .output) names (put-length names (64 * i) name refl) refl
+
+pub length-storeRow : (nums : List ℕ) (i kind n : ℕ) → length (storeRow nums i kind n) ≡ length nums
+unfolding storeRow
+length-storeRow nums i kind n = length-cond (ltb i 256) _ nums (simp length-set) refl
+
+pub length-storeSums : (ticks : List ℕ) (i unknown since : ℕ) → length (storeSums ticks i unknown since) ≡ length ticks
+unfolding storeSums
+length-storeSums ticks i unknown since = length-cond (ltb i 256) _ ticks (simp length-set) refl
+
+pub length-storeInstance : (nums : List ℕ) (j owner number state : ℕ) → length (storeInstance nums j owner number state) ≡ length nums
+unfolding storeInstance
+length-storeInstance nums j owner number state = length-cond (ltb j 1024 && ltb owner 256) _ nums (simp length-set) refl
+
+pub length-storeMark : (nums : List ℕ) (i mark : ℕ) → length (storeMark nums i mark) ≡ length nums
+unfolding storeMark
+length-storeMark nums i mark = length-cond (ltb i 256) _ nums (simp length-set) refl
+
+pub length-storeNumber : (nums : List ℕ) (i n : ℕ) → length (storeNumber nums i n) ≡ length nums
+unfolding storeNumber
+length-storeNumber nums i n = length-cond (ltb i 256) _ nums (simp length-set) refl
+
+pub length-takenNames : (names nums : List ℕ) (s : Sight) (e : Event) → length (takenNames names nums s e) ≡ length names
+unfolding takenNames
+length-takenNames names nums s e =
+    length-two (eqb (newCore s) 1) (eqb (newName s (e .kind)) 1) (λ m. storeName m (targetRow nums s) (e .target)) _ names
+    (λ m. length-storeName m (targetRow nums s) (e .target))
+    (length-storeName names (nameCount nums) (e .source))
+
+pub length-withRows : (nums : List ℕ) (s : Sight) (kind n m : ℕ) → length (withRows nums s kind n m) ≡ length nums
+unfolding withRows
+length-withRows nums s kind n m =
+    length-two (eqb (newCore s) 1) (eqb (newName s kind) 1) (λ l. storeRow l (targetRow nums s) kind m) _ nums
+    (λ l. length-storeRow l (targetRow nums s) kind m)
+    (length-storeRow nums (nameCount nums) core n)
+
+pub length-withSums : (ticks nums : List ℕ) (s : Sight) (kind time : ℕ) → length (withSums ticks nums s kind time) ≡ length ticks
+unfolding withSums
+length-withSums ticks nums s kind time =
+    length-two (eqb (newCore s) 1) (eqb (newName s kind) 1) (λ l. storeSums l (targetRow nums s) 0 0) _ ticks
+    (λ l. length-storeSums l (targetRow nums s) 0 0)
+    (length-storeSums ticks (nameCount nums) (cond (eqb (startedEntry nums) 0) 0 (time - firstTime ticks)) time)
+
+pub length-withTarget : (nums : List ℕ) (i j t : ℕ) (h : Happening) → length (withTarget nums i j t h) ≡ length nums
+unfolding withTarget
+length-withTarget nums i j t h =
+    length-cond (eqb (h .kind) semaphore) (storeNumber (storeMark nums i t) i (h .count)) _
+    (length-storeNumber (storeMark nums i t) i (h .count) ∙ length-storeMark nums i t)
+    (length-two (hasInstances (h .kind)) (activates (h .kind) (h .word)) (λ m. storeNumber m i (h .number)) _ nums
+    (λ m. length-storeNumber m i (h .number))
+    (length-storeInstance nums j i (h .number) t))
+
+pub length-withCore : (nums : List ℕ) (class i j : ℕ) → length (withCore nums class i j) ≡ length nums
+unfolding withCore
+length-withCore nums class i j =
+    length-cond (eqb class 0) nums _ refl
+    (length-cond (eqb class 2) (storeMark nums i 1) _ (length-storeMark nums i 1)
+    (length-cond (ltb j 1024) (storeMark nums i (j + 2)) nums (length-storeMark nums i (j + 2)) refl))
+
+pub length-withHeads : (nums : List ℕ) (names cores instances : ℕ) → length (withHeads nums names cores instances) ≡ length nums
+unfolding withHeads
+length-withHeads nums names cores instances = simp length-set
+
+pub length-takenNums : (nums : List ℕ) (s : Sight) (t : ℕ) (h : Happening) (n m : ℕ) → length (takenNums nums s t h n m) ≡ length nums
+unfolding takenNums
+length-takenNums nums s t h n m = simp (length-withHeads, length-withCore, length-withTarget, length-withRows)
+
+pub length-settled : (ticks : List ℕ) (class i p time : ℕ) → length (settled ticks class i p time) ≡ length ticks
+unfolding settled
+length-settled ticks class i p time =
+    length-cond (ltb i 256 && ltb p 256) _ ticks
+    (length-cond (eqb class 1) _ _ (simp length-set) (length-cond (eqb class 2) _ ticks (simp length-set) refl))
+    refl
+
+pub length-withTimes : (ticks : List ℕ) (started time : ℕ) → length (withTimes ticks started time) ≡ length ticks
+unfolding withTimes
+length-withTimes ticks started time = length-cond (eqb started 0) _ _ (simp length-set) (simp length-set)
+
+pub length-takenTicks : (ticks nums : List ℕ) (s : Sight) (kind time : ℕ) → length (takenTicks ticks nums s kind time) ≡ length ticks
+unfolding takenTicks
+length-takenTicks ticks nums s kind time = simp (length-withTimes, length-settled, length-withSums)

@@ -1,0 +1,28 @@
+-- `store::take::store_instance` meets its contract: three stores where both rows are ones of their columns. Assumes nothing.
+use native.Mathlib.Omega.{arith}
+use lib.ListN.{length-set}
+use borrow.Author.Tests.{le-ltb, lt-ltb}
+use borrow.Author.Needs.{needs}
+use Rattle.store.specs.Store.{storeInstance}
+use Rattle.store.proofs.take.store_instance.Statement.{statement}
+use Rattle.store.proofs.take.store_instance.Tie as tie
+
+pub store-instance-spec : {M : Type 1} → statement M
+unfolding storeInstance
+store-instance-spec =
+    tie.close
+    (tie.spec
+    (λ c. rw (le-ltb _ 1024 (c .if1 .taken)))
+    (λ c. rw (lt-ltb _ 1024 (c .before .if1 .left), le-ltb _ 256 (c .if2 .taken)))
+    (λ c. search needs)
+    (λ c. search needs)
+    (λ c. search needs)
+    (λ c. search needs)
+    (λ c. search needs)
+    (λ c. search needs)
+    (λ c. simp length-set (omega arith))
+    (λ c. search needs)
+    (λ c. search needs)
+    (λ c. simp length-set (omega arith))
+    (λ c. search needs)
+    (λ c. rw (lt-ltb _ 1024 (c .before .if1 .left), lt-ltb _ 256 (c .if2 .left))))

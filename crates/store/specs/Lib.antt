@@ -1,0 +1,2 @@
+-- What taking an event line stores in the tables.
+pub mod Store

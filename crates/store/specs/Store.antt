@@ -1,0 +1,133 @@
+-- What taking an event line stores. Rows past the end of a column are not stored, and sums are taken modulo the width of their entries: no
+-- table that a trace leads to has such rows or sums, and none of any other can be written past its end.
+use mathlib.Core.Bool.{Bool, true, false, not, _&&_, _||_, cond}
+use mathlib.Core.List.{List}
+use Prim.Native.Nat.{ℕ, _+_, _-_, _*_, _%_, _^_}
+use lib.Dec.{eqb, ltb}
+use lib.ListN.{length, set}
+use Rattle.text.specs.Put.{put}
+use Rattle.rules.specs.Words.{core, semaphore}
+use Rattle.rules.specs.Event.{Event}
+use Rattle.rules.specs.History.{hasInstances, activates}
+use Rattle.tables.specs.declared.find.Found.{Found}
+use Rattle.tables.specs.declared.find.Found.the-variants.{At, Nothing}
+use Rattle.tables.specs.Entry.{Tables, tables, lineCount, startedEntry, nameCount, coreCount, instanceCount, firstTime, heldAt, idleAt, sinceAt}
+use Rattle.tables.specs.Range.{isSized}
+use Rattle.decide.specs.declared.happening.Happening.{Happening}
+use Rattle.decide.specs.declared.sight.Sight.{Sight}
+use Rattle.decide.specs.Happening.{asEvent}
+use Rattle.decide.specs.Known.{newCore, newName, newInstance}
+
+-- ---- the rows: those found, and otherwise the next ones
+
+abbrev pub rowOr : Found → ℕ → ℕ
+rowOr (At i) n = i
+rowOr Nothing n = n
+
+unfoldable pub coreRow : List ℕ → Sight → ℕ
+coreRow nums s = rowOr (s .source) (nameCount nums)
+
+unfoldable pub targetRow : List ℕ → Sight → ℕ
+targetRow nums s = rowOr (s .target) (nameCount nums + newCore s)
+
+unfoldable pub instanceRow : List ℕ → Sight → ℕ
+instanceRow nums s = rowOr (s .instance) (instanceCount nums)
+
+-- ---- single stores
+
+-- a new name: its bytes, its kind and length, no state, no number
+unfoldable pub storeName : List ℕ → ℕ → List ℕ → List ℕ
+storeName names i name = cond (ltb i 256) (put names (64 * i) name .output) names
+
+unfoldable pub storeRow : List ℕ → ℕ → ℕ → ℕ → List ℕ
+storeRow nums i kind n =
+    cond (ltb i 256) (set (set (set (set (set nums (10 + i) kind) (266 + i) (n % 2 ^ 32)) (522 + i) 0) (778 + i) 0) (1034 + i) 0) nums
+
+-- a new name's ticks: none held or idle, and for a core those before it was tracked unknown
+unfoldable pub storeSums : List ℕ → ℕ → ℕ → ℕ → List ℕ
+storeSums ticks i unknown since = cond (ltb i 256) (set (set (set (set ticks (2 + i) 0) (258 + i) 0) (514 + i) unknown) (770 + i) since) ticks
+
+-- an instance: the row of its name, its number, its state
+unfoldable pub storeInstance : List ℕ → ℕ → ℕ → ℕ → ℕ → List ℕ
+storeInstance nums j owner number state =
+    cond (ltb j 1024 && ltb owner 256) (set (set (set nums (1290 + j) owner) (2314 + j) number) (3338 + j) state) nums
+
+-- a state of a semaphore or core
+unfoldable pub storeMark : List ℕ → ℕ → ℕ → List ℕ
+storeMark nums i mark = cond (ltb i 256) (set nums (522 + i) mark) nums
+
+-- a last number or count
+unfoldable pub storeNumber : List ℕ → ℕ → ℕ → List ℕ
+storeNumber nums i n = cond (ltb i 256) (set (set nums (778 + i) n) (1034 + i) 1) nums
+
+-- ---- the three tables after an event line
+
+unfoldable pub takenNames : List ℕ → List ℕ → Sight → Event → List ℕ
+takenNames names nums s e =
+    let one = cond (eqb (newCore s) 1) (storeName names (nameCount nums) (e .source)) names in
+    cond (eqb (newName s (e .kind)) 1) (storeName one (targetRow nums s) (e .target)) one
+
+-- the rows of new names, of n and m bytes
+unfoldable pub withRows : List ℕ → Sight → ℕ → ℕ → ℕ → List ℕ
+withRows nums s kind n m =
+    let one = cond (eqb (newCore s) 1) (storeRow nums (nameCount nums) core n) nums in
+    cond (eqb (newName s kind) 1) (storeRow one (targetRow nums s) kind m) one
+
+-- what the event's instance or semaphore is from now on: its state t, and its number or count
+unfoldable pub withTarget : List ℕ → ℕ → ℕ → ℕ → Happening → List ℕ
+withTarget nums i j t h =
+    cond (eqb (h .kind) semaphore) (storeNumber (storeMark nums i t) i (h .count))
+    (let one = cond (hasInstances (h .kind)) (storeInstance nums j i (h .number) t) nums in
+    cond (activates (h .kind) (h .word)) (storeNumber one i (h .number)) one)
+
+-- "make it held", "make it idle"
+unfoldable pub withCore : List ℕ → ℕ → ℕ → ℕ → List ℕ
+withCore nums class i j = cond (eqb class 0) nums (cond (eqb class 2) (storeMark nums i 1) (cond (ltb j 1024) (storeMark nums i (j + 2)) nums))
+
+unfoldable pub withHeads : List ℕ → ℕ → ℕ → ℕ → List ℕ
+withHeads nums names cores instances =
+    set (set (set (set (set nums 2 ((lineCount nums + 1) % 2 ^ 32)) 6 1) 7 ((nameCount nums + names) % 2 ^ 32)) 8 ((coreCount nums + cores) % 2 ^ 32)) 9
+    ((instanceCount nums + instances) % 2 ^ 32)
+
+unfoldable pub takenNums : List ℕ → Sight → ℕ → Happening → ℕ → ℕ → List ℕ
+takenNums nums s t h n m =
+    withHeads
+    (withCore (withTarget (withRows nums s (h .kind) n m) (targetRow nums s) (instanceRow nums s) t h) (s .class) (coreRow nums s) (instanceRow nums s))
+    (newCore s + newName s (h .kind))
+    (newCore s)
+    (newInstance s (h .kind))
+
+-- the ticks from `since` on go to the core's sum, and those it was held also to its holder's charge
+unfoldable pub settled : List ℕ → ℕ → ℕ → ℕ → ℕ → List ℕ
+settled ticks class i p time =
+    cond (ltb i 256 && ltb p 256)
+    (cond (eqb class 1) (set (set ticks (258 + i) ((idleAt ticks i + (time - sinceAt ticks i)) % 2 ^ 64)) (770 + i) time)
+    (cond (eqb class 2)
+    (let one = set ticks (2 + i) ((heldAt ticks i + (time - sinceAt ticks i)) % 2 ^ 64) in
+    set (set one (2 + p) ((heldAt one p + (time - sinceAt ticks i)) % 2 ^ 64)) (770 + i) time)
+    ticks))
+    ticks
+
+unfoldable pub withTimes : List ℕ → ℕ → ℕ → List ℕ
+withTimes ticks started time = cond (eqb started 0) (set (set ticks 0 time) 1 time) (set ticks 1 time)
+
+unfoldable pub withSums : List ℕ → List ℕ → Sight → ℕ → ℕ → List ℕ
+withSums ticks nums s kind time =
+    let unknown = cond (eqb (startedEntry nums) 0) 0 (time - firstTime ticks) in
+    let one = cond (eqb (newCore s) 1) (storeSums ticks (nameCount nums) unknown time) ticks in
+    cond (eqb (newName s kind) 1) (storeSums one (targetRow nums s) 0 0) one
+
+unfoldable pub takenTicks : List ℕ → List ℕ → Sight → ℕ → ℕ → List ℕ
+takenTicks ticks nums s kind time =
+    withTimes (settled (withSums ticks nums s kind time) (s .class) (coreRow nums s) (targetRow nums s) time) (startedEntry nums) time
+
+-- ---- all three of any tables: where one has a wrong size, nothing changes
+
+unfoldable pub stored : Tables → Sight → ℕ → Happening → List ℕ → List ℕ → Tables
+stored t s state h source target =
+    cond (isSized (length (t .names)) (length (t .nums)) (length (t .ticks)))
+    (tables
+    (takenNames (t .names) (t .nums) s (asEvent h source target))
+    (takenNums (t .nums) s state h (length source) (length target))
+    (takenTicks (t .ticks) (t .nums) s (h .kind) (h .time)))
+    t
