@@ -3,6 +3,7 @@ pub mod Parts
 pub mod Dates
 pub mod Notes
 pub mod Lines
+pub mod Plain
 pub mod Rules
 pub mod Events
 pub mod Texts

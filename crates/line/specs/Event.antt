@@ -1,10 +1,11 @@
 -- Event lines: "seven fields or eight, separated by commas: time, source, source instance, type, target, target instance, event, note".
+use mathlib.Core.Path.{_≡_}
 use Prim.Native.Nat.{ℕ}
 use mathlib.Core.Bool.{Bool, true, false, not, _&&_, _||_, cond}
 use mathlib.Core.List.{List, [], _∷_}
 use lib.Dec.{eqb, leb}
 use lib.ListN.{length}
-use Rattle.text.specs.Name.{isName}
+use Rattle.text.specs.Name.{allNameBytes, isName}
 use Rattle.text.specs.Number.{numberOf}
 use Rattle.text.specs.declared.number.Number.{Number}
 use Rattle.text.specs.declared.number.Number.the-variants.{Value, Bad}
@@ -43,6 +44,12 @@ numbersOf time from to = numbersAs (numberOf time maxTime) (numberOf from maxIns
 
 unfoldable pub hasNames : List ℕ → List ℕ → List ℕ → Bool → Bool
 hasNames source target note noted = isName source && (isName target && (not noted || isName note))
+
+-- every byte of these fields may stand in a name, as in those of a line whose bytes are all plain
+pub record PlainFields (source target note : List ℕ) : Type 0 where
+  pub source-bytes : allNameBytes source ≡ true
+  pub target-bytes : allNameBytes target ≡ true
+  pub note-bytes : allNameBytes note ≡ true
 
 -- ---- what the fields say: first 5, then 6, then 5 for the note's closer form ("tested only where type and event are known"), then 7
 

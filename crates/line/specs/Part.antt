@@ -1,6 +1,8 @@
 -- The parts of a line that commas separate, and where they stand.
 use Prim.Native.Nat.{ℕ, zero, suc, _-_}
-use mathlib.Core.List.{List, []}
+use mathlib.Core.Bool.{Bool, true, _&&_}
+use mathlib.Core.List.{List, [], _∷_}
+use lib.Dec.{leb}
 use lib.ListN.{getD, take, drop}
 use Rattle.text.specs.Bytes.{findFrom}
 use Rattle.text.specs.Pieces.{pieces}
@@ -14,6 +16,11 @@ partsOf l = pieces 44 l
 unfoldable pub fieldOf : List ℕ → ℕ → List ℕ
 fieldOf l zero = []
 fieldOf l (suc k) = getD (partsOf l) k []
+
+-- every byte is a comma or one that a name may have, 33 to 126
+unfoldable pub allPlain : List ℕ → Bool
+allPlain [] = true
+allPlain (x ∷ l) = (leb 33 x && leb x 126) && allPlain l
 
 -- ---- where the parts stand
 

@@ -1,7 +1,9 @@
 // Event lines: seven fields or eight.
 ghost use mathlib.Core.Path.{_≡_};
-ghost use mathlib.Core.Bool.{Bool};
-ghost use Rattle.line.specs.Event.{numbersOf, hasNames, fieldsReading, knownReading, eventReading};
+ghost use mathlib.Core.Bool.{Bool, true};
+ghost use Rattle.text.specs.Name.{allNameBytes, isName};
+ghost use Rattle.line.specs.Part.{allPlain};
+ghost use Rattle.line.specs.Event.{PlainFields, numbersOf, hasNames, fieldsReading, knownReading, eventReading};
 use crate::note::Note;
 use crate::note::note_of;
 use crate::part::between;
@@ -50,20 +52,35 @@ fn read_numbers(time: &[u8], from: &[u8], to: &[u8]) -> Numbers
     Numbers::Are(time, from as u32, to as u32)
 }
 
-// Whether source and target are names, and so is the note where there is one.
-fn names(source: &[u8], target: &[u8], note: &[u8], noted: bool) -> bool
-    ensures { λ r. ⌜ r ≡ hasNames (now (source .entry)) (now (target .entry)) (now (note .entry)) noted ⌝ }
+// Whether a field is a name. Of a plain line's field only its length is left to be looked at.
+fn field_name(s: &[u8], plain: bool) -> bool
+    requires { ⌜ (plain ≡ true → allNameBytes (now s) ≡ true) ⌝ }
+    ensures { λ r. ⌜ r ≡ isName (now (s .entry)) ⌝ }
 {
-    if !name(source) {
+    if !plain {
+        return name(s);
+    }
+    if s.len() == 0 {
         return false;
     }
-    if !name(target) {
+    s.len() <= 64
+}
+
+// Whether source and target are names, and so is the note where there is one.
+fn names(source: &[u8], target: &[u8], note: &[u8], noted: bool, plain: bool) -> bool
+    requires { ⌜ (plain ≡ true → PlainFields (now source) (now target) (now note)) ⌝ }
+    ensures { λ r. ⌜ r ≡ hasNames (now (source .entry)) (now (target .entry)) (now (note .entry)) noted ⌝ }
+{
+    if !field_name(source, plain) {
+        return false;
+    }
+    if !field_name(target, plain) {
         return false;
     }
     if !noted {
         return true;
     }
-    name(note)
+    field_name(note, plain)
 }
 
 // What an event line says whose fields have their form and whose type and event are known.
@@ -96,7 +113,7 @@ fn read_known(
     Reading::EventLine(event, count)
 }
 
-// What an event line says that has these fields; `noted` tells whether it has the eighth.
+// What an event line says that has these fields; `noted` tells whether it has the eighth, `plain` that their bytes are a name's.
 fn read_fields(
     time: &[u8],
     source: &[u8],
@@ -107,10 +124,12 @@ fn read_fields(
     action: &[u8],
     note: &[u8],
     noted: bool,
+    plain: bool,
 ) -> Reading
+    requires { ⌜ (plain ≡ true → PlainFields (now source) (now target) (now note)) ⌝ }
     ensures { λ r. ⌜ r ≡ fieldsReading (now (time .entry)) (now (source .entry)) (now («from» .entry)) (now (kind .entry)) (now (target .entry)) (now (to .entry)) (now (action .entry)) (now (note .entry)) noted ⌝ }
 {
-    if !names(source, target, note, noted) {
+    if !names(source, target, note, noted, plain) {
         return Reading::Refused(5);
     }
     let n = read_numbers(time, from, to);
@@ -124,8 +143,9 @@ fn read_fields(
     read_known(kind, action, time, source, from, target, to, note)
 }
 
-// What an event line says. It is split at its commas once.
-pub(crate) fn read_event(line: &[u8]) -> Reading
+// What an event line says, which may be known to be plain. It is split at its commas once.
+pub(crate) fn read_event(line: &[u8], plain: bool) -> Reading
+    requires { ⌜ (plain ≡ true → allPlain (now line) ≡ true) ⌝ }
     ensures { λ r. ⌜ r ≡ eventReading (now (line .entry)) ⌝ }
 {
     let c = split(line);
@@ -153,5 +173,16 @@ pub(crate) fn read_event(line: &[u8]) -> Reading
     let action = between(line, c6, c7);
     let note = between(line, c7, c8);
     let noted = c7 < n;
-    read_fields(time, source, from, kind, target, to, action, note, noted)
+    read_fields(
+        time,
+        source,
+        from,
+        kind,
+        target,
+        to,
+        action,
+        note,
+        noted,
+        plain,
+    )
 }

@@ -1,5 +1,7 @@
 // Reading one line.
 ghost use mathlib.Core.Path.{_≡_};
+ghost use mathlib.Core.Bool.{true};
+ghost use Rattle.line.specs.Part.{allPlain};
 ghost use Rattle.line.specs.Reading.{readLine, hasBreak, isEventLine};
 use crate::event::Event;
 use crate::event::read_event;
@@ -34,6 +36,31 @@ fn has_break(line: &[u8]) -> bool
     false
 }
 
+// Whether every byte of the line is a comma or one that a name may have. All are looked at with no exit between, so that many can be
+// compared at once.
+fn all_plain(line: &[u8]) -> bool
+    ensures { λ r. ⌜ r ≡ allPlain (now (line .entry)) ⌝ }
+{
+    let mut odd: u8 = 0;
+    let mut i = 0;
+    while i < line.len() {
+        odd = odd | (((line[i] < 33) | (126 < line[i])) as u8);
+        i += 1;
+    }
+    odd == 0
+}
+
+// Whether a byte 10 or 13 stands in a line that may be known to be plain.
+fn broken(line: &[u8], plain: bool) -> bool
+    requires { ⌜ (plain ≡ true → allPlain (now line) ≡ true) ⌝ }
+    ensures { λ r. ⌜ r ≡ hasBreak (now (line .entry)) ⌝ }
+{
+    if plain {
+        return false;
+    }
+    has_break(line)
+}
+
 // Whether the line is an event line: any that does not start with `#`, the empty one too.
 fn event_line(line: &[u8]) -> bool
     ensures { λ r. ⌜ r ≡ isEventLine (now (line .entry)) ⌝ }
@@ -51,11 +78,12 @@ pub fn read(line: &[u8]) -> Reading
     if 1023 < line.len() {
         return Reading::Refused(1);
     }
-    if has_break(line) {
+    let plain = all_plain(line);
+    if broken(line, plain) {
         return Reading::Refused(1);
     }
     if event_line(line) {
-        return read_event(line);
+        return read_event(line, plain);
     }
     read_parameter(line)
 }

@@ -6,8 +6,16 @@ use Prim.Native.Nat.{_-_}
 use native.Mathlib.Omega.{arith}
 use borrow.Author.Needs.{needs}
 use Rattle.line.proofs.Events.{time-ends, event-few, event-many, event-fields}
+use Rattle.line.proofs.Plain.{plain-fields}
 use Rattle.line.proofs.event.read_event.Statement.{statement}
 use Rattle.line.proofs.event.read_event.Tie as tie
+
+read-fields-requires : tie.Need-read-fields-requires
+read-fields-requires c κs = λ p.
+    let b4 = c .before .before .before in
+    let b1 = b4 .before .before .before in
+    let at = b1 .before .before .before .before in
+    rw (b1 .between .ensures, b4 .between4 .ensures, c .between7 .ensures) (plain-fields _ (at .split .result) (at .split .ensures) (at .before .before .pre p))
 
 returns-3 : tie.Need-returns-3
 returns-3 c =
@@ -51,5 +59,5 @@ read-event-spec =
     (λ c κs. tt)
     (λ c κs. tt)
     (λ c κs. tt)
-    (λ c κs. tt)
+    read-fields-requires
     returns-3)

@@ -16,7 +16,7 @@ unfolding fieldsReading
 read-fields-spec =
     tie.close
     (tie.spec
-    (λ c κs. tt)
+    (λ c κs. search needs)
     (λ c. rw (← (c .before .names .ensures), not-true (c .before .names .result) (c .if1 .taken)))
     (λ c κs. tt)
     (λ c. search needs)

@@ -1,0 +1,97 @@
+-- Laws of plain lines: what `all_plain` does at a turn, that a plain line has no break, and that its fields have only bytes that a name may
+-- have.
+use mathlib.Core.Path.{_≡_, refl, sym, _∙_}
+use mathlib.Core.Bool.{Bool, true, false, not, _&&_, _||_, and-true, and-false, and-assoc}
+use mathlib.Core.List.{List, [], _∷_}
+use mathlib.Core.Logic.{⊎-elim}
+use Prim.Native.Nat.{ℕ, zero, suc, _+_, _-_, _≤_, _<_}
+use native.Mathlib.Numerals.{add-one}
+use native.Mathlib.Omega.{arith}
+use mir.Val.{boolByte}
+use lib.Bits.{bitOr, or-add-and, and-le-l, or-zero-r}
+use lib.Dec.{eqb, leb, ltb}
+use lib.ListN.{length, getD, take, drop, drop-of-length-le}
+use lib.Seq.{drop-cons}
+use borrow.Author.Tests.{lt-ltb, le-ltb, le-leb, lt-leb, leb-true, ne-eqb}
+use Rattle.text.specs.Name.{isNameByte, allNameBytes}
+use Rattle.text.proofs.Bools.{and-l, and-r, lt-or-ge}
+use Rattle.text.proofs.Pieces.{without}
+use Rattle.line.specs.declared.part.Commas.{Commas}
+use Rattle.line.specs.Part.{fieldOf, partFrom, allPlain, commaAt, commasOf}
+use Rattle.line.specs.Event.{PlainFields}
+use Rattle.line.specs.Reading.{hasBreak}
+use Rattle.line.proofs.Parts.{noComma, field-clean, field-place}
+
+-- ---- a turn of `all_plain`, and its end
+
+-- nothing odd is seen where nothing was and this byte is none
+odd-none : (a : ℕ) (t : Bool) → eqb (bitOr a (boolByte t)) 0 ≡ eqb a 0 && not t
+odd-none a true = rw (ne-eqb (bitOr a 1) 0 (λ e. omega (arith, or-add-and a 1, and-le-l a 1)), and-false)
+odd-none a false = rw (or-zero-r a, and-true)
+
+in-range : (x : ℕ) → not (ltb x 33 || ltb 126 x) ≡ leb 33 x && leb x 126
+in-range x =
+    ⊎-elim (λ lo. rw (lt-ltb x 33 lo, lt-leb 33 x lo))
+    (λ ge. ⊎-elim (λ hi. rw (le-ltb x 33 ge, lt-ltb 126 x hi, lt-leb x 126 hi, and-false)) (λ le. rw (le-ltb x 33 ge, le-ltb 126 x le, le-leb 33 x ge, le-leb x 126 le)) (lt-or-ge 126 x))
+    (lt-or-ge x 33)
+
+pub plain-turn : (s : List ℕ) (i odd : ℕ) → i < length s → allPlain s ≡ eqb odd 0 && allPlain (drop i s)
+    → allPlain s ≡ eqb (bitOr odd (boolByte (ltb (getD s i 0) 33 || ltb 126 (getD s i 0)))) 0 && allPlain (drop (i + 1) s)
+unfolding allPlain
+plain-turn s i odd h e =
+    let x = getD s i 0 in
+    e ∙ rw (drop-cons s i 0 h, add-one, odd-none, in-range) (sym (and-assoc (eqb odd 0) (leb 33 x && leb x 126) (allPlain (drop (suc i) s))))
+
+pub plain-end : (s : List ℕ) (i odd : ℕ) → length s ≤ i → allPlain s ≡ eqb odd 0 && allPlain (drop i s) → allPlain s ≡ eqb odd 0
+unfolding allPlain
+plain-end s i odd h e = e ∙ rw (drop-of-length-le s h, allPlain, and-true)
+
+-- ---- no break stands in a plain line
+
+plain-byte : (x : ℕ) (l : List ℕ) → (leb 33 x && leb x 126) && allPlain l ≡ true → 33 ≤ x
+plain-byte x l e = leb-true 33 x (and-l (leb 33 x) (leb x 126) (and-l (leb 33 x && leb x 126) (allPlain l) e))
+
+pub plain-whole : (l : List ℕ) → allPlain l ≡ true → hasBreak l ≡ false
+unfolding allPlain hasBreak
+plain-whole [] e = refl
+plain-whole (x ∷ l) e =
+    let lo = plain-byte x l e in
+    rw (ne-eqb x 10 (λ q. omega (arith, q)), ne-eqb x 13 (λ q. omega (arith, q)), plain-whole l (and-r (leb 33 x && leb x 126) (allPlain l) e))
+
+-- ---- the fields of a plain line
+
+plain-drop : (n : ℕ) (l : List ℕ) → allPlain l ≡ true → allPlain (drop n l) ≡ true
+unfolding allPlain
+plain-drop zero l e = e
+plain-drop (suc n) [] e = refl
+plain-drop (suc n) (x ∷ l) e = plain-drop n l (and-r (leb 33 x && leb x 126) (allPlain l) e)
+
+plain-take : (n : ℕ) (l : List ℕ) → allPlain l ≡ true → allPlain (take n l) ≡ true
+unfolding allPlain
+plain-take zero l e = refl
+plain-take (suc n) [] e = refl
+plain-take (suc n) (x ∷ l) e = rw (and-l (leb 33 x && leb x 126) (allPlain l) e) (plain-take n l (and-r (leb 33 x && leb x 126) (allPlain l) e))
+
+plain-names : (s : List ℕ) → allPlain s ≡ true → noComma s ≡ true → allNameBytes s ≡ true
+unfolding allPlain noComma without allNameBytes isNameByte
+plain-names [] p c = refl
+plain-names (x ∷ s) p c =
+    rw (and-l (leb 33 x && leb x 126) (allPlain s) p, and-l (not (eqb x 44)) (without 44 s) c)
+    (plain-names s (and-r (leb 33 x && leb x 126) (allPlain s) p) (and-r (not (eqb x 44)) (without 44 s) c))
+
+plain-field : (l : List ℕ) (k : ℕ) → allPlain l ≡ true → allNameBytes (fieldOf l (suc (suc k))) ≡ true
+unfolding partFrom
+plain-field l k e =
+    let a = suc (commaAt l k) in
+    let p : allPlain (partFrom l a (commaAt l (suc k))) ≡ true = plain-take (commaAt l (suc k) - a) (drop a l) (plain-drop a l e) in
+    plain-names (fieldOf l (suc (suc k))) (rw (field-place l k) p) (field-clean l (suc (suc k)))
+
+-- the source, the target and the note
+pub plain-fields : (l : List ℕ) (c : Commas) → c ≡ commasOf l → allPlain l ≡ true
+    → PlainFields (partFrom l (suc (c .c1)) (c .c2)) (partFrom l (suc (c .c4)) (c .c5)) (partFrom l (suc (c .c7)) (c .c8))
+plain-fields l c e p =
+    rw e (record {
+      source-bytes = rw (field-place l 0) at (plain-field l 0 p);
+      target-bytes = rw (field-place l 3) at (plain-field l 3 p);
+      note-bytes = rw (field-place l 6) at (plain-field l 6 p);
+    })
