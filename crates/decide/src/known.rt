@@ -44,6 +44,14 @@ pub(crate) fn mark_in(nums: &[u32], f: Found) -> u32
     entry(nums, MARK, 256, f)
 }
 
+// The state of the instance in a row.
+fn instance_state(nums: &[u32], f: Found) -> u32
+    requires { ⌜ length (now nums) ≡ 4362 ⌝ }
+    ensures { λ r. ⌜ r ≡ entryOf (now (nums .entry)) 3338 1024 f ⌝ }
+{
+    entry(nums, STATE, 1024, f)
+}
+
 // The state of an event line's semaphore or instance.
 pub(crate) fn state_in(nums: &[u32], s: Sight, kind: u32) -> u32
     requires { ⌜ length (now nums) ≡ 4362 ⌝ }
@@ -54,7 +62,7 @@ pub(crate) fn state_in(nums: &[u32], s: Sight, kind: u32) -> u32
     if kind == SEMAPHORE {
         return mark_in(nums, target);
     }
-    entry(nums, STATE, 1024, instance)
+    instance_state(nums, instance)
 }
 
 // 1 where a row is needed and there is none yet.

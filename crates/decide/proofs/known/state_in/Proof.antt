@@ -13,4 +13,4 @@ state-in-spec =
     (λ c κs. search needs)
     (λ c. rw (eq-eqb _ 5 (c .before .if1 .taken)) (c .mark-in .ensures))
     (λ c κs. search needs)
-    (λ c. rw (ne-eqb _ 5 (c .before .if1 .left)) (c .entry .ensures)))
+    (λ c. rw (ne-eqb _ 5 (c .before .if1 .left)) (c .instance-state .ensures)))
