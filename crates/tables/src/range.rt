@@ -163,26 +163,18 @@ fn instances_ok(nums: &[u32], n: usize) -> bool
     true
 }
 
-// Whether every entry is in its range.
+// Whether every entry is in its range. The counts are tested first, since they tell how many rows there are to test.
 fn in_range(names: &[u8], nums: &[u32], ticks: &[u64]) -> bool
     requires { ⌜ (length (now names) ≡ 16384) × ((length (now nums) ≡ 4362) × (length (now ticks) ≡ 1026)) ⌝ }
     ensures { λ r. ⌜ r ≡ inRange (now (names .entry)) (now (nums .entry)) (now (ticks .entry)) ⌝ }
 {
-    if !heads_ok(nums) {
-        return false;
-    }
     if !counts_ok(nums) {
         return false;
     }
-    if !times_ok(ticks) {
-        return false;
-    }
     let n = nums[NAMES] as usize;
-    if !names_ok(names, nums, ticks, n) {
-        return false;
-    }
     let m = nums[INSTANCES] as usize;
-    instances_ok(nums, m)
+    let rows = names_ok(names, nums, ticks, n) & instances_ok(nums, m);
+    heads_ok(nums) & (times_ok(ticks) & rows)
 }
 
 // 15 for tables of a wrong size, 16 for an entry out of its range, else 0.
