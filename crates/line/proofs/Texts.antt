@@ -6,9 +6,9 @@ use mathlib.Core.List.{List, [], _∷_}
 use Prim.Native.Nat.{ℕ, zero, suc, _+_, _≤_, _<_}
 use native.Mathlib.Nat.{suc-ne-zero, add-zero}
 use native.Mathlib.Omega.{arith}
-use lib.Dec.{leb}
+use lib.Dec.{eqb, leb}
 use lib.ListN.{length, length-append}
-use borrow.Author.Tests.{leb-true, le-leb, lt-leb}
+use borrow.Author.Tests.{leb-true, le-leb, lt-leb, ne-eqb}
 use Rattle.text.specs.Number.{digitsOf}
 use Rattle.text.specs.Name.{isName}
 use Rattle.text.specs.Put.{written, Put, after, put}
@@ -32,13 +32,9 @@ use Rattle.line.specs.Writing.{nameField, numberField, noteText, textOf,
 
 -- ---- a note that is empty is no note
 
-pub is-empty : (s : List ℕ) → length s ≡ 0 → isEmpty s ≡ true
-is-empty [] e = refl
-is-empty (x ∷ s) e = absurd (suc-ne-zero (length s) e)
-
-pub not-empty : (s : List ℕ) → (length s ≡ 0 → ⊥) → isEmpty s ≡ false
-not-empty [] h = absurd (h refl)
-not-empty (x ∷ s) h = refl
+pub empty-length : (s : List ℕ) → eqb (length s) 0 ≡ isEmpty s
+empty-length [] = refl
+empty-length (x ∷ s) = ne-eqb (suc (length s)) 0 (suc-ne-zero (length s))
 
 pub note-none : (s : List ℕ) → length s ≡ 0 → noteText s ≡ []
 unfolding noteText

@@ -71,16 +71,7 @@ fn names(source: &[u8], target: &[u8], note: &[u8], noted: bool, plain: bool) ->
     requires { ⌜ (plain ≡ true → PlainFields (now source) (now target) (now note)) ⌝ }
     ensures { λ r. ⌜ r ≡ hasNames (now (source .entry)) (now (target .entry)) (now (note .entry)) noted ⌝ }
 {
-    if !field_name(source, plain) {
-        return false;
-    }
-    if !field_name(target, plain) {
-        return false;
-    }
-    if !noted {
-        return true;
-    }
-    field_name(note, plain)
+    field_name(source, plain) & (field_name(target, plain) & (!noted | field_name(note, plain)))
 }
 
 // What an event line says whose fields have their form and whose type and event are known.

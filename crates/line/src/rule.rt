@@ -73,20 +73,14 @@ fn own(action: Action) -> bool
 fn source_broken(kind: Kind, action: Action, instance: u32) -> bool
     ensures { λ r. ⌜ r ≡ sourceBroken kind action instance ⌝ }
 {
-    if instance == 0 {
-        return false;
-    }
-    zero_source(kind, action)
+    zero_source(kind, action) & (instance != 0)
 }
 
 // Whether the target instance is not 0 where it has to be.
 fn target_broken(kind: Kind, instance: u32) -> bool
     ensures { λ r. ⌜ r ≡ targetBroken kind instance ⌝ }
 {
-    if instance == 0 {
-        return false;
-    }
-    zero_target(kind)
+    zero_target(kind) & (instance != 0)
 }
 
 // Whether an event of its target's own has another source, or an instance that is not 0.
@@ -136,14 +130,8 @@ pub(crate) fn rule_broken(
 ) -> bool
     ensures { λ r. ⌜ r ≡ ruleBroken kind action (now (source .entry)) «from» (now (target .entry)) to (now (note .entry)) ⌝ }
 {
-    if source_broken(kind, action, from) {
-        return true;
-    }
-    if target_broken(kind, to) {
-        return true;
-    }
-    if own_broken(action, source, from, target, to) {
-        return true;
-    }
-    note_broken(kind, action, note.len())
+    source_broken(kind, action, from)
+        | (target_broken(kind, to)
+            | (own_broken(action, source, from, target, to)
+                | note_broken(kind, action, note.len())))
 }

@@ -30,19 +30,7 @@ pub enum Written {
 fn sizes(time: u64, source: &[u8], target: &[u8], note: &[u8]) -> bool
     ensures { λ r. ⌜ r ≡ hasSizes time (now (source .entry)) (now (target .entry)) (now (note .entry)) ⌝ }
 {
-    if 72057594037927935 < time {
-        return false;
-    }
-    if !name(source) {
-        return false;
-    }
-    if !name(target) {
-        return false;
-    }
-    if note.len() == 0 {
-        return true;
-    }
-    name(note)
+    (time <= 72057594037927935) & (name(source) & (name(target) & ((note.len() == 0) | name(note))))
 }
 
 // The lowest number of a refusal that applies to a record, or 0.

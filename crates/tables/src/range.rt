@@ -49,22 +49,10 @@ fn heads_ok(nums: &[u32]) -> bool
     requires { ⌜ length (now nums) ≡ 4362 ⌝ }
     ensures { λ r. ⌜ r ≡ headsOk (now (nums .entry)) ⌝ }
 {
-    if 14 < nums[VERDICT] {
-        return false;
-    }
-    if 1000000001 < nums[VERDICT_LINE] {
-        return false;
-    }
-    if 1000000000 < nums[LINES] {
-        return false;
-    }
-    if 5 < nums[SCALE] {
-        return false;
-    }
-    if 1 < nums[CREATOR] {
-        return false;
-    }
-    nums[DATE] <= 1
+    (nums[VERDICT] <= 14)
+        & ((nums[VERDICT_LINE] <= 1000000001)
+            & ((nums[LINES] <= 1000000000)
+                & ((nums[SCALE] <= 5) & ((nums[CREATOR] <= 1) & (nums[DATE] <= 1)))))
 }
 
 // How many names, cores and instances there are.
@@ -72,16 +60,8 @@ fn counts_ok(nums: &[u32]) -> bool
     requires { ⌜ length (now nums) ≡ 4362 ⌝ }
     ensures { λ r. ⌜ r ≡ countsOk (now (nums .entry)) ⌝ }
 {
-    if 1 < nums[STARTED] {
-        return false;
-    }
-    if 256 < nums[NAMES] {
-        return false;
-    }
-    if 64 < nums[CORES] {
-        return false;
-    }
-    nums[INSTANCES] <= 1024
+    (nums[STARTED] <= 1)
+        & ((nums[NAMES] <= 256) & ((nums[CORES] <= 64) & (nums[INSTANCES] <= 1024)))
 }
 
 // The first and the last time.
@@ -89,10 +69,7 @@ fn times_ok(ticks: &[u64]) -> bool
     requires { ⌜ length (now ticks) ≡ 1026 ⌝ }
     ensures { λ r. ⌜ r ≡ timesOk (now (ticks .entry)) ⌝ }
 {
-    if 72057594037927935 < ticks[LAST] {
-        return false;
-    }
-    ticks[FIRST] <= ticks[LAST]
+    (ticks[LAST] <= 72057594037927935) & (ticks[FIRST] <= ticks[LAST])
 }
 
 // The state of a name by its kind: a core is idle (1) or held by instance j (2 + j), a semaphore has none yet (0) or one of four, any other
@@ -118,16 +95,9 @@ fn sums_ok(ticks: &[u64], i: usize) -> bool
     requires { ⌜ (i < 256) × (length (now ticks) ≡ 1026) ⌝ }
     ensures { λ r. ⌜ r ≡ sumsOk (now (ticks .entry)) i ⌝ }
 {
-    if 0x4000_0000_0000_0000 < ticks[HELD + i] {
-        return false;
-    }
-    if 0x4000_0000_0000_0000 < ticks[IDLE + i] {
-        return false;
-    }
-    if 0x4000_0000_0000_0000 < ticks[UNKNOWN + i] {
-        return false;
-    }
-    ticks[SINCE + i] <= ticks[LAST]
+    (ticks[HELD + i] <= 0x4000_0000_0000_0000)
+        & ((ticks[IDLE + i] <= 0x4000_0000_0000_0000)
+            & ((ticks[UNKNOWN + i] <= 0x4000_0000_0000_0000) & (ticks[SINCE + i] <= ticks[LAST])))
 }
 
 // Whether the bytes of row i are a name of its length.
@@ -150,22 +120,10 @@ fn name_ok(names: &[u8], nums: &[u32], ticks: &[u64], i: usize) -> bool
     ensures { λ r. ⌜ r ≡ nameOk (now (names .entry)) (now (nums .entry)) (now (ticks .entry)) i ⌝ }
 {
     let kind = nums[KIND + i];
-    if kind < 1 {
-        return false;
-    }
-    if 5 < kind {
-        return false;
-    }
-    if 1 < nums[NUMBERED + i] {
-        return false;
-    }
-    if !mark_ok(kind, nums[MARK + i], nums[INSTANCES]) {
-        return false;
-    }
-    if !bytes_ok(names, nums, i) {
-        return false;
-    }
-    sums_ok(ticks, i)
+    let mark = mark_ok(kind, nums[MARK + i], nums[INSTANCES]);
+    let bytes = bytes_ok(names, nums, i);
+    let sums = sums_ok(ticks, i);
+    (1 <= kind) & ((kind <= 5) & ((nums[NUMBERED + i] <= 1) & (mark & (bytes & sums))))
 }
 
 // The whole row of instance j.
@@ -173,14 +131,8 @@ fn instance_ok(nums: &[u32], j: usize) -> bool
     requires { ⌜ (j < 1024) × (length (now nums) ≡ 4362) ⌝ }
     ensures { λ r. ⌜ r ≡ instanceOk (now (nums .entry)) j ⌝ }
 {
-    if nums[NAMES] <= nums[OWNER + j] {
-        return false;
-    }
     let state = nums[STATE + j];
-    if state < 1 {
-        return false;
-    }
-    state <= 8
+    (nums[OWNER + j] < nums[NAMES]) & ((1 <= state) & (state <= 8))
 }
 
 fn names_ok(names: &[u8], nums: &[u32], ticks: &[u64], n: usize) -> bool
@@ -211,26 +163,18 @@ fn instances_ok(nums: &[u32], n: usize) -> bool
     true
 }
 
-// Whether every entry is in its range.
+// Whether every entry is in its range. The counts are tested first, since they tell how many rows there are to test.
 fn in_range(names: &[u8], nums: &[u32], ticks: &[u64]) -> bool
     requires { ⌜ (length (now names) ≡ 16384) × ((length (now nums) ≡ 4362) × (length (now ticks) ≡ 1026)) ⌝ }
     ensures { λ r. ⌜ r ≡ inRange (now (names .entry)) (now (nums .entry)) (now (ticks .entry)) ⌝ }
 {
-    if !heads_ok(nums) {
-        return false;
-    }
     if !counts_ok(nums) {
         return false;
     }
-    if !times_ok(ticks) {
-        return false;
-    }
     let n = nums[NAMES] as usize;
-    if !names_ok(names, nums, ticks, n) {
-        return false;
-    }
     let m = nums[INSTANCES] as usize;
-    instances_ok(nums, m)
+    let rows = names_ok(names, nums, ticks, n) & instances_ok(nums, m);
+    heads_ok(nums) & (times_ok(ticks) & rows)
 }
 
 // 15 for tables of a wrong size, 16 for an entry out of its range, else 0.

@@ -1,58 +1,27 @@
--- `tables::range::sums_ok` meets its contract: at each exit the tests passed say what the definition's tests say.
+-- `tables::range::sums_ok` meets its contract: its tests are the definition's.
 -- Assumes nothing.
 use mathlib.Core.Path.{refl}
 use borrow.Author.Needs.{needs}
-use borrow.Author.Tests.{le-leb, lt-leb}
 use Rattle.tables.specs.Range.{sumsOk}
-use Rattle.tables.proofs.Chains.{pass, stop}
 use Rattle.tables.proofs.range.sums_ok.Statement.{statement}
 use Rattle.tables.proofs.range.sums_ok.Tie as tie
 
-returns : tie.Need-returns
-unfolding sumsOk
-returns c = stop _ (lt-leb _ _ (c .if1 .taken))
-
-returns-2 : tie.Need-returns-2
-unfolding sumsOk
-returns-2 c = pass (le-leb _ _ (c .before .before .if1 .left)) (stop _ (lt-leb _ _ (c .if2 .taken)))
-
-returns-3 : tie.Need-returns-3
-unfolding sumsOk
-returns-3 c =
-    let d2 = c .before .before in
-    let d1 = d2 .before .before in
-    pass (le-leb _ _ (d1 .if1 .left))
-    (pass (le-leb _ _ (d2 .if2 .left))
-    (stop _ (lt-leb _ _ (c .if3 .taken))))
-
-returns-4 : tie.Need-returns-4
-unfolding sumsOk
-returns-4 c =
-    let d3 = c .before .before in
-    let d2 = d3 .before .before in
-    let d1 = d2 .before .before in
-    pass (le-leb _ _ (d1 .if1 .left))
-    (pass (le-leb _ _ (d2 .if2 .left))
-    (pass (le-leb _ _ (d3 .if3 .left)) refl))
-
 pub sums-ok-spec : {M : Type 1} → statement M
+unfolding sumsOk
 sums-ok-spec =
     tie.close
     (tie.spec
     (λ c. search needs)
     (λ c. search needs)
     (λ c. search needs)
-    returns
-    (λ c. search needs)
-    (λ c. search needs)
-    (λ c. search needs)
-    returns-2
-    (λ c. search needs)
-    (λ c. search needs)
-    (λ c. search needs)
-    returns-3
     (λ c. search needs)
     (λ c. search needs)
     (λ c. search needs)
     (λ c. search needs)
-    returns-4)
+    (λ c. search needs)
+    (λ c. search needs)
+    (λ c. search needs)
+    (λ c. search needs)
+    (λ c. search needs)
+    (λ c. search needs)
+    (λ c. refl))
