@@ -4,14 +4,15 @@ use mathlib.Core.Path.{_≡_, refl, ap}
 use mathlib.Core.List.{List, [], _++_}
 use Prim.Native.Nat.{ℕ, zero, suc, _+_, _≤_, _<_}
 use native.Mathlib.Omega.{arith}
-use lib.ListN.{length, length-append}
+use lib.ListN.{length, take, drop, length-append}
 use borrow.Author.Tests.{eq-eqb, ne-eqb}
+use Rattle.text.specs.Literal.{bytes}
 use Rattle.text.specs.Number.{digitsOf}
 use Rattle.text.specs.Put.{after, put}
 use Rattle.text.proofs.Writes.{put-then}
 use Rattle.words.specs.Scale.{scaleWord}
 use Rattle.judge.specs.declared.feed.Verdict.{Verdict}
-use Rattle.run.specs.Report.{scaleText, acceptedText, refusedText, verdictText}
+use Rattle.run.specs.Report.{scaleText, scaleStart, acceptedText, refusedText, verdictText}
 
 -- ---- the time scales
 
@@ -40,6 +41,35 @@ scale-short (suc (suc (suc zero))) = omega arith
 scale-short (suc (suc (suc (suc zero)))) = omega arith
 scale-short (suc (suc (suc (suc (suc zero))))) = omega arith
 scale-short (suc (suc (suc (suc (suc (suc n)))))) = omega (arith, ap length (scale-past (suc (suc (suc (suc (suc (suc n)))))) (omega arith)))
+
+-- the words of all numbers, one after the other, and each number's part of them
+
+abbrev scaleWords : List ℕ
+scaleWords = bytes "psnsusmss"
+
+pub start-past : (n : ℕ) → 5 < n → scaleStart n ≡ 0
+unfolding scaleStart
+start-past (suc (suc (suc (suc (suc (suc n)))))) h = refl
+start-past zero h = absurd (omega arith)
+start-past (suc zero) h = absurd (omega arith)
+start-past (suc (suc zero)) h = absurd (omega arith)
+start-past (suc (suc (suc zero))) h = absurd (omega arith)
+start-past (suc (suc (suc (suc zero)))) h = absurd (omega arith)
+start-past (suc (suc (suc (suc (suc zero))))) h = absurd (omega arith)
+
+-- it is the word, and lies among them
+abbrev Part : ℕ → Type 0
+Part n = (take (length (scaleText n)) (drop (scaleStart n) scaleWords) ≡ scaleText n) × (scaleStart n + length (scaleText n) ≤ 9)
+
+pub scale-part : (n : ℕ) → Part n
+unfolding scaleText scaleWord scaleStart
+scale-part zero = (refl, omega arith)
+scale-part (suc zero) = (refl, omega arith)
+scale-part (suc (suc zero)) = (refl, omega arith)
+scale-part (suc (suc (suc zero))) = (refl, omega arith)
+scale-part (suc (suc (suc (suc zero)))) = (refl, omega arith)
+scale-part (suc (suc (suc (suc (suc zero))))) = (refl, omega arith)
+scale-part (suc (suc (suc (suc (suc (suc n)))))) = rw (scale-past (suc (suc (suc (suc (suc (suc n)))))) (omega arith)) (refl, omega arith)
 
 -- ---- the length of the line
 

@@ -4,7 +4,7 @@ use mathlib.Core.Path.{_≡_, refl, sym, ap, _∙_}
 use mathlib.Core.List.{List}
 use Prim.Native.Nat.{ℕ, zero, suc, _+_, _-_, _≤_, _<_}
 use native.Mathlib.Omega.{arith}
-use lib.ListN.{length, take, drop}
+use lib.ListN.{length, take, drop, length-drop}
 use lib.Seq.{take-all, take-length, take-add, length-take-le, drop-at}
 use borrow.Author.Tests.{eq-eqb, ne-eqb, lt-ltb, le-ltb}
 use Rattle.text.specs.Put.{written}
@@ -16,7 +16,7 @@ use Rattle.tables.specs.Range.{tableAnswer}
 use Rattle.judge.specs.declared.feed.Fed.{Fed}
 use Rattle.judge.specs.Feed.{Tables, tables, After, fedLine, allLined, AfterChunk, chunked, fedChunk}
 use Rattle.run.specs.declared.chunk.Turn.the-variants.{More, Stop}
-use Rattle.run.specs.Chunk.{turned, carriedOver, chunkTaken, lastTaken}
+use Rattle.run.specs.Chunk.{Turned, turned, carriedOver, chunkTaken, lastTaken}
 
 -- the second arm of a number that is not 0
 pub if-some : {A : Type 0} (n : ℕ) (x y : A) → (n ≡ 0 → ⊥) → ifZero n x y ≡ y
@@ -45,6 +45,26 @@ module _ (t : Tables) (l : List ℕ) (n : ℕ) where
   pub one-last : {e : ℕ} {x : After} → Front l n e → (n ≡ 0 → ⊥) → x ≡ fedLine t (take e l) → x .left ≡ lastTaken t l n
   unfolding lastTaken
   one-last f z p = rw (ne-eqb n 0 z, ← (f .front)) (ap (λ (y : After). y .left) p)
+
+-- ---- what is left of a chunk is carried over
+
+module _ (t : Tables) (l : List ℕ) (u n : ℕ) (h : u + n ≤ length l) where
+  left-length : length (take n (drop u l)) ≡ n
+  left-length = length-take-le n (drop u l) (omega (arith, length-drop u l))
+
+  abbrev stop : Tables → Turned
+  stop v = record { turn = Stop; left = v; buffer = l }
+
+  pub left-long : {y : After} → 1024 < n → y ≡ fedLine t (take ((u + n) - u) (drop u l)) →
+      record { turn = Stop; left = y .left; buffer = l } ≡ carriedOver t (take n (drop u l)) l
+  unfolding carriedOver
+  left-long k q =
+      let s : (u + n) - u ≡ n = omega arith in
+      rw (lt-ltb 1024 (length (take n (drop u l))) (omega (arith, left-length))) (ap (λ (y : After). stop (y .left)) (rw s at q))
+
+  pub left-more : {m : List ℕ} → n ≤ 1024 → m ≡ written l 0 (take n (drop u l)) → record { turn = More n; left = t; buffer = m } ≡ carriedOver t (take n (drop u l)) l
+  unfolding carriedOver
+  left-more k q = rw (le-ltb 1024 (length (take n (drop u l))) (omega (arith, left-length)), q, left-length)
 
 -- ---- what is left of a chunk
 
@@ -99,17 +119,5 @@ module _ (t : Tables) (l : List ℕ) (n : ℕ) {e : ℕ} {x : Fed} {a b d : List
     unfolding chunkTaken
     goes-on = rw (fed-as, z)
 
-    pub turn-long : {y : After} → 1024 < e - x .used → y ≡ fedLine (tables a b d) (take (e - x .used) (drop (x .used) l)) →
-        record { turn = Stop; left = y .left; buffer = l } ≡ chunkTaken t l n
-    unfolding carriedOver
-    turn-long {y} h q =
-        let r = restOf (take n l) in
-        rw (← goes-on, lt-ltb 1024 (length r) (omega (arith, used-rest)), ← rest-as, ← q)
-
-    pub turn-more : {m : List ℕ} → e - x .used ≤ 1024 → m ≡ written l 0 (take (e - x .used) (drop (x .used) l)) →
-        turned (More (e - x .used)) a b d m ≡ chunkTaken t l n
-    unfolding carriedOver
-    turn-more {m} h q =
-        let r = restOf (take n l) in
-        let k : e - x .used ≡ length r = omega (arith, used-rest) in
-        rw (← goes-on, le-ltb 1024 (length r) (omega arith), q, rest-as, k)
+    pub turn-on : {y : Turned} → y ≡ carriedOver (tables a b d) (take (e - x .used) (drop (x .used) l)) l → y ≡ chunkTaken t l n
+    turn-on q = rw (← goes-on, ← rest-as) q

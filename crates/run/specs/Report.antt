@@ -3,7 +3,7 @@ use mathlib.Core.Bool.{cond}
 use mathlib.Core.List.{List, [], _∷_, _++_}
 use Prim.Native.Nat.{ℕ}
 use lib.Dec.{eqb, leb}
-use lib.ListN.{length}
+use lib.ListN.{length, getD}
 use Rattle.text.specs.Literal.{bytes}
 use Rattle.text.specs.Number.{digitsOf}
 use Rattle.text.specs.Put.{written}
@@ -26,6 +26,10 @@ scaleText n =
     cond (eqb n 1) (scaleWord Picoseconds)
     (cond (eqb n 2) (scaleWord Nanoseconds)
     (cond (eqb n 3) (scaleWord Microseconds) (cond (eqb n 4) (scaleWord Milliseconds) (cond (eqb n 5) (scaleWord Seconds) []))))
+
+-- for the code alone: where the word of each number begins among all of them
+unfoldable pub scaleStart : ℕ → ℕ
+scaleStart n = getD (0 ∷ 0 ∷ 2 ∷ 4 ∷ 6 ∷ 8 ∷ []) n 0
 
 -- "verdict 0 line 0 scale ns span 960175", "verdict 13 line 7"; "every line ends with byte 10"
 unfoldable pub acceptedText : ℕ → ℕ → List ℕ

@@ -4,7 +4,7 @@ ghost use Prim.Native.Nat.{_+_, _≤_};
 ghost use lib.ListN.{length, take, drop};
 ghost use Rattle.text.specs.Put.{written};
 ghost use Rattle.judge.specs.Feed.{tables};
-ghost use Rattle.run.specs.Chunk.{turned, chunkTaken, lastTaken};
+ghost use Rattle.run.specs.Chunk.{turned, carriedOver, chunkTaken, lastTaken};
 use judge::feed::feed;
 use judge::feed::feed_chunk;
 
@@ -24,6 +24,27 @@ fn shift(buf: &mut [u8], at: usize, n: usize)
         buf[i] = buf[at + i];
         i += 1;
     }
+}
+
+// What is left of a chunk: it goes to the front, and where no line can be so long it is fed as one, which is refused.
+fn carry_over(
+    names: &mut [u8],
+    nums: &mut [u32],
+    ticks: &mut [u64],
+    buf: &mut [u8],
+    used: usize,
+    left: usize,
+) -> Turn
+    requires { ⌜ used + left ≤ length (now buf) ⌝ }
+    ensures { λ r. ⌜ turned r (now (names .exit)) (now (nums .exit)) (now (ticks .exit)) (now (buf .exit)) ≡ carriedOver (tables (now (names .entry)) (now (nums .entry)) (now (ticks .entry))) (take left (drop used (now (buf .entry)))) (now (buf .entry)) ⌝ }
+{
+    if 1024 < left {
+        let end = used + left;
+        feed(names, nums, ticks, &buf[used..end]);
+        return Turn::Stop;
+    }
+    shift(buf, used, left);
+    Turn::More(left)
 }
 
 // Feeds the whole lines of the first n bytes of the buffer, or of all of them where it has no n.
@@ -46,12 +67,7 @@ pub fn take_chunk(
     }
     let used = fed.used;
     let left = end - used;
-    if 1024 < left {
-        feed(names, nums, ticks, &buf[used..end]);
-        return Turn::Stop;
-    }
-    shift(buf, used, left);
-    Turn::More(left)
+    carry_over(names, nums, ticks, buf, used, left)
 }
 
 // At the end of input: what was carried over is the last line, where there is any.

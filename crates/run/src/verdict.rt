@@ -3,7 +3,7 @@ ghost use mathlib.Core.Path.{_≡_};
 ghost use Prim.Native.Nat.{_+_, _≤_};
 ghost use lib.ListN.{length};
 ghost use Rattle.text.specs.Put.{put, after};
-ghost use Rattle.run.specs.Report.{scaleText, acceptedText, refusedText, verdictText};
+ghost use Rattle.run.specs.Report.{scaleText, scaleStart, acceptedText, refusedText, verdictText};
 use judge::feed::Verdict;
 use text::put::digit_count;
 use text::put::put_bytes;
@@ -21,25 +21,27 @@ fn scale_length(scale: u32) -> usize
     2
 }
 
+// The words of the time scales 1 to 5, one after the other, and where that of each number begins.
+const SCALES: [u8; 9] = *b"psnsusmss";
+
+const STARTS: [usize; 6] = [0, 0, 2, 4, 6, 8];
+
+fn scale_start(scale: u32) -> usize
+    ensures { λ r. ⌜ r ≡ scaleStart scale ⌝ }
+{
+    if 5 < scale {
+        return 0;
+    }
+    let n = scale as usize;
+    STARTS[n]
+}
+
 fn put_scale(scale: u32, out: &mut [u8], at: usize) -> usize
     ensures { λ r. ⌜ after r (now (out .exit)) ≡ put (now (out .entry)) at (scaleText scale) ⌝ }
 {
-    if scale == 1 {
-        return put_bytes(b"ps", out, at);
-    }
-    if scale == 2 {
-        return put_bytes(b"ns", out, at);
-    }
-    if scale == 3 {
-        return put_bytes(b"us", out, at);
-    }
-    if scale == 4 {
-        return put_bytes(b"ms", out, at);
-    }
-    if scale == 5 {
-        return put_bytes(b"s", out, at);
-    }
-    put_bytes(b"", out, at)
+    let from = scale_start(scale);
+    let to = from + scale_length(scale);
+    put_bytes(&SCALES[from..to], out, at)
 }
 
 fn put_accepted(scale: u32, span: u64, out: &mut [u8], at: usize) -> usize

@@ -1,5 +1,4 @@
--- `run::chunk::take_chunk` meets its contract: a refused chunk stops the reading, a rest that is too long is fed and stops it, and any other rest is
--- moved to the front.
+-- `run::chunk::take_chunk` meets its contract: a refused chunk stops the reading, and what is left of any other is carried over.
 -- Assumes nothing.
 use mathlib.Core.Path.{_≡_, sym}
 use mathlib.Core.Logic.{⊎-elim}
@@ -9,7 +8,7 @@ use lib.ListN.{length, take}
 use lib.Seq.{length-take-le}
 use borrow.Author.Needs.{needs}
 use Rattle.walk.specs.Lines.{restOf}
-use Rattle.run.proofs.Turns.{Front, front-all, front-some, used-rest, turn-refused, turn-long, turn-more}
+use Rattle.run.proofs.Turns.{Front, front-all, front-some, used-rest, turn-refused, turn-on}
 use Rattle.run.proofs.chunk.take_chunk.Statement.{statement}
 use Rattle.run.proofs.chunk.take_chunk.Tie as tie
 
@@ -35,17 +34,9 @@ returns c =
 
 returns-2 : tie.Need-returns-2
 returns-2 c =
-    let q = c .before .before .before .before .before .before in
-    let i = q .before .before .before .before .before .before in
-    let e = i .before .before in
-    turn-long _ _ _ (front (chosen (fed e))) (fed e .feed-chunk .ensures) (e .if2 .left) (i .if3 .taken) (q .feed .ensures)
-
-returns-3 : tie.Need-returns-3
-returns-3 c =
-    let q = c .before .before in
-    let i = q .before .before in
-    let e = i .before .before in
-    turn-more _ _ _ (front (chosen (fed e))) (fed e .feed-chunk .ensures) (e .if2 .left) (i .if3 .left) (q .shift .ensures)
+    let q = c .before .before .before .before .before .before .before .before in
+    let e = q .before .before .before .before .before .before in
+    turn-on _ _ _ (front (chosen (fed e))) (fed e .feed-chunk .ensures) (e .if2 .left) (q .carry-over .ensures)
 
 pub take-chunk-spec : {M : Type 1} → statement M
 take-chunk-spec =
@@ -60,18 +51,9 @@ take-chunk-spec =
     (λ c. search needs)
     returns
     (λ c. omega (arith, used (c .before)))
-    (λ c. search needs)
-    (λ c. search needs)
-    (λ c. let e = c .before .before .before .before .before .before in omega (arith, used e, front (chosen (fed e)) .within))
-    (λ c κs. tt)
+    (λ c κs. let e = c .before .before .before .before .before in omega (arith, used e, front (chosen (fed e)) .within))
     (λ c. search needs)
     (λ c. search needs)
     (λ c. search needs)
     (λ c. search needs)
-    returns-2
-    (λ c κs. let e = c .before .before .before in omega (arith, used e, front (chosen (fed e)) .within))
-    (λ c. search needs)
-    (λ c. search needs)
-    (λ c. search needs)
-    (λ c. search needs)
-    returns-3)
+    returns-2)
