@@ -6,8 +6,7 @@ use Prim.Native.Nat.{ℕ, zero, suc, _+_, _*_, _%_, _^_, _≤_, _<_}
 use native.Mathlib.Omega.{arith}
 use lib.Dec.{eqb, ltb}
 use lib.ListN.{length, length-append}
-use Rattle.text.specs.Number.{digitsOf}
-use Rattle.text.proofs.Digits.{digits-at-most}
+use Rattle.text.proofs.Digits.{digits-short}
 use Rattle.rules.specs.Lists.{keep}
 use Rattle.rules.specs.Sheet.{Row}
 use Rattle.tables.specs.Entry.{nameCount, kindAt, lengthAt, markAt, heldAt, idleAt, unknownAt, nameAt}
@@ -25,9 +24,6 @@ use Rattle.sheet.proofs.Texts.{length-figure, length-three, length-row,
 
 abbrev entryEnd : ℕ
 entryEnd = 18446744073709551616
-
-digits-short : (n : ℕ) → n < entryEnd → length (digitsOf n) ≤ 20
-digits-short n h = digits-at-most 19 n (omega arith)
 
 either-below : (b : Bool) (x y n : ℕ) → x < n → y < n → cond b x y < n
 either-below true x y n h k = h

@@ -6,7 +6,7 @@ use Prim.Native.Nat.{_+_, _≤_}
 use native.Mathlib.Omega.{arith}
 use lib.ListN.{length}
 use borrow.Author.Needs.{needs}
-use Rattle.text.proofs.Digits.{digits-at-most}
+use Rattle.text.proofs.Digits.{digits-short}
 use Rattle.run.specs.Report.{verdictText}
 use Rattle.run.proofs.Texts.{scale-short, length-accepted, length-refused, verdict-accepted, verdict-refused}
 use Rattle.run.proofs.verdict.verdict_length.Statement.{statement}
@@ -20,7 +20,7 @@ accepted : (c : tie.After-digit-count) →
 accepted c =
     let v = c .before .before .before .before .args .v in
     let e = ap length (verdict-accepted v (c .before .before .if1 .taken)) ∙ length-accepted (v .scale) (v .span) in
-    (omega arith, omega (arith, scale-short (v .scale), digits-at-most 19 (v .span) (omega arith)))
+    (omega arith, omega (arith, scale-short (v .scale), digits-short (v .span) (omega arith)))
 
 refused : (c : tie.After-digit-count3) →
     let s = c .before .before .before .before .before .before in
@@ -29,7 +29,7 @@ refused : (c : tie.After-digit-count3) →
 refused c =
     let v = c .before .before .before .before .before .before .args .v in
     let e = ap length (verdict-refused v (c .before .before .before .before .if1 .left)) ∙ length-refused (v .number) (v .line) in
-    (omega arith, omega (arith, digits-at-most 19 (v .number) (omega arith), digits-at-most 19 (v .line) (omega arith)))
+    (omega arith, omega (arith, digits-short (v .number) (omega arith), digits-short (v .line) (omega arith)))
 
 pub verdict-length-spec : {M : Type 1} → statement M
 verdict-length-spec =
