@@ -10,6 +10,7 @@ use lib.ListN.{length, take, drop, length-append, length-drop}
 use borrow.Author.Tests.{eq-eqb, ne-eqb, le-leb, lt-leb, leb-true, leb-false}
 use Rattle.text.specs.Put.{written, Put, after, put}
 use Rattle.text.proofs.Writes.{length-written, put-fits}
+use Rattle.rules.proofs.Tests.{if-some}
 use Rattle.tables.specs.Entry.{verdictNumber, lineCount, scaleEntry}
 use Rattle.tables.specs.Range.{tableAnswer}
 use Rattle.tables.proofs.Valid.{valid, three-answers}
@@ -20,7 +21,6 @@ use Rattle.sheet.specs.declared.sheet.Printed.the-variants.{Done, NotPrinted}
 use Rattle.sheet.specs.Text.{sheetText}
 use Rattle.sheet.specs.Sheet.{Sheeted, sheeted, sheetIn, sheetWritten}
 use Rattle.run.specs.Report.{verdictText, reportText, reportWritten}
-use Rattle.run.proofs.Turns.{if-some}
 use Rattle.run.proofs.Behind.{backed, part-all, back-same, back-written, front-written}
 
 module _ (names nums ticks : List ℕ) where

@@ -1,6 +1,6 @@
 -- Laws of a turn of reading: which bytes of the buffer are the chunk, that what its lines leave of it is its rest, and what each way out of the turn
 -- leaves.
-use mathlib.Core.Path.{_≡_, refl, sym, ap, _∙_}
+use mathlib.Core.Path.{_≡_, sym, ap, _∙_}
 use mathlib.Core.List.{List}
 use Prim.Native.Nat.{ℕ, zero, suc, _+_, _-_, _≤_, _<_}
 use native.Mathlib.Omega.{arith}
@@ -11,17 +11,13 @@ use Rattle.text.specs.Put.{written}
 use Rattle.walk.specs.Lines.{wholeLines, restOf, usedUp}
 use Rattle.walk.proofs.Chunks.{size, rest-drop}
 use Rattle.rules.specs.Lists.{ifZero}
+use Rattle.rules.proofs.Tests.{if-some}
 use Rattle.tables.specs.Entry.{verdictNumber}
 use Rattle.tables.specs.Range.{tableAnswer}
 use Rattle.judge.specs.declared.feed.Fed.{Fed}
 use Rattle.judge.specs.Feed.{Tables, tables, After, fedLine, allLined, AfterChunk, chunked, fedChunk}
 use Rattle.run.specs.declared.chunk.Turn.the-variants.{More, Stop}
 use Rattle.run.specs.Chunk.{Turned, turned, carriedOver, chunkTaken, lastTaken}
-
--- the second arm of a number that is not 0
-pub if-some : {A : Type 0} (n : ℕ) (x y : A) → (n ≡ 0 → ⊥) → ifZero n x y ≡ y
-if-some zero x y h = absurd (h refl)
-if-some (suc n) x y h = refl
 
 -- ---- the first n bytes of the buffer, or all where it has no n
 

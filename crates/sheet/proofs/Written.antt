@@ -1,24 +1,20 @@
 -- What writing a sheet leaves, by the answer on the tables and by the room in the output; and that each section has room where the sheet has.
 use mathlib.Core.Path.{_≡_, refl, ap, _∙_}
 use mathlib.Core.List.{List, [], _∷_, _++_}
-use Prim.Native.Nat.{ℕ, zero, suc, _+_, _≤_, _<_}
+use Prim.Native.Nat.{ℕ, _+_, _≤_, _<_}
 use native.Mathlib.Omega.{arith}
 use lib.ListN.{length, length-append}
 use borrow.Author.Tests.{le-leb, lt-leb}
 use Rattle.text.specs.Put.{written, Put, after, put}
 use Rattle.text.proofs.Writes.{put-fits, put-two}
 use Rattle.line.proofs.Texts.{Room}
-use Rattle.rules.specs.Lists.{ifZero}
+use Rattle.rules.proofs.Tests.{if-some}
 use Rattle.tables.specs.Range.{tableAnswer}
 use Rattle.sheet.specs.declared.section.Section.{Section}
 use Rattle.sheet.specs.declared.section.Section.the-variants.{Cores, Processes}
 use Rattle.sheet.specs.declared.sheet.Printed.the-variants.{Done, NotPrinted}
 use Rattle.sheet.specs.Text.{sectionText, sheetText}
 use Rattle.sheet.specs.Sheet.{rowsIn, sheetIn, title, sheeted, sheetWritten}
-
-if-some : {A : Type 0} (n : ℕ) (x y : A) → (n ≡ 0 → ⊥) → ifZero n x y ≡ y
-if-some zero x y h = absurd (h refl)
-if-some (suc n) x y h = refl
 
 module _ (names nums ticks : List ℕ) where
   abbrev pub sectionIn : Section → List ℕ
