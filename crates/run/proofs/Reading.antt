@@ -1,29 +1,28 @@
 -- However a trace is cut into reads, the tables at the end of input are those after all its lines, and what is printed is the text of these lines; where
 -- reading stops before the end, so it is for every trace that begins with what was read.
 use mathlib.Core.Path.{_≡_, refl, sym, ap, _∙_}
-use mathlib.Core.Bool.{Bool, true, false, not, _&&_, cond, or-true}
+use mathlib.Core.Bool.{Bool, true, false, cond, or-true}
 use mathlib.Core.Logic.{⊎-elim}
 use mathlib.Core.List.{List, [], _∷_, _++_, append-nil, append-assoc}
-use Prim.Native.Nat.{ℕ, zero, suc, _+_, _-_, _≤_, _<_}
+use Prim.Native.Nat.{ℕ, zero, suc, _+_, _≤_, _<_}
 use native.Mathlib.Omega.{arith}
-use lib.Dec.{eqb, leb, ltb}
-use lib.ListN.{length, getD, take, drop, length-append}
+use lib.Dec.{leb, ltb}
+use lib.ListN.{length, take, drop, length-append}
 use lib.Seq.{length-take-le, take-length}
 use borrow.Author.Tests.{ne-eqb, lt-ltb, ltb-true, ltb-false}
-use Rattle.text.specs.Bytes.{count, toByte}
+use Rattle.text.specs.Bytes.{toByte}
 use Rattle.text.specs.Put.{written}
 use Rattle.text.specs.Pieces.{pieces, ended, unended}
 use Rattle.text.proofs.Bools.{lt-or-ge}
-use Rattle.text.proofs.Pieces.{without}
+use Rattle.text.proofs.Pieces.{clean-before}
 use Rattle.walk.specs.Lines.{lineText, wholeLines, usedUp, restOf, lastLine, linesOf}
-use Rattle.walk.proofs.Cuts.{cut-whole, none-whole, none-rest}
+use Rattle.walk.proofs.Cuts.{text-nearly, cut-whole, none-whole, none-rest}
 use Rattle.walk.proofs.Chunks.{whole-halves, rest-halves, lines-halves, rest-clean}
 use Rattle.line.specs.declared.reading.Reading.the-variants.{Refused}
 use Rattle.line.specs.Reading.{readLine}
 use Rattle.line.specs.Condition.{refuses1}
 use Rattle.rules.specs.Lists.{ifZero}
 use Rattle.rules.specs.Trace.{tooMuch, placeTests, answerInPlace, answerAt}
-use Rattle.rules.proofs.Tests.{clash}
 use Rattle.tables.specs.Entry.{verdictNumber}
 use Rattle.judge.specs.Feed.{Tables, After, placedLine, lined, allLined, fedLine, fedChunk, freshTables}
 use Rattle.judge.proofs.Feeds.{allLined-append, lined-fed, lined-chunk}
@@ -101,25 +100,6 @@ long-settles ks ls l m p q =
 
 -- ---- a rest of more than 1,024 bytes
 
--- bytes without a byte b stand before the first
-clean-before : (b : ℕ) (s t : List ℕ) → without b s ≡ true → length s ≤ toByte b (s ++ t)
-unfolding without toByte
-clean-before b [] t e = omega arith
-clean-before b (x ∷ s) t e = step (eqb x b) (without b s) e (clean-before b s t)
-  where
-    step : (d c : Bool) → not d && c ≡ true → (c ≡ true → length s ≤ toByte b (s ++ t)) → suc (length s) ≤ count d (toByte b (s ++ t))
-    step true c e f = absurd (clash (not true && c) e refl)
-    step false c e f = let h = f e in omega arith
-
--- the text of a piece lacks at most one byte of it
-nearly : (p : List ℕ) → length p ≤ length (lineText p) + 1
-unfolding lineText
-nearly p = by-test (eqb (getD p (length p - 1) 0) 13)
-  where
-    by-test : (b : Bool) → length p ≤ length (cond b (take (length p - 1) p) p) + 1
-    by-test true = omega (arith, length-take-le (length p - 1) p (omega arith))
-    by-test false = omega arith
-
 one-last : (x : List ℕ) → 0 < length x → lastLine x ≡ x ∷ []
 one-last [] h = absurd (omega (arith, h))
 one-last (b ∷ x) h = refl
@@ -141,7 +121,7 @@ begins-long s more z =
       line = lineText (take (toByte 10 x) x);
       later = wholeLines (drop (suc (toByte 10 x)) x) ++ lastLine (restOf x);
       splits = rw (cut-whole x h);
-      long = omega (arith, nearly (take (toByte 10 x) x), length-take-le (toByte 10 x) x (omega arith));
+      long = omega (arith, text-nearly (take (toByte 10 x) x), length-take-le (toByte 10 x) x (omega arith));
     })
     (λ h. record {
       line = x;

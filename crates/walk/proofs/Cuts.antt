@@ -34,6 +34,15 @@ pub text-front : (p : List ℕ) → (length (lineText p) ≤ length p) × (lineT
 unfolding lineText
 text-front p = front-step (eqb (getD p (length p - 1) 0) 13) p
 
+-- and lacks at most one byte of it
+pub text-nearly : (p : List ℕ) → length p ≤ length (lineText p) + 1
+unfolding lineText
+text-nearly p = by-test (eqb (getD p (length p - 1) 0) 13)
+  where
+    by-test : (b : Bool) → length p ≤ length (cond b (take (length p - 1) p) p) + 1
+    by-test true = omega (arith, length-take-le (length p - 1) p (omega arith))
+    by-test false = omega arith
+
 -- ---- with a byte 10
 
 module _ (s : List ℕ) (h : toByte 10 s < length s) where
