@@ -13,7 +13,7 @@ use Rattle.text.specs.Number.{digitsOf}
 use Rattle.text.specs.Name.{isName}
 use Rattle.text.specs.Put.{written, Put, after, put}
 use Rattle.text.proofs.Bools.{and-l, and-r}
-use Rattle.text.proofs.Digits.{digits-at-most}
+use Rattle.text.proofs.Digits.{digits-short}
 use Rattle.text.proofs.Names.{name-length}
 use Rattle.text.proofs.Writes.{put-fits, put-length}
 use Rattle.words.specs.declared.kind.Kind.{Kind}
@@ -52,9 +52,6 @@ unfolding written
 put-none l at h = rw add-zero at (put-fits l at [] h)
 
 -- ---- how long the numbers and words of a line are at most
-
-digits-short : (x : ℕ) → x < 18446744073709551616 → length (digitsOf x) ≤ 20
-digits-short x h = digits-at-most 19 x (omega arith)
 
 kind-short : (k : Kind) → length (kindWord k) ≤ 5
 unfolding kindWord
