@@ -18,8 +18,8 @@ use Rattle.line.specs.declared.reading.Reading.the-variants.{Version, Comment, 
 use Rattle.line.specs.Part.{fieldOf}
 use Rattle.line.specs.Reading.{readLine}
 use Rattle.rules.specs.declared.place.Place.{Place}
-use Rattle.rules.specs.Lists.{ifZero}
 use Rattle.rules.specs.Trace.{scaleNumber, placed}
+use Rattle.rules.proofs.Tests.{if-some}
 use Rattle.tables.specs.Entry.{namesSize, numsSize, ticksSize, verdictNumber}
 use Rattle.tables.specs.Range.{isSized, tableAnswer}
 use Rattle.tables.specs.Fresh.{Cleared, cleared, clearedOf}
@@ -136,12 +136,6 @@ lines-alike {t} ls e = rw e (allLined-alike t ls)
 pub same-tables : {a b d x y z : List ℕ} → a ≡ x → b ≡ y → d ≡ z → tables a b d ≡ tables x y z
 same-tables p q r = rw (p, q, r)
 
--- ---- the two arms of a number
-
-if-some : {A : Type 0} (n : ℕ) (x y : A) → (n ≡ 0 → ⊥) → y ≡ ifZero n x y
-if-some zero x y h = absurd (h refl)
-if-some (suc n) x y h = refl
-
 -- ---- an event line
 
 module _ (t : Tables) where
@@ -174,7 +168,7 @@ module _ (t : Tables) (l : List ℕ) where
 
   pub refused-placed : {r n : ℕ} {m : List ℕ} → (n ≡ 0 → ⊥) → r ≡ n → m ≡ remembered (t .nums) n → after r (t .names) m (t .ticks) ≡ placedLine n t l
   unfolding placedLine
-  refused-placed {r} {n} h pr pm = rw (pr, pm) (if-some n (readLined (readLine l) t l) (after n (t .names) (remembered (t .nums) n) (t .ticks)) h)
+  refused-placed {r} {n} h pr pm = rw (pr, pm) (sym (if-some n (readLined (readLine l) t l) (after n (t .names) (remembered (t .nums) n) (t .ticks)) h))
 
   pub read-placed : {x : After} {r : Reading} {n : ℕ} → n ≡ 0 → r ≡ readLine l → x ≡ readLined r t l → x ≡ placedLine n t l
   unfolding placedLine
@@ -193,7 +187,7 @@ module _ (t : Tables) where
 
   pub refused-fed : {r : ℕ} (l : List ℕ) → r ≡ answer → (r ≡ 0 → ⊥) → after r (t .names) (t .nums) (t .ticks) ≡ fedLine t l
   unfolding fedLine
-  refused-fed {r} l e h = rw (← e) (if-some r (lined t l) (after r (t .names) (t .nums) (t .ticks)) h)
+  refused-fed {r} l e h = rw (← e) (sym (if-some r (lined t l) (after r (t .names) (t .nums) (t .ticks)) h))
 
   pub lined-fed : {r : ℕ} {x : After} (l : List ℕ) → r ≡ answer → r ≡ 0 → x ≡ lined t l → x ≡ fedLine t l
   unfolding fedLine
@@ -205,8 +199,9 @@ module _ (t : Tables) where
   refused-chunk {r} s e h =
       let u = allLined t (wholeLines s) in
       rw (← e)
+      (sym
       (if-some r (chunked (record { answer = verdictNumber (u .nums); used = usedUp s }) (u .names) (u .nums) (u .ticks))
-      (chunked (record { answer = r; used = 0 }) (t .names) (t .nums) (t .ticks)) h)
+      (chunked (record { answer = r; used = 0 }) (t .names) (t .nums) (t .ticks)) h))
 
   pub lined-chunk : {r n : ℕ} {u : Tables} (s : List ℕ) → r ≡ answer → r ≡ 0 → n ≡ usedUp s → u ≡ allLined t (wholeLines s)
       → chunked (record { answer = verdictNumber (u .nums); used = n }) (u .names) (u .nums) (u .ticks) ≡ fedChunk t s
@@ -215,7 +210,7 @@ module _ (t : Tables) where
 
   pub unsized-verdict : {r : ℕ} → r ≡ answer → (r ≡ 0 → ⊥) → verdict r 0 0 0 ≡ verdictOf t
   unfolding verdictOf
-  unsized-verdict {r} e h = rw (← e) (if-some r (verdictIn (t .nums) (t .ticks)) (verdict r 0 0 0) h)
+  unsized-verdict {r} e h = rw (← e) (sym (if-some r (verdictIn (t .nums) (t .ticks)) (verdict r 0 0 0) h))
 
   pub now-verdict : {r : ℕ} {v : Verdict} → r ≡ answer → r ≡ 0 → v ≡ verdictIn (t .nums) (t .ticks) → v ≡ verdictOf t
   unfolding verdictOf
