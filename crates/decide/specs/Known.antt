@@ -6,8 +6,8 @@ use Prim.Native.Nat.{ℕ, suc, _+_}
 use lib.Dec.{eqb, leb, ltb}
 use lib.ListN.{getD}
 use Rattle.text.specs.Bytes.{sameBytes}
-use Rattle.rules.specs.Words.{core, semaphore, increment, decrement, free, unlock, lock, lock-used, full, overfull, unlock-full, used}
-use Rattle.rules.specs.Lists.{member, oneIf}
+use Rattle.rules.specs.Words.{core, semaphore, increment, decrement, lock-used, full, overfull, unlock-full, used}
+use Rattle.rules.specs.Lists.{member}
 use Rattle.rules.specs.Event.{Event, Instance, instanceOf}
 use Rattle.rules.specs.Core.{Core, unknown, idle, held}
 use Rattle.rules.specs.Rows.{opened}

@@ -31,7 +31,7 @@ use Rattle.decide.specs.declared.sight.Sight.{Sight}
 use Rattle.decide.specs.Happening.{happeningOf, asEvent}
 use Rattle.decide.specs.Decide.{planOf, decided}
 use Rattle.decide.proofs.Decided.{decided-sized}
-use Rattle.store.specs.Store.{takenNames, takenNums, takenTicks, stored}
+use Rattle.store.specs.Store.{stored}
 use Rattle.store.proofs.Stores.{stored-sized, length-takenNames, length-takenNums, length-takenTicks}
 use Rattle.judge.specs.declared.feed.Verdict.{Verdict}
 use Rattle.judge.specs.Feed.{Tables, tables, After, after, placeIn, remembered, counted, carried, eventLined, readLined, placedLine, lined, fedLine, allLined, chunked, fedChunk, verdict, verdictIn, verdictOf, freshTables, AfterTrace, traced, judgedTrace}

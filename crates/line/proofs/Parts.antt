@@ -14,12 +14,10 @@ use lib.Seq.{take-all, take-nil, drop-drop, getD-drop}
 use borrow.Author.Tests.{eq-eqb, ne-eqb, lt-ltb, le-ltb}
 use Rattle.text.specs.Bytes.{toByte, findFrom}
 use Rattle.text.specs.Name.{isNameByte, allNameBytes, isName}
-use Rattle.text.specs.Number.{digitsOf}
 use Rattle.text.proofs.Bools.{and-l, and-r, lt-or-ge}
 use Rattle.text.proofs.Finds.{find-ge, find-le}
 use Rattle.text.proofs.Pieces.{pieces-cut, pieces-one, pieces-some, pieces-join, pieces-last, join-pieces, piece-clean, without, joinedBy}
-use Rattle.text.proofs.Digits.{digits-all}
-use Rattle.text.proofs.Names.{name-byte, name-bytes, digits-names}
+use Rattle.text.proofs.Names.{name-byte, name-bytes}
 use Rattle.line.specs.Part.{partsOf, fieldOf, partFrom, commaAt}
 
 -- ---- the first part, and the parts after it
@@ -220,6 +218,3 @@ names-clean (x ∷ s) e = rw (ne-eqb x 44 (name-byte x (and-l (isNameByte x) (al
 
 pub name-clean : (s : List ℕ) → isName s ≡ true → noComma s ≡ true
 name-clean s e = names-clean s (name-bytes s e)
-
-pub digits-clean : (x : ℕ) → noComma (digitsOf x) ≡ true
-digits-clean x = names-clean (digitsOf x) (digits-names (digitsOf x) (digits-all x))

@@ -1,5 +1,5 @@
 -- Creation dates: "YYYY-MM-DDTHH:MM:SSZ, a real Gregorian date (years 0000 to 9999), hour 0 to 23, minute and second 0 to 59".
-use Prim.Native.Nat.{ℕ, suc, _+_, _-_, _*_, _%_}
+use Prim.Native.Nat.{ℕ, _+_, _-_, _*_, _%_}
 use mathlib.Core.Bool.{Bool, true, false, not, _&&_, _||_, cond}
 use mathlib.Core.List.{List, [], _∷_}
 use lib.Dec.{eqb, leb}

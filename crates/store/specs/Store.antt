@@ -1,6 +1,6 @@
 -- What taking an event line stores. Rows past the end of a column are not stored, and sums are taken modulo the width of their entries: no
 -- table that a trace leads to has such rows or sums, and none of any other can be written past its end.
-use mathlib.Core.Bool.{Bool, true, false, not, _&&_, _||_, cond}
+use mathlib.Core.Bool.{_&&_, cond}
 use mathlib.Core.List.{List}
 use Prim.Native.Nat.{ℕ, _+_, _-_, _*_, _%_, _^_}
 use lib.Dec.{eqb, ltb}

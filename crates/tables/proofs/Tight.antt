@@ -1,7 +1,7 @@
 -- How tight the contracts of the lent tables are: no second answer, and wrong answers that they shut out.
 use mathlib.Core.Path.{_≡_, refl}
 use mathlib.Core.Bool.{Bool, true, not, _&&_}
-use mathlib.Core.List.{List, [], _∷_}
+use mathlib.Core.List.{List, []}
 use Prim.Native.Nat.{ℕ}
 use lib.Dec.{eqb}
 use lib.ListN.{length, getD, replicate, length-replicate}

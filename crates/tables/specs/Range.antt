@@ -1,7 +1,7 @@
 -- 15: "lent output or table of the wrong size". 16: "table holding an index, state, kind, count, name or time outside its range, a first time
 -- above the last, or a tick sum above 2^62".
-use mathlib.Core.Bool.{Bool, true, false, _&&_, cond}
-use mathlib.Core.List.{List, [], _∷_}
+use mathlib.Core.Bool.{Bool, true, _&&_, cond}
+use mathlib.Core.List.{List}
 use Prim.Native.Nat.{ℕ, zero, suc, _+_}
 use lib.Dec.{eqb, leb, ltb}
 use lib.ListN.{length}

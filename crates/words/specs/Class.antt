@@ -1,7 +1,7 @@
 -- For the code alone: the classes into which it sorts the 38 events. The rules themselves are stated by lists of events (Action, Rule), and
 -- one computed test shows that both say the same.
 use Prim.Native.Nat.{ℕ}
-use mathlib.Core.Bool.{Bool, true, false, _&&_, _||_}
+use mathlib.Core.Bool.{Bool, _&&_, _||_}
 use mathlib.Core.List.{List, [], _∷_}
 use lib.Dec.{eqb, leb}
 use lib.ListN.{getD}

@@ -1,7 +1,6 @@
 -- `cases::main` is safe. The lengths come from laws: Rattle itself would count the million elements of the input one by one.
 use mathlib.Core.Path.{sym}
 use Prim.Native.Nat.{ℕ}
-use borrow.Author.Needs.{needs}
 use lib.ListN.{length-replicate}
 use Rattle.cases.proofs.main.Statement.{statement}
 use Rattle.cases.proofs.main.Tie as tie

@@ -1,5 +1,4 @@
 -- `lines::say_lines` is safe and ends: the next line begins after the byte 10 that was found.
-use mathlib.Core.Path.{_≡_}
 use Prim.Native.Nat.{_+_, _-_, _≤_}
 use native.Mathlib.Omega.{arith}
 use lib.ListN.{length}

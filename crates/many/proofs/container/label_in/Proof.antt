@@ -1,5 +1,4 @@
 -- `many::container::label_in` is safe: the blank that is looked for from index 6 on is not before it.
-use mathlib.Core.Path.{_≡_}
 use Prim.Native.Nat.{_≤_}
 use native.Mathlib.Omega.{arith}
 use borrow.Author.Needs.{needs}

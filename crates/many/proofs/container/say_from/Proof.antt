@@ -1,5 +1,4 @@
 -- `many::container::say_from` is safe, and goes on: a header does not end before it begins.
-use mathlib.Core.Path.{_≡_}
 use Prim.Native.Nat.{_≤_}
 use native.Mathlib.Omega.{arith}
 use borrow.Author.Needs.{needs}

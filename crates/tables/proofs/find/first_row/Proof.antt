@@ -1,9 +1,8 @@
 -- `tables::find::first_row` meets its contract. The invariant: the first row that holds the name is the first such row from `from` on.
 -- Assumes nothing.
-use mathlib.Core.Path.{_≡_, refl, sym, _∙_}
+use mathlib.Core.Path.{_≡_, sym, _∙_}
 use Prim.Native.Nat.{_-_}
 use native.Mathlib.Nat.{sub-zero}
-use native.Mathlib.Omega.{arith}
 use borrow.Author.Needs.{needs}
 use Rattle.tables.specs.Find.{rowIs, firstFrom}
 use Rattle.tables.proofs.Found.{first-hit, first-miss, first-end}
