@@ -30,7 +30,7 @@ use Rattle.agree.specs.Shown.{Shown, OtherTicks, openTicks, openCharge}
 use Rattle.agree.proofs.TickEntries.{Sums, sums, sumsAt, targetSettled}
 use Rattle.agree.proofs.Turns.{Turn, first, took, gave, kept, turn, held-core, holder-named}
 use Rattle.agree.proofs.TickRows.{ticksBefore, sinceSettled, ticksAfter}
-use Rattle.agree.proofs.TickRows.{process-tracked, giving-on-core, accepted-next, name-kept, source-first, source-settled, other-next}
+use Rattle.agree.proofs.TickRows.{core-tracked, giving-on-core, accepted-next, name-kept, source-first, source-settled, other-next}
 use Rattle.agree.proofs.OpenTicks.{absent-unknown, absent-before, not-target, until-event, unsettled, anew}
 
 sum-times : {A : Type 0} (k : ℕ) (g : A → ℕ) (xs : List A) → sumOver (λ x. k * g x) xs ≡ k * sumOver g xs
@@ -241,7 +241,7 @@ module _ (h : List Event) (a : Accepted h) (t : Tables) (s : Shown h t) (e : Eve
       by-tests true q true true r l = with-held (omega arith)
       by-tests true q true false r l = with-held (omega arith)
       by-tests true q false y r l = with-held (omega arith)
-      by-tests false q x true r l = absurd (clash (isTracked (e .kind)) (process-tracked e (giving-on-core e r)) q)
+      by-tests false q x true r l = absurd (clash (isTracked (e .kind)) (core-tracked e (giving-on-core e r)) q)
       by-tests false q x false r l = with-held (omega arith)
 
   pub charge-next : Met e → any (sameBytes p) (names (e ∷ h)) ≡ true → (kindOf p (e ∷ h) ≡ some core → ⊥) →

@@ -14,7 +14,7 @@ use Rattle.rules.specs.History.{hasInstances, activates}
 use Rattle.rules.proofs.Tests.{both}
 use Rattle.tables.specs.Entry.{numsSize, lineCount, nameCount, coreCount, instanceCount}
 use Rattle.tables.specs.Entry.{kindAt, lengthAt, markAt, numberAt, numberedAt, ownerAt, instanceAt, stateAt}
-use Rattle.tables.proofs.Stores.{same, other}
+use Rattle.tables.proofs.Stores.{same, other, entry}
 use Rattle.decide.specs.declared.happening.Happening.{Happening}
 use Rattle.decide.specs.declared.sight.Sight.{Sight}
 use Rattle.decide.specs.Known.{newCore, newName}
@@ -25,11 +25,7 @@ use Rattle.store.proofs.Stores.{length-storeRow, length-storeMark, length-store
 
 -- a single entry, after a store to a single entry
 single : (l : List ℕ) (i j v : ℕ) → ltb i numsSize ≡ true → length l ≡ numsSize → getD (set l i v) j 0 ≡ cond (eqb i j) v (getD l j 0)
-single l i j v h z = by-test (eqb i j) refl
-  where
-    by-test : (b : Bool) → eqb i j ≡ b → getD (set l i v) j 0 ≡ cond b v (getD l j 0)
-    by-test true t = rw (← eqb-true i j t) (same l i v (omega (arith, ltb-true i numsSize h)))
-    by-test false t = other l i j v (eqb-false i j t)
+single l i j v h z = entry l i j v (omega (arith, ltb-true i numsSize h))
 
 -- two columns of n rows in nums, the same or apart
 abbrev apart : ℕ → ℕ → ℕ → Bool

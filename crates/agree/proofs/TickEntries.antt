@@ -1,6 +1,6 @@
 -- What each entry of ticks is after an event line is taken, for any tables of the right size: the two times, and the four sums of each row. The
 -- rows of the line's core and target are stored to, every other row is kept.
-use mathlib.Core.Path.{_≡_, refl, sym, ap, subst, _∙_}
+use mathlib.Core.Path.{_≡_, refl, sym, ap, _∙_}
 use mathlib.Core.Bool.{Bool, true, false, not, _&&_, cond}
 use mathlib.Core.List.{List}
 use Prim.Native.Nat.{ℕ, _+_, _-_, _*_, _%_, _^_, _<_}
@@ -11,19 +11,11 @@ use borrow.Author.Tests.{eqb-true, eqb-false, eq-eqb, ne-eqb, lt-ltb}
 use Rattle.tables.specs.declared.find.Found.{Found}
 use Rattle.tables.specs.declared.find.Found.the-variants.{At, Nothing}
 use Rattle.tables.specs.Entry.{ticksSize, startedEntry, nameCount, firstTime, lastTime, heldAt, idleAt, unknownAt, sinceAt}
-use Rattle.tables.proofs.Stores.{same, other}
+use Rattle.tables.proofs.Stores.{same, other, entry}
 use Rattle.decide.specs.declared.sight.Sight.{Sight}
 use Rattle.decide.specs.Known.{oneNew, newCore, newName}
 use Rattle.store.specs.Store.{rowOr, coreRow, targetRow, storeSums, settled, withTimes, withSums, takenTicks}
 use Rattle.store.proofs.Stores.{length-storeSums, length-withSums, length-settled}
-
--- an entry after a store
-entry : (l : List ℕ) (i j v : ℕ) → i < length l → getD (set l i v) j 0 ≡ cond (eqb i j) v (getD l j 0)
-entry l i j v h = by-test (eqb i j) refl
-  where
-    by-test : (b : Bool) → eqb i j ≡ b → getD (set l i v) j 0 ≡ cond b v (getD l j 0)
-    by-test true q = subst (λ (k : ℕ). getD (set l i v) k 0 ≡ v) (eqb-true i j q) (same l i v h)
-    by-test false q = other l i j v (eqb-false i j q)
 
 alike : {A : Type 0} (b : Bool) (x : A) → cond b x x ≡ x
 alike true x = refl

@@ -14,13 +14,13 @@ use Rattle.rules.specs.Lists.{any, oneIf}
 use Rattle.rules.specs.Words.{core}
 use Rattle.rules.specs.Event.{Event}
 use Rattle.rules.specs.Core.{onCore, on}
-use Rattle.rules.specs.History.{hasInstances, isTracked, names, kindOf}
+use Rattle.rules.specs.History.{isTracked, names, kindOf}
 use Rattle.rules.specs.Refusals.{answerTo, rules}
 use Rattle.rules.specs.Verdict.{Accepted}
 use Rattle.rules.proofs.Tests.{both, and-true, clash}
 use Rattle.rules.proofs.Answers.{Passed, all-fit}
 use Rattle.rules.proofs.CoreWords.{on-process}
-use Rattle.rules.proofs.Tracked.{two-names, source-kind}
+use Rattle.rules.proofs.Tracked.{two-names, source-kind, process-tracked}
 use Rattle.tables.specs.Entry.{lastTime, sinceAt}
 use Rattle.decide.specs.Known.{newCore, newName}
 use Rattle.decide.specs.Sight.{coreClass}
@@ -49,9 +49,8 @@ sinceSettled h e ticks = cond (any (sameBytes (e .source)) (names h)) (e .time -
 abbrev pub ticksAfter : List Event → Tables → Event → List ℕ
 ticksAfter h t e = takenTicks (t .ticks) (t .nums) (sightIn h e) (e .kind) (e .time)
 
-pub process-tracked : (e : Event) → onCore e ≡ true → isTracked (e .kind) ≡ true
-unfolding isTracked hasInstances
-process-tracked e o = rw (on-process e o)
+pub core-tracked : (e : Event) → onCore e ≡ true → isTracked (e .kind) ≡ true
+core-tracked e o = process-tracked (e .kind) (on-process e o)
 
 pub giving-on-core : (e : Event) → eqb (coreClass (e .kind) (e .word)) 2 ≡ true → onCore e ≡ true
 giving-on-core e q = sym (class-on e) ∙ rw (eqb-true (coreClass (e .kind) (e .word)) 2 q)
@@ -85,9 +84,9 @@ module _ (h : List Event) (a : Accepted h) (t : Tables) (s : Shown h t) (e : Eve
   rows : Rows (t .nums) (sightIn h e) (e .kind)
   rows = record {
     core = λ q. let o = classed q in rw (core-row h t s e (f .kinds) o) (row-small (e .source) (source-named h e o));
-    target = λ q. target-small (process-tracked e (classed q));
+    target = λ q. target-small (core-tracked e (classed q));
     apart = λ q p. let o = classed q in
-        let w = process-tracked e o in
+        let w = core-tracked e o in
         let same = place-one sameBytes same-eq same-refl (e .source) (e .target) (names (e ∷ h)) (source-named h e o) (target-named h e w)
         (sym (core-row h t s e (f .kinds) o) ∙ p ∙ target-row h t s e (f .kinds) w) in
         clash (sameBytes (e .source) (e .target)) (eq-same (e .source) (e .target) same) (two-names h e (f .kinds) o);
@@ -114,7 +113,7 @@ module _ (h : List Event) (a : Accepted h) (t : Tables) (s : Shown h t) (e : Eve
       sumsAt (ticksAfter h t e) (rowOf (e ∷ h) n) ≡ sumsAt (t .ticks) (rowOf h n)
   name-kept n q o w =
       row-kept (t .ticks) (t .nums) (s .ticks-size) (sightIn h e) (e .kind) (e .time) rows (rowOf (e ∷ h) n) (row-small n (name-stays h e n q))
-      (λ c. (not-source (classed c), not-target (process-tracked e (classed c))))
+      (λ c. (not-source (classed c), not-target (core-tracked e (classed c))))
       (λ c. not-target (tracked-new c (newTarget h e) refl))
       ∙ ap (sumsAt (t .ticks)) (row-stays h e (f .kinds) n q)
     where

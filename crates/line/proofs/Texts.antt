@@ -8,7 +8,7 @@ use native.Mathlib.Nat.{suc-ne-zero, add-zero}
 use native.Mathlib.Omega.{arith}
 use lib.Dec.{eqb, leb}
 use lib.ListN.{length, length-append}
-use borrow.Author.Tests.{leb-true, le-leb, lt-leb, ne-eqb}
+use borrow.Author.Tests.{le-leb, lt-leb, ne-eqb}
 use Rattle.text.specs.Number.{digitsOf}
 use Rattle.text.specs.Name.{isName}
 use Rattle.text.specs.Put.{written, Put, after, put}
@@ -16,12 +16,9 @@ use Rattle.text.proofs.Bools.{and-l, and-r}
 use Rattle.text.proofs.Digits.{digits-short}
 use Rattle.text.proofs.Names.{name-length}
 use Rattle.text.proofs.Writes.{put-fits, put-length}
-use Rattle.words.specs.declared.kind.Kind.{Kind}
-use Rattle.words.specs.declared.kind.Kind.the-variants.{Stimulus, Task, Interrupt, Runnable, Scheduler, OsEvent, Signal, Semaphore}
-use Rattle.words.specs.declared.action.Action.{Action}
 use Rattle.words.specs.Kind.{kindWord}
 use Rattle.words.specs.Action.{wordOf, isOf}
-use Rattle.words.proofs.Actions.{actions, every}
+use Rattle.words.proofs.Found.{kind-short, word-short}
 use Rattle.line.specs.declared.event.Event.{Event}
 use Rattle.line.specs.declared.writing.Written.the-variants.{Done, NotWritten}
 use Rattle.line.specs.Note.{maxInstance, noteOf, isWrong}
@@ -52,24 +49,6 @@ unfolding written
 put-none l at h = rw add-zero at (put-fits l at [] h)
 
 -- ---- how long the numbers and words of a line are at most
-
-kind-short : (k : Kind) → length (kindWord k) ≤ 5
-unfolding kindWord
-kind-short Stimulus = omega arith
-kind-short Task = omega arith
-kind-short Interrupt = omega arith
-kind-short Runnable = omega arith
-kind-short Scheduler = omega arith
-kind-short OsEvent = omega arith
-kind-short Signal = omega arith
-kind-short Semaphore = omega arith
-
-abbrev short : Action → Bool
-short a = leb (length (wordOf a)) 19
-
-word-short : (a : Action) → length (wordOf a) ≤ 19
-unfolding actions wordOf
-word-short a = leb-true (length (wordOf a)) 19 (every short refl a)
 
 pub words-short : (e : Event) → e .time < 18446744073709551616 → e .«source_instance» ≤ maxInstance → e .«target_instance» ≤ maxInstance → length (digitsOf (e .time)) + length (digitsOf (e .«source_instance»)) + length (digitsOf (e .«target_instance»)) + (length (kindWord (e .kind)) + length (wordOf (e .action))) ≤ 84
 words-short e h j k =

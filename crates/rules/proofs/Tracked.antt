@@ -28,7 +28,7 @@ pub data Since : List Event → List Event → Type 0 where
 
 -- ---- kinds
 
-process-tracked : (k : ℕ) → isProcess k ≡ true → isTracked k ≡ true
+pub process-tracked : (k : ℕ) → isProcess k ≡ true → isTracked k ≡ true
 unfolding isTracked hasInstances
 process-tracked k p = rw p
 
