@@ -18,7 +18,7 @@ use Rattle.rules.specs.History.{isTracked, names, kindOf}
 use Rattle.rules.specs.Refusals.{answerTo, rules}
 use Rattle.rules.specs.Verdict.{Accepted}
 use Rattle.rules.proofs.Tests.{both, and-true, clash}
-use Rattle.rules.proofs.Answers.{Passed, all-fit}
+use Rattle.rules.proofs.Answers.{Passed}
 use Rattle.rules.proofs.CoreWords.{on-process}
 use Rattle.rules.proofs.Tracked.{two-names, source-kind, process-tracked}
 use Rattle.tables.specs.Entry.{lastTime, sinceAt}
@@ -30,10 +30,11 @@ use Rattle.judge.specs.Feed.{Tables}
 use Rattle.agree.specs.Places.{rowOf}
 use Rattle.agree.specs.Shown.{Shown}
 use Rattle.agree.specs.Taken.{sightIn}
-use Rattle.agree.proofs.Places.{place-bound, place-one}
+use Rattle.agree.proofs.Places.{place-one}
 use Rattle.agree.proofs.Grown.{NameFrom, before, as-source, as-target}
 use Rattle.agree.proofs.Grown.{newTarget, name-stays, source-named, target-named, name-from, row-stays}
 use Rattle.agree.proofs.Lookups.{new-core, new-name, core-row, target-row}
+use Rattle.agree.proofs.Rows.{row-bound}
 use Rattle.agree.proofs.TickEntries.{Sums, sums, sumsAt, coreSettled, targetSettled, unknownBefore, Rows}
 use Rattle.agree.proofs.TickEntries.{last-taken, core-new, core-settled, target-settled, row-kept}
 
@@ -66,9 +67,6 @@ module _ (h : List Event) (a : Accepted h) (t : Tables) (s : Shown h t) (e : Eve
 
   -- ---- the rows stand as the stores want them
 
-  row-small : (n : List ℕ) → any (sameBytes n) (names (e ∷ h)) ≡ true → rowOf (e ∷ h) n < 256
-  row-small n q = omega (arith, place-bound (sameBytes n) (names (e ∷ h)) q, all-fit (e ∷ h) (accepted-next h a e f) .names-fit)
-
   classed : eqb ((sightIn h e) .class) 0 ≡ false → onCore e ≡ true
   unfolding sightIn
   classed q = sym (class-on e) ∙ rw q
@@ -83,7 +81,7 @@ module _ (h : List Event) (a : Accepted h) (t : Tables) (s : Shown h t) (e : Eve
 
   rows : Rows (t .nums) (sightIn h e) (e .kind)
   rows = record {
-    core = λ q. let o = classed q in rw (core-row h t s e (f .kinds) o) (row-small (e .source) (source-named h e o));
+    core = λ q. let o = classed q in rw (core-row h t s e (f .kinds) o) (row-bound h t s e f (e .source) (source-named h e o));
     target = λ q. target-small (core-tracked e (classed q));
     apart = λ q p. let o = classed q in
         let w = core-tracked e o in
@@ -94,7 +92,7 @@ module _ (h : List Event) (a : Accepted h) (t : Tables) (s : Shown h t) (e : Eve
   }
     where
       target-small : isTracked (e .kind) ≡ true → targetRow (t .nums) (sightIn h e) < 256
-      target-small w = rw (target-row h t s e (f .kinds) w) (row-small (e .target) (target-named h e w))
+      target-small w = rw (target-row h t s e (f .kinds) w) (row-bound h t s e f (e .target) (target-named h e w))
 
   -- ---- a name that is neither the event's core nor its target
 
@@ -112,7 +110,7 @@ module _ (h : List Event) (a : Accepted h) (t : Tables) (s : Shown h t) (e : Eve
   pub name-kept : (n : List ℕ) → any (sameBytes n) (names h) ≡ true → on n e ≡ false → isTracked (e .kind) && sameBytes n (e .target) ≡ false →
       sumsAt (ticksAfter h t e) (rowOf (e ∷ h) n) ≡ sumsAt (t .ticks) (rowOf h n)
   name-kept n q o w =
-      row-kept (t .ticks) (t .nums) (s .ticks-size) (sightIn h e) (e .kind) (e .time) rows (rowOf (e ∷ h) n) (row-small n (name-stays h e n q))
+      row-kept (t .ticks) (t .nums) (s .ticks-size) (sightIn h e) (e .kind) (e .time) rows (rowOf (e ∷ h) n) (row-bound h t s e f n (name-stays h e n q))
       (λ c. (not-source (classed c), not-target (core-tracked e (classed c))))
       (λ c. not-target (tracked-new c (newTarget h e) refl))
       ∙ ap (sumsAt (t .ticks)) (row-stays h e (f .kinds) n q)
@@ -173,7 +171,7 @@ module _ (h : List Event) (a : Accepted h) (t : Tables) (s : Shown h t) (e : Eve
   target-next w =
       let r = target-row h t s e (f .kinds) w in
       ap (sumsAt (ticksAfter h t e)) (sym r)
-      ∙ target-settled (t .ticks) (t .nums) (s .ticks-size) (sightIn h e) (e .kind) (e .time) rows (rw r (row-small (e .target) (target-named h e w)))
+      ∙ target-settled (t .ticks) (t .nums) (s .ticks-size) (sightIn h e) (e .kind) (e .time) rows (rw r (row-bound h t s e f (e .target) (target-named h e w)))
       ∙ settled-with (coreClass (e .kind) (e .word)) (λ q. source-had (giving-on-core e q)) (target-had w)
     where
       settled-with : (class : ℕ) {u v : ℕ} {x y : Sums} → (eqb class 2 ≡ true → u ≡ v) → x ≡ y → targetSettled class u x ≡ targetSettled class v y

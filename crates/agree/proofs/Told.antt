@@ -15,10 +15,10 @@ use Rattle.rules.specs.Words.{core, semaphore}
 use Rattle.rules.specs.Event.{Event, Instance, sameInstance, stateOf}
 use Rattle.rules.specs.Core.{coreAt}
 use Rattle.rules.specs.History.{hasInstances, names, instances, kindOf, lastNumber, lastCount}
-use Rattle.rules.specs.Refusals.{unseen}
 use Rattle.rules.specs.Rows.{opened}
 use Rattle.rules.specs.Verdict.{Accepted}
 use Rattle.rules.proofs.Answers.{all-fit}
+use Rattle.rules.proofs.CoreRuns.{unseen-none}
 use Rattle.rules.proofs.Seen.{Worded, first-seen}
 use Rattle.rules.proofs.Tests.{clash}
 use Rattle.rules.proofs.Tracked.{kind-named, named-kind}
@@ -47,10 +47,6 @@ module _ {A : Type 0} (f : A → Bool) (xs : List A) (nums : List ℕ) (base row
 opened-some : (n : ℕ) → 1 ≤ n → opened n ≡ some n
 opened-some zero l = absurd (omega arith)
 opened-some (suc n) l = refl
-
-is-unseen : (o : Option ℕ) → unseen o ≡ true → o ≡ none
-is-unseen none q = refl
-is-unseen (some n) q = cc
 
 pub all-worded : (h : List Event) → AllMet h → Worded h
 all-worded [] m = tt
@@ -117,4 +113,4 @@ module _ (h : List Event) (a : Accepted h) (t : Tables) (s : Shown h t) where
       by-test : (b : Bool) → any (sameInstance x) (instances h) ≡ b → opened (entryOf (t .nums) 3338 1024 (seek (sameInstance x) (instances h))) ≡ stateOf x h
       by-test true q = ap opened (entry-there (sameInstance x) (instances h) (t .nums) 3338 1024 (all-fit h a .instances-fit) q) ∙ s .each-instance x q .state
       by-test false q =
-          ap opened (entry-absent (sameInstance x) (instances h) (t .nums) 3338 1024 q) ∙ sym (is-unseen (stateOf x h) (first-seen h w x k ∙ ap not q))
+          ap opened (entry-absent (sameInstance x) (instances h) (t .nums) 3338 1024 q) ∙ sym (unseen-none (stateOf x h) (first-seen h w x k ∙ ap not q))

@@ -8,7 +8,7 @@ use Prim.Native.Nat.{ℕ, _≤_, _<_}
 use native.Mathlib.Omega.{arith}
 use lib.Dec.{eqb, ltb}
 use borrow.Author.Tests.{eq-eqb, eqb-true, ltb-true}
-use Rattle.text.proofs.Bools.{and-l, and-r, is-false}
+use Rattle.text.proofs.Bools.{and-l, and-r, is-false, clash}
 use Rattle.words.specs.Named.{any}
 use Rattle.line.specs.Answer.{Test, test, lowest}
 
@@ -47,15 +47,12 @@ lowest-holds (t ∷ ts) p = holds-step (t .applies) (t .number) ts (lowest-holds
 
 -- ---- both together
 
-never : (b : Bool) → b ≡ true → b ≡ false → ⊥
-never b p q = let z : _≡_ {A = ℕ} 0 1 = cc in omega arith
-
 module _ (ts : List Test) (r : rising 0 ts ≡ true) where
   -- a number whose condition holds while none lower does is the lowest
   only : (n : ℕ) → holds n ts ≡ true → ((m : ℕ) → m < n → holds m ts ≡ false) → lowest ts ≡ n
   only n h none =
       let p = lowest-from 0 n ts r h in
-      let q : lowest ts < n → ⊥ = λ lt. never (holds (lowest ts) ts) (lowest-holds ts (p .0)) (none (lowest ts) lt) in
+      let q : lowest ts < n → ⊥ = λ lt. clash (holds (lowest ts) ts) (lowest-holds ts (p .0)) (none (lowest ts) lt) in
       omega arith
 
   pub lowest-exactly : (n : ℕ) → 0 < n → (lowest ts ≡ n) ↔ ((holds n ts ≡ true) × ((m : ℕ) → m < n → holds m ts ≡ false))
@@ -66,7 +63,7 @@ module _ (ts : List Test) (r : rising 0 ts ≡ true) where
 
   -- a positive one holds, so there is none
   zero-only : ((m : ℕ) → holds m ts ≡ false) → lowest ts ≡ 0
-  zero-only none = let q : 0 < lowest ts → ⊥ = λ lt. never (holds (lowest ts) ts) (lowest-holds ts lt) (none (lowest ts)) in omega arith
+  zero-only none = let q : 0 < lowest ts → ⊥ = λ lt. clash (holds (lowest ts) ts) (lowest-holds ts lt) (none (lowest ts)) in omega arith
 
   pub lowest-none : (lowest ts ≡ 0) ↔ ((m : ℕ) → holds m ts ≡ false)
   lowest-none = (λ e m. is-false (holds m ts) (λ h. omega (arith, lowest-from 0 m ts r h)), zero-only)

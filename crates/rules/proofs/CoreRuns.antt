@@ -19,7 +19,7 @@ use Rattle.rules.proofs.CoreWords.{takes-only, gives-only, keeps-only, 
 
 -- ---- what the rule asks of the core
 
-unseen-none : (o : Option ℕ) → unseen o ≡ true → o ≡ none
+pub unseen-none : (o : Option ℕ) → unseen o ≡ true → o ≡ none
 unseen-none none q = refl
 unseen-none (some s) q = cc
 
