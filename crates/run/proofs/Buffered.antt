@@ -26,7 +26,7 @@ abbrev pub goesOn : Turned → List (List ℕ) → Progress
 goesOn u rs = readAfter (u .turn) (u .left) (u .buffer) rs
 
 -- what was written at the front is there
-front : (buf rest : List ℕ) → length rest ≤ length buf → take (length rest) (written buf 0 rest) ≡ rest
+pub front : (buf rest : List ℕ) → length rest ≤ length buf → take (length rest) (written buf 0 rest) ≡ rest
 front buf rest h = ap (take (length rest)) (written-parts buf 0 rest (omega arith)) ∙ take-append-seam rest _
 
 -- the rest of a part of the buffer fits into it

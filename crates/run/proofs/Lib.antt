@@ -9,3 +9,4 @@ pub mod Printed
 pub mod Reading
 pub mod Buffered
 pub mod Tight
+pub mod Fits

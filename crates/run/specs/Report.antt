@@ -60,3 +60,7 @@ traceText ls =
     let h = takenLines [] ls in
     let v = verdictOn [] ls in
     cond (eqb (v .0) 0) (acceptedText (placeOf h .scale) (span (eventsOf h)) ++ sheetText (sheet (eventsOf h))) (refusedText (v .0) (v .1))
+
+-- no trace has a longer one
+abbrev pub textMost : ℕ
+textMost = 65655
