@@ -11,14 +11,14 @@ use native.Mathlib.Omega.{arith}
 use lib.Dec.{eqb, ltb}
 use lib.ListN.{length, getD, take, drop, length-drop, drop-of-length-le, List·getD-eq-default}
 use lib.Seq.{take-all, take-nil, drop-drop, getD-drop}
-use borrow.Author.Tests.{eq-eqb, ne-eqb, lt-ltb, le-ltb}
+use borrow.Author.Tests.{eq-eqb, ne-eqb, lt-ltb, le-ltb, le-leb, lt-leb}
 use Rattle.text.specs.Bytes.{toByte, findFrom}
 use Rattle.text.specs.Name.{isNameByte, allNameBytes, isName}
 use Rattle.text.proofs.Bools.{and-l, and-r, lt-or-ge}
 use Rattle.text.proofs.Finds.{find-ge, find-le}
 use Rattle.text.proofs.Pieces.{pieces-cut, pieces-one, pieces-some, pieces-join, pieces-last, join-pieces, piece-clean, without, joinedBy}
 use Rattle.text.proofs.Names.{name-byte, name-bytes}
-use Rattle.line.specs.Part.{partsOf, fieldOf, partFrom, commaAt}
+use Rattle.line.specs.Part.{partsOf, fieldOf, partFrom, commaAt, startAt, fieldAt}
 
 -- ---- the first part, and the parts after it
 
@@ -128,6 +128,35 @@ after-comma : (l : List ℕ) (k : ℕ) → commaAt l k < length l → From l (su
 unfolding commaAt
 after-comma l zero h = from-next l 0 0 refl h
 after-comma l (suc k) h = from-next l (suc k) (suc (commaAt l k)) (after-comma l k (omega (arith, comma-grows l k))) h
+
+-- ---- where `field` finds its part
+
+comma-from : (l : List ℕ) (k : ℕ) → commaAt l k ≡ findFrom 44 l (startAt l k)
+unfolding commaAt
+comma-from l zero = refl
+comma-from l (suc k) = refl
+
+pub at-turn : (l : List ℕ) (j a n : ℕ) → n ≡ findFrom 44 l a → 1 ≤ j → a ≡ startAt l (j - 1) → n + 1 ≡ startAt l (j + 1 - 1)
+at-turn l j a n e h f =
+    let p : j + 1 - 1 ≡ suc (j - 1) = omega arith in
+    rw (p, add-one, e, f, comma-from l (j - 1))
+
+past : (l : List ℕ) (i d : ℕ) → length l ≤ commaAt l i → length l < startAt l (suc i + d)
+past l i zero h = let z : suc i + 0 ≡ suc i = omega arith in rw z (omega arith)
+past l i (suc d) h = let z : suc i + suc d ≡ suc (suc (i + d)) = omega arith in let y : suc i + d ≡ suc (i + d) = omega arith in rw z (omega (arith, comma-grows l (i + d), rw y at (past l i d h)))
+
+pub at-stop : (l : List ℕ) (k j a n : ℕ) → n ≡ findFrom 44 l a → 1 ≤ j → a ≡ startAt l (j - 1) → length l ≤ n → j < k → fieldAt l k ≡ 0
+unfolding fieldAt
+at-stop l zero j a n e h f g lt = refl
+at-stop l (suc k) j a n e h f g lt =
+    let z : suc (j - 1) + (k - j) ≡ k = omega arith in
+    rw (lt-leb _ _ (rw z at (past l (j - 1) (k - j) (rw (comma-from l (j - 1), ← f, ← e) g))))
+
+pub at-found : (l : List ℕ) (k j a : ℕ) → 1 ≤ j → a ≡ startAt l (j - 1) → a ≤ length l → j ≤ k → k ≤ j → fieldAt l k ≡ a
+unfolding fieldAt
+at-found l k j a h f b g le =
+    let p : k ≡ suc (j - 1) = omega arith in
+    rw (p, ← f, le-leb _ _ b)
 
 -- a comma after k others is there exactly when there are k + 2 parts or more
 pub comma-there : (l : List ℕ) (k : ℕ) → commaAt l k < length l → suc (suc k) ≤ length (partsOf l)

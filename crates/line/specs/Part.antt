@@ -1,9 +1,11 @@
 -- The parts of a line that commas separate, and where they stand.
-use Prim.Native.Nat.{ℕ, zero, suc, _-_}
-use mathlib.Core.Bool.{Bool, true, _&&_}
+use Prim.Native.Nat.{ℕ, zero, suc, _+_, _-_}
+use mathlib.Core.Path.{_≡_}
+use mathlib.Core.Bool.{Bool, true, false, _&&_}
 use mathlib.Core.List.{List, [], _∷_}
 use lib.Dec.{leb}
-use lib.ListN.{getD, take, drop}
+use lib.ListN.{length, getD, take, drop}
+use denote.Ref.{RefT, ptr, now}
 use Rattle.text.specs.Bytes.{findFrom}
 use Rattle.text.specs.Pieces.{pieces}
 use Rattle.line.specs.declared.part.Commas.{Commas}
@@ -32,6 +34,26 @@ partFrom l from to = take (to - from) (drop from l)
 unfoldable pub commaAt : List ℕ → ℕ → ℕ
 commaAt l zero = findFrom 44 l 0
 commaAt l (suc k) = findFrom 44 l (suc (commaAt l k))
+
+-- where the part after k others starts; past the end where there is none
+abbrev pub startAt : List ℕ → ℕ → ℕ
+startAt l zero = 0
+startAt l (suc k) = suc (commaAt l k)
+
+abbrev pub orFirst : Bool → ℕ → ℕ
+orFirst true a = a
+orFirst false a = 0
+
+-- where a field starts; a missing one is the empty part at the line's start
+unfoldable pub fieldAt : List ℕ → ℕ → ℕ
+fieldAt l zero = 0
+fieldAt l (suc k) = orFirst (leb (startAt l k) (length l)) (startAt l k)
+
+-- "that very part of the caller's line": r points into the line's block, where the field starts, and has its bytes
+pub record IsField (line : RefT (List ℕ)) (k : ℕ) (r : RefT (List ℕ)) : Type 0 where
+  pub block : ptr r .0 ≡ ptr line .0
+  pub place : ptr r .1 ≡ fieldAt (now line) k + ptr line .1
+  pub bytes : now r ≡ fieldOf (now line) k
 
 abbrev pub commasOf : List ℕ → Commas
 commasOf l = record {

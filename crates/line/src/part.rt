@@ -1,7 +1,7 @@
 // The parts of a line that commas separate.
 ghost use mathlib.Core.Path.{_≡_};
 ghost use Prim.Native.Nat.{suc};
-ghost use Rattle.line.specs.Part.{fieldOf, partFrom, commasOf};
+ghost use Rattle.line.specs.Part.{IsField, partFrom, commasOf};
 use text::bytes::find;
 
 // The places of a line's first eight commas; where there are fewer, places past its end.
@@ -19,7 +19,7 @@ pub(crate) struct Commas {
 // "Asking for a field hands back that very part of the caller's line": `&line[a..b]`, the k-th comma-separated part, counted
 // from 1; a missing field is an empty part.
 pub fn field(line: &[u8], k: usize) -> &[u8]
-    ensures { λ r. ⌜ now r ≡ fieldOf (now (line .entry)) k ⌝ }
+    ensures { λ r. ⌜ IsField (line .entry) k r ⌝ }
 {
     if k == 0 {
         return &line[0..0];

@@ -18,7 +18,7 @@ planned : (c : tie.After-decide) →
     carried (c .decide .result) t (f .before .before .to-rules .result) (f .before .field .result .now) (f .field2 .result .now) ≡ eventLined t (a .l .now) (a .e) (a .count)
 planned c =
     let f = c .before .before .before .before in
-    carried-lined _ _ _ _ (begun c .pre) (f .before .before .to-rules .ensures) (f .before .field .ensures) (f .field2 .ensures) (c .decide .ensures)
+    carried-lined _ _ _ _ (begun c .pre) (f .before .before .to-rules .ensures) (f .before .field .ensures .bytes) (f .field2 .ensures .bytes) (c .decide .ensures)
 
 returns : tie.Need-returns
 returns c =
