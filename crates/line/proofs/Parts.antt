@@ -1,6 +1,6 @@
 -- Laws of the parts of a line: the fields stand between the commas, there is one part more than commas, a line is its parts joined by
 -- commas, and no part has one.
-use mathlib.Core.Path.{_≡_, refl, sym, _∙_}
+use mathlib.Core.Path.{_≡_, refl, sym, subst, _∙_}
 use mathlib.Core.Bool.{Bool, true, false, _||_}
 use mathlib.Core.Logic.{⊎-elim}
 use mathlib.Core.List.{List, [], _∷_, _++_}
@@ -9,8 +9,8 @@ use native.Mathlib.Nat.{not-suc-le-zero, eq-or-lt-of-le}
 use native.Mathlib.Numerals.{add-one}
 use native.Mathlib.Omega.{arith}
 use lib.Dec.{eqb, ltb}
-use lib.ListN.{length, getD, take, drop, length-drop, drop-of-length-le, List·getD-eq-default}
-use lib.Seq.{take-all, take-nil, drop-drop, getD-drop}
+use lib.ListN.{length, getD, take, drop, length-drop, drop-of-length-le, take-append-drop, List·getD-eq-default}
+use lib.Seq.{take-all, take-nil, take-append-seam, drop-drop, getD-drop}
 use borrow.Author.Tests.{eq-eqb, ne-eqb, lt-ltb, le-ltb, le-leb, lt-leb}
 use Rattle.text.specs.Bytes.{toByte, findFrom}
 use Rattle.text.specs.Name.{isNameByte, allNameBytes, isName}
@@ -169,6 +169,37 @@ unfolding commaAt
 comma-missing l zero h = from-end l 0 0 refl h
 comma-missing l (suc k) h =
     ⊎-elim (λ lt. from-end l (suc k) (suc (commaAt l k)) (after-comma l k lt) h) (λ ge. omega (arith, comma-missing l k ge)) (lt-or-ge (commaAt l k) (length l))
+
+-- ---- the bytes of a field stand where it starts
+
+front-again : (n : ℕ) (s : List ℕ) → take (length (take n s)) s ≡ take n s
+front-again n s = subst (λ (t : List ℕ). take (length (take n s)) t ≡ take n s) (take-append-drop n s) (take-append-seam (take n s) (drop n s))
+
+start-there : (l : List ℕ) (k : ℕ) → startAt l k ≤ length l → From l k (startAt l k)
+start-there l zero h = refl
+start-there l (suc k) h = after-comma l k (omega arith)
+
+start-missing : (l : List ℕ) (k : ℕ) → length l < startAt l k → fieldOf l (suc k) ≡ []
+start-missing l zero h = absurd (not-suc-le-zero h)
+start-missing l (suc k) h = field-missing l (suc k) (comma-missing l k (omega arith))
+
+field-zero : (l : List ℕ) → fieldOf l 0 ≡ []
+unfolding fieldOf
+field-zero l = refl
+
+pub field-stands : (l : List ℕ) (k : ℕ) → partFrom l (fieldAt l k) (fieldAt l k + length (fieldOf l k)) ≡ fieldOf l k
+unfolding fieldAt partFrom
+field-stands l zero = rw (field-zero l)
+field-stands l (suc k) =
+    let a = startAt l k in
+    ⊎-elim
+    (λ h. rw (lt-leb a (length l) h, start-missing l k h))
+    (λ h.
+    let n = findFrom 44 l a - a in
+    let e : fieldOf l (suc k) ≡ take n (drop a l) = from-here l k a (start-there l k h) in
+    let z : a + length (take n (drop a l)) - a ≡ length (take n (drop a l)) = omega arith in
+    rw (le-leb a (length l) h, e, z) (front-again n (drop a l)))
+    (lt-or-ge (length l) a)
 
 -- ---- the fields are what stands between the commas
 

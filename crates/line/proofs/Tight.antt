@@ -1,12 +1,14 @@
 -- Wrong answers that the contracts of the three public functions of a line shut out. That there is no second answer is in `Unique`.
-use mathlib.Core.Path.{refl}
+use mathlib.Core.Path.{_≡_, refl}
 use mathlib.Core.Bool.{cond}
 use mathlib.Core.List.{List, []}
 use Prim.Native.Nat.{ℕ, suc}
+use native.Mathlib.Omega.{arith}
+use denote.Ref.{RefT, now}
 use lib.Dec.{ltb, eqb}
 use lib.ListN.{length, getD}
 use Rattle.text.specs.Literal.{bytes}
-use Rattle.text.specs.Bytes.{sameBytes}
+use Rattle.text.specs.Bytes.{sameBytes, toByte, findFrom}
 use Rattle.text.specs.Pieces.{pieces}
 use Rattle.text.specs.Name.{isNameByte, allNameBytes, isName}
 use Rattle.text.specs.Number.{digitsOf}
@@ -18,7 +20,7 @@ use Rattle.words.specs.Kind.{kindWord}
 use Rattle.words.specs.Action.{wordOf, actionCode, actionsOf, among, isOf}
 use Rattle.line.specs.declared.event.Event.{Event}
 use Rattle.line.specs.declared.writing.Written.the-variants.{Done}
-use Rattle.line.specs.Part.{partsOf, fieldOf}
+use Rattle.line.specs.Part.{partsOf, fieldOf, commaAt, fieldAt, IsField}
 use Rattle.line.specs.Note.{noteOf}
 use Rattle.line.specs.Rule.{isProcess, zeroSource, zeroTarget, isOwn, sourceBroken, targetBroken, ownBroken, presence, noteBroken, ruleBroken}
 use Rattle.line.specs.Event.{eventOf}
@@ -35,6 +37,11 @@ pub field-not-the-last :
     ShutsOut {A = List ℕ × ℕ} (λ (l, k). fieldOf l k) (λ (l, k). cond (ltb (length (partsOf l)) k) (fieldOf l (length (partsOf l))) (fieldOf l k))
 unfolding fieldOf partsOf pieces sameBytes
 field-not-the-last = shut-out (sameBytes []) (bytes "a,b", 3) refl refl
+
+-- another part with the same bytes: of `a,a` the second part is not the first
+pub field-not-alike : (line r : RefT (List ℕ)) → now line ≡ bytes "a,a" → IsField line 2 r → IsField line 1 r → ⊥
+unfolding fieldAt commaAt findFrom toByte
+field-not-alike line r e second first = let p = rw e at (second .place) in let q = rw e at (first .place) in omega (arith, p, q)
 
 -- ---- `write`: one that writes nothing and says how long the line is, which is document 01's answer 0
 

@@ -49,11 +49,16 @@ unfoldable pub fieldAt : List ℕ → ℕ → ℕ
 fieldAt l zero = 0
 fieldAt l (suc k) = orFirst (leb (startAt l k) (length l)) (startAt l k)
 
--- "that very part of the caller's line": r points into the line's block, where the field starts, and has its bytes
-pub record IsField (line : RefT (List ℕ)) (k : ℕ) (r : RefT (List ℕ)) : Type 0 where
-  pub block : ptr r .0 ≡ ptr line .0
-  pub place : ptr r .1 ≡ fieldAt (now line) k + ptr line .1
-  pub bytes : now r ≡ fieldOf (now line) k
+-- The reference r is the part of a lent slice that starts at an index and has these bytes: it points into the slice's block of memory, so many bytes
+-- further. To the machine a part is a pointer and a count of bytes, so one answer is left; only the name that the logic gives r is free.
+pub record IsPart (slice : RefT (List ℕ)) (start : ℕ) (part : List ℕ) (r : RefT (List ℕ)) : Type 0 where
+  pub block : ptr r .0 ≡ ptr slice .0
+  pub place : ptr r .1 ≡ start + ptr slice .1
+  pub bytes : now r ≡ part
+
+-- "Asking for a field hands back that very part of the caller's line."
+abbrev pub IsField : RefT (List ℕ) → ℕ → RefT (List ℕ) → Type 0
+IsField line k r = IsPart line (fieldAt (now line) k) (fieldOf (now line) k) r
 
 abbrev pub commasOf : List ℕ → Commas
 commasOf l = record {
