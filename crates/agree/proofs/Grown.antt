@@ -363,7 +363,7 @@ abbrev pub AllMet : List Event → Type 0
 AllMet [] = Unit {0}
 AllMet (e ∷ h) = Met e × AllMet h
 
--- "name, note: 1 to 64 bytes"
+-- "name, note | 1 to 64 bytes"
 pub named-well : (h : List Event) → AllMet h → (n : List ℕ) → any (sameBytes n) (names h) ≡ true → isName n ≡ true
 unfolding names
 named-well [] m n q = absurd (clash false q refl)

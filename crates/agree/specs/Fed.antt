@@ -32,7 +32,7 @@ abbrev pub joined : List (List ℕ) → List ℕ
 joined [] = []
 joined (c ∷ cs) = c ++ joined cs
 
--- chunks "cut at any line ends": each ends where a line does
+-- chunks cut at line ends: each ends where a line does
 abbrev pub AtLineEnds : List (List ℕ) → Type 0
 AtLineEnds [] = Unit {0}
 AtLineEnds (c ∷ cs) = (restOf c ≡ []) × AtLineEnds cs

@@ -25,7 +25,7 @@ use Rattle.words.specs.Pair.{namedBy}
 use Rattle.line.specs.Note.{maxInstance, noteOf}
 use Rattle.line.specs.Rule.{ruleBroken}
 
--- "time: 72,057,594,037,927,935 (2^56 − 1)"
+-- "time | 72,057,594,037,927,935 (2^56 − 1)"
 abbrev pub maxTime : ℕ
 maxTime = 72057594037927935
 

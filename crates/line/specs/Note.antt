@@ -14,7 +14,7 @@ use Rattle.words.specs.declared.kind.Kind.the-variants.{Stimulus, Task, Interru
 use Rattle.line.specs.declared.note.Note.{Note}
 use Rattle.line.specs.declared.note.Note.the-variants.{Means, Wrong}
 
--- "instance, semaphore count: 4,294,967,295"
+-- "instance, semaphore count | 4,294,967,295"
 abbrev pub maxInstance : ℕ
 maxInstance = 4294967295
 

@@ -107,10 +107,10 @@ pub record Met (e : Event) : Type 0 where
   pub worded : OneWorded e
   -- on SEM a step of the chart, or one of the seven requests
   pub semaphore-word : eqb (e .kind) semaphore ≡ true → isStep (stepFor (chartOf (e .kind)) (e .word)) || member (e .word) requests ≡ true
-  -- "name, note: 1 to 64 bytes"
+  -- "name, note | 1 to 64 bytes"
   pub source-name : isName (e .source) ≡ true
   pub target-name : isName (e .target) ≡ true
-  -- "time: 72,057,594,037,927,935 (2^56 − 1)"; "instance, semaphore count: 4,294,967,295"
+  -- "time | 72,057,594,037,927,935 (2^56 − 1)"; "instance, semaphore count | 4,294,967,295"
   pub time-size : e .time ≤ maxTime
   pub from-size : e .sourceInstance ≤ maxInstance
   pub to-size : e .targetInstance ≤ maxInstance

@@ -67,7 +67,7 @@ unfoldable pub secondKind : Known → Event → Bool
 secondKind k e = sourceClash k e || targetClash k e
 
 -- ---- 10: "the names or instances that the line adds don't fit"
--- "tracked names (cores, T, I, R, SEM): 256, of them 64 cores; process and runnable instances: 1,024"
+-- "tracked names (cores, T, I, R, SEM) | 256, of them 64 cores"; "process and runnable instances | 1,024"
 
 unfoldable pub noRoom : Known → Event → Bool
 noRoom k e = ltb 256 (k .names) || (ltb 64 (k .cores) || ltb 1024 (k .instances))

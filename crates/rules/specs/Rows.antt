@@ -9,7 +9,7 @@ use Rattle.rules.specs.Chart.{Step, stepFor, allowed}
 use Rattle.rules.specs.declared.chart.Move.{Move}
 use Rattle.rules.specs.declared.chart.Move.the-variants.{To, Off}
 
--- the answer of each case: "11: chart step not allowed"
+-- the answer of each case: 11 is "chart step not allowed"
 abbrev pub answerOf : Move → ℕ
 answerOf (To n) = 0
 answerOf Off = 11

@@ -205,7 +205,7 @@ module _ (rs : List (List ℕ)) where
   pub printed-right : printed (atInputEnd progress) ≡ traceText (linesOf (joined rs))
   printed-right = ap printed all-read ∙ after-text (linesOf (joined rs))
 
-  -- "after a refusal it stops reading": what is printed is the text of any trace that begins so
+  -- after a refusal reading stops: what is printed is the text of any trace that begins so
   pub stopped-right : (t : Tables) → progress ≡ stopped t → (more : List ℕ) → printed t ≡ traceText (linesOf (joined rs ++ more))
   stopped-right t e more = ap printed ((rw e at (read-on rs)) more) ∙ after-text (linesOf (joined rs ++ more))
 

@@ -20,13 +20,14 @@ pub record Turned : Type 0 where
 abbrev pub turned : Turn → List ℕ → List ℕ → List ℕ → List ℕ → Turned
 turned r names nums ticks buf = record { turn = r; left = tables names nums ticks; buffer = buf }
 
--- A rest of more than 1,024 bytes is longer than any line with the byte 13 of its end: "A line that never ends is refusal 1 and is not kept in memory".
+-- A rest of more than 1,024 bytes is longer than any line with the byte 13 of its end, so it is fed as it stands, which is refusal 1, and is not kept in
+-- memory.
 unfoldable pub carriedOver : Tables → List ℕ → List ℕ → Turned
 carriedOver t rest buf =
     cond (ltb 1024 (length rest)) (record { turn = Stop; left = fedLine t rest .left; buffer = buf })
     (record { turn = More (length rest); left = t; buffer = written buf 0 rest })
 
--- The first n bytes of the buffer are what was carried over and what was read. "after a refusal it stops reading"
+-- The first n bytes of the buffer are what was carried over and what was read. After a refusal reading stops: "Further lines get that verdict again."
 unfoldable pub chunkTaken : Tables → List ℕ → ℕ → Turned
 chunkTaken t buf n =
     ifZero (fedChunk t (take n buf) .fed .answer) (carriedOver (fedChunk t (take n buf) .left) (restOf (take n buf)) buf)

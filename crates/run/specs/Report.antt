@@ -1,4 +1,4 @@
--- What is printed: "verdict and sheet, or the one line `verdict N line L`".
+-- What is printed: verdict and sheet, or the one line of a refused trace.
 use mathlib.Core.Bool.{cond}
 use mathlib.Core.List.{List, [], _∷_, _++_}
 use Prim.Native.Nat.{ℕ}

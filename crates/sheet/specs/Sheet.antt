@@ -21,7 +21,7 @@ use Rattle.sheet.specs.Text.{sheetText}
 
 -- ---- the rows of a section
 
--- "Cores with held, idle, unknown, then processes (T and I, also with charge 0)"
+-- cores, then processes: T and I, those with charge 0 too
 abbrev pub belongs : Section → ℕ → Bool
 belongs Cores k = eqb k core
 belongs Processes k = isProcess k
