@@ -15,14 +15,6 @@ use Rattle.walk.specs.Lines.{lineText, wholeLines, restOf, usedUp}
 
 -- ---- the text of a line
 
-pub text-cr : (p : List ℕ) → getD p (length p - 1) 0 ≡ 13 → lineText p ≡ take (length p - 1) p
-unfolding lineText
-text-cr p e = rw (eq-eqb _ _ e)
-
-pub text-plain : (p : List ℕ) → (getD p (length p - 1) 0 ≡ 13 → ⊥) → lineText p ≡ p
-unfolding lineText
-text-plain p h = rw (ne-eqb _ _ h)
-
 front-step : (t : Bool) (p : List ℕ) → let q = cond t (take (length p - 1) p) p in (length q ≤ length p) × (q ≡ take (length q) p)
 front-step true p =
     let e : length (take (length p - 1) p) ≡ length p - 1 = length-take-le (length p - 1) p (omega arith) in
@@ -34,7 +26,16 @@ pub text-front : (p : List ℕ) → (length (lineText p) ≤ length p) × (lineT
 unfolding lineText
 text-front p = front-step (eqb (getD p (length p - 1) 0) 13) p
 
--- and lacks at most one byte of it
+-- it lacks the byte 13 at the piece's end, and else nothing
+pub text-cr : (p : List ℕ) → getD p (length p - 1) 0 ≡ 13 → length p - 1 ≡ length (lineText p)
+unfolding lineText
+text-cr p e = rw (eq-eqb _ _ e) (sym (length-take-le (length p - 1) p (omega arith)))
+
+pub text-plain : (p : List ℕ) → (getD p (length p - 1) 0 ≡ 13 → ⊥) → length p ≡ length (lineText p)
+unfolding lineText
+text-plain p h = rw (ne-eqb _ _ h)
+
+-- so at most one byte
 pub text-nearly : (p : List ℕ) → length p ≤ length (lineText p) + 1
 unfolding lineText
 text-nearly p = by-test (eqb (getD p (length p - 1) 0) 13)

@@ -1,19 +1,22 @@
 -- Laws of the next line: what the code finds is what the definition says, and what a caller's loop over the lines of a chunk goes by.
 use mathlib.Core.Path.{_≡_, refl, sym, ap, _∙_}
+use mathlib.Core.Bool.{and-false}
 use mathlib.Core.Logic.{⊎-elim}
 use mathlib.Core.List.{List, [], _∷_}
 use Prim.Native.Nat.{ℕ, suc, _+_, _-_, _≤_, _<_}
 use native.Mathlib.Nat.{not-suc-le-zero}
 use native.Mathlib.Omega.{arith}
-use lib.ListN.{length, getD, take, drop, length-drop}
-use lib.Seq.{length-take-le, take-take, drop-drop, getD-take, getD-drop}
+use lib.Dec.{ltb}
+use lib.ListN.{length, take, drop, length-drop}
+use lib.Seq.{length-take-le, take-take, drop-drop}
+use borrow.Author.Tests.{lt-ltb, le-ltb, le-leb, lt-leb}
 use Rattle.text.specs.Bytes.{toByte, findFrom}
 use Rattle.text.specs.Pieces.{pieces}
 use Rattle.text.proofs.Bools.{lt-or-ge}
 use Rattle.text.proofs.Pieces.{pieces-cut, pieces-one, pieces-some}
 use Rattle.walk.specs.declared.lines.Next.the-variants.{Line, Rest}
-use Rattle.walk.specs.Lines.{lineText, wholeLines, restOf, usedUp, lastLine, linesOf, nextOf, nextFrom, startFrom}
-use Rattle.walk.proofs.Cuts.{text-cr, text-plain, text-front, cut-whole, cut-rest, cut-used, none-whole, none-rest, none-used}
+use Rattle.walk.specs.Lines.{lineText, wholeLines, restOf, usedUp, lastLine, linesOf, nextOf, nextFrom, startFrom, lineBetween}
+use Rattle.walk.proofs.Cuts.{text-front, cut-whole, cut-rest, cut-used, none-whole, none-rest, none-used}
 
 -- ---- with a byte 10 from the index on, and with none
 
@@ -39,43 +42,54 @@ module _ (s : List ℕ) (at : ℕ) where
   unfolding nextFrom
   next-none h = rw (pieces-one 10 left h)
 
--- ---- what `next_line` does, with the place n that it found
+  start-some : before < length left → startFrom s at ≡ at + suc before
+  unfolding startFrom
+  start-some h = rw (next-some h)
+
+  start-none : length left ≤ before → startFrom s at ≡ at
+  unfolding startFrom
+  start-none h = rw (next-none h)
+
+-- ---- what `next_start` does, with the place n that it found
 
 module _ (s : List ℕ) (at n : ℕ) (e : n ≡ findFrom 10 s at) where
-  pub found-none : length s ≤ n → Rest ≡ nextFrom s at
+  pub found-none : length s ≤ n → at ≡ startFrom s at
   unfolding findFrom
-  found-none h = sym (next-none s at (omega (arith, length-drop at s)))
+  found-none h = sym (start-none s at (omega (arith, length-drop at s)))
 
-  -- the line is the text of what stands before n
-  found : (m : ℕ) → n < length s → at + length (lineText (take (n - at) (drop at s))) ≡ m → Line m (n + 1) ≡ nextFrom s at
+  pub found-some : n < length s → n + 1 ≡ startFrom s at
   unfolding findFrom
-  found m h k =
-      let z : toByte 10 (drop at s) ≡ n - at = omega arith in
-      let y : at + suc (n - at) ≡ n + 1 = omega arith in
-      sym (next-some s at (omega (arith, length-drop at s)) ∙ rw (z, y, k))
+  found-some h = rw (start-some s at (omega (arith, length-drop at s))) (omega arith)
 
-  pub found-empty : n < length s → n ≤ at → Line n (n + 1) ≡ nextFrom s at
-  unfolding findFrom lineText
-  found-empty h l = found n h (let z : n - at ≡ 0 = omega arith in rw z (omega arith))
+-- ---- what lies between two places
 
-  -- the last byte before n
-  last-byte : n < length s → at < n → let p = take (n - at) (drop at s) in (length p ≡ n - at) × (getD p (length p - 1) 0 ≡ getD s (n - 1) 0)
-  last-byte h l =
-      let k : length (take (n - at) (drop at s)) ≡ n - at = length-take-le (n - at) (drop at s) (omega (arith, length-drop at s)) in
-      let z : at + (n - at - 1) ≡ n - 1 = omega arith in
-      (k, rw k (getD-take (n - at) (drop at s) (n - at - 1) 0 (omega arith) ∙ getD-drop at s (n - at - 1) 0 ∙ rw z))
+module _ (s : List ℕ) (at start : ℕ) where
+  pub between-back : start ≤ at → Rest ≡ lineBetween s at start
+  unfolding lineBetween
+  between-back h = rw (le-ltb at start h)
 
-  pub found-cr : n < length s → at < n → getD s (n - 1) 0 ≡ 13 → Line (n - 1) (n + 1) ≡ nextFrom s at
-  found-cr h l c =
-      let p = take (n - at) (drop at s) in
-      let b = last-byte h l in
-      found (n - 1) h (rw (text-cr p (b .1 ∙ c), length-take-le (length p - 1) p (omega arith)) (omega (arith, b .0)))
+  pub between-past : length s < start → Rest ≡ lineBetween s at start
+  unfolding lineBetween
+  between-past h = rw (lt-leb start (length s) h, and-false (ltb at start))
 
-  pub found-plain : n < length s → at < n → (getD s (n - 1) 0 ≡ 13 → ⊥) → Line n (n + 1) ≡ nextFrom s at
-  found-plain h l c =
-      let p = take (n - at) (drop at s) in
-      let b = last-byte h l in
-      found n h (rw (text-plain p (λ q. c (sym (b .1) ∙ q))) (omega (arith, b .0)))
+  module _ (n : ℕ) (h : at < start) (k : start ≤ length s) (e : n ≡ length (lineText (take (start - 1 - at) (drop at s)))) where
+    pub between-some : Line (at + n) start ≡ lineBetween s at start
+    unfolding lineBetween
+    between-some = rw (lt-ltb at start h, le-leb start (length s) k, e)
+
+    pub between-ends : at + n < start
+    between-ends = omega (arith, text-front (take (start - 1 - at) (drop at s)) .0, length-take-le (start - 1 - at) (drop at s) (omega (arith, length-drop at s)))
+
+-- between a place and the start found from it lies the next line
+pub between-next : (s : List ℕ) (at : ℕ) → lineBetween s at (startFrom s at) ≡ nextFrom s at
+between-next s at =
+    ⊎-elim
+    (λ h. let z : at + suc (before s at) - 1 - at ≡ before s at = omega arith in
+    let f : at < at + suc (before s at) = omega arith in
+    let w : at + suc (before s at) ≤ length s = omega (arith, length-drop at s) in
+    rw (start-some s at h, next-some s at h) (sym (between-some s at (at + suc (before s at)) _ f w (rw z))))
+    (λ h. rw (start-none s at h, next-none s at h) (sym (between-back s at at (omega arith))))
+    (lt-or-ge (before s at) (length (left s at)))
 
 -- ---- what a loop over the lines goes by
 
@@ -103,7 +117,7 @@ module _ (s : List ℕ) (at : ℕ) (h : before s at < length (left s at)) where
   text = lineText (take (before s at) (left s at))
 
   stepped : Stepped s at (at + length text) (at + suc (before s at))
-  unfolding linesOf startFrom
+  unfolding linesOf
   stepped =
       let p = take (before s at) (left s at) in
       let l : length p ≡ before s at = length-take-le (before s at) (left s at) (omega arith) in
@@ -117,7 +131,7 @@ module _ (s : List ℕ) (at : ℕ) (h : before s at < length (left s at)) where
         starts = omega arith;
         ends = omega arith;
         within = omega (arith, length-drop at s);
-        after = rw (next-some s at h);
+        after = start-some s at h;
         whole = w;
         lines = rw (w, r);
         rest = r;
@@ -137,14 +151,14 @@ line-step s at e n q =
     (lt-or-ge (before s at) (length (left s at)))
 
 pub rest-step : (s : List ℕ) (at : ℕ) → nextFrom s at ≡ Rest → Rested s at
-unfolding linesOf startFrom
+unfolding linesOf
 rest-step s at q =
     ⊎-elim
     (λ h. let p = next-some s at h in
     let z : _≡_ {A = ℕ} 0 1 = cc in
     let no-rest : ⊥ = omega arith in absurd no-rest)
     (λ h. record {
-      after = rw q;
+      after = start-none s at h;
       whole = none-whole (left s at) h;
       lines = rw (none-whole (left s at) h, none-rest (left s at) h);
       rest = none-rest (left s at) h;

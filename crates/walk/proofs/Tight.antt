@@ -2,7 +2,7 @@
 use mathlib.Core.Path.{_≡_, refl, ap}
 use mathlib.Core.Bool.{Bool, true, false}
 use mathlib.Core.List.{List, [], _∷_}
-use Prim.Native.Nat.{ℕ}
+use Prim.Native.Nat.{ℕ, _-_}
 use lib.Dec.{eqb}
 use lib.ListN.{length}
 use denote.Ref.{RefT}
@@ -12,9 +12,9 @@ use Rattle.text.proofs.Tight.{unique, ShutsOut, shut-out}
 use Rattle.walk.specs.declared.lines.Next.{Next}
 use Rattle.walk.specs.declared.lines.Next.the-variants.{Line, Rest}
 use Rattle.walk.specs.declared.reader.Reader.{Reader}
-use Rattle.walk.specs.Lines.{lineText, nextFrom, startFrom}
+use Rattle.walk.specs.Lines.{lineText, nextFrom, startFrom, lineBetween}
 
--- ---- `next_line`, `next` and `line_from`
+-- ---- `next` and `line_from`
 
 pub next-unique : (s : List ℕ) (at : ℕ) (x y : Next) → x ≡ nextFrom s at → y ≡ nextFrom s at → x ≡ y
 next-unique s = unique (nextFrom s)
@@ -50,6 +50,25 @@ start-not-the-end = shut-out (eqb 0) (bytes "a", 0) refl refl
 pub start-not-here : ShutsOut {A = List ℕ × ℕ} (λ (s, at). startFrom s at) (λ (s, at). at)
 unfolding startFrom nextFrom lineText pieces
 start-not-here = shut-out (eqb 2) (97 ∷ 10 ∷ [], 0) refl refl
+
+-- ---- `line_between`
+
+pub between-unique : (s : List ℕ) (at start : ℕ) (x y : Next) → x ≡ lineBetween s at start → y ≡ lineBetween s at start → x ≡ y
+between-unique s at = unique (lineBetween s at)
+
+abbrev endsAt : ℕ → Next → Bool
+endsAt n (Line a b) = eqb a n
+endsAt n Rest = false
+
+-- the line's end left in the line
+pub between-not-the-end : ShutsOut {A = List ℕ × ℕ × ℕ} (λ (s, at, start). lineBetween s at start) (λ (s, at, start). Line start start)
+unfolding lineBetween lineText
+between-not-the-end = shut-out (endsAt 1) (97 ∷ 10 ∷ [], 0, 2) refl refl
+
+-- a line found where the place did not move
+pub between-not-empty : ShutsOut {A = List ℕ × ℕ × ℕ} (λ (s, at, start). lineBetween s at start) (λ (s, at, start). Line (start - 1) start)
+unfolding lineBetween lineText
+between-not-empty = shut-out isRest (97 ∷ 10 ∷ [], 2, 2) refl refl
 
 -- ---- `new` and `step`
 

@@ -1,9 +1,9 @@
 -- The lines of a chunk and of a whole trace, and the next line from an index on.
 -- "A line ends at byte 10; one byte 13 before it belongs to the end. The last line may lack its end; nothing after a final end isn't a line."
 use Prim.Native.Nat.{ℕ, suc, _+_, _-_}
-use mathlib.Core.Bool.{cond}
+use mathlib.Core.Bool.{cond, _&&_}
 use mathlib.Core.List.{List, [], _∷_, _++_, map}
-use lib.Dec.{eqb}
+use lib.Dec.{eqb, leb, ltb}
 use lib.ListN.{length, getD, take, drop}
 use Rattle.text.specs.Pieces.{pieces, ended, unended, closed}
 use Rattle.walk.specs.declared.lines.Next.{Next}
@@ -51,3 +51,7 @@ startOf Rest at = at
 
 unfoldable pub startFrom : List ℕ → ℕ → ℕ
 startFrom s at = startOf (nextFrom s at) at
+
+-- the line that begins at the first of two places and that the byte just before the second ends; a rest where the chunk has no such byte
+unfoldable pub lineBetween : List ℕ → ℕ → ℕ → Next
+lineBetween s at start = cond (ltb at start && leb start (length s)) (Line (at + length (lineText (take (start - 1 - at) (drop at s)))) start) Rest

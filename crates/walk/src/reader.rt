@@ -4,7 +4,7 @@
 ghost use mathlib.Core.Path.{_≡_};
 ghost use Rattle.walk.specs.Lines.{nextFrom, startFrom};
 use crate::lines::Next;
-use crate::lines::next_line;
+use crate::lines::line_between;
 use crate::lines::next_start;
 
 pub struct Reader<'a> {
@@ -19,14 +19,7 @@ pub fn new<'a>(chunk: &'a [u8], at: usize) -> Reader<'a>
     Reader { chunk, at }
 }
 
-// The line at the reader's place.
-pub fn next<'a>(r: Reader<'a>) -> Next
-    ensures { λ s. ⌜ s ≡ nextFrom (now (r .entry .chunk)) (r .entry .at) ⌝ }
-{
-    next_line(r.chunk, r.at)
-}
-
-// The reader at the line after that; where no byte 10 is left, at the same place.
+// The reader at the next line; where no byte 10 is left, at the same place.
 pub fn step<'a>(r: Reader<'a>) -> Reader<'a>
     ensures { λ q. ⌜ (q .chunk ≡ r .entry .chunk) × (q .at ≡ startFrom (now (r .entry .chunk)) (r .entry .at)) ⌝ }
 {
@@ -34,6 +27,14 @@ pub fn step<'a>(r: Reader<'a>) -> Reader<'a>
         chunk: r.chunk,
         at: next_start(r.chunk, r.at),
     }
+}
+
+// The line at the reader's place: what lies between it and the place that the reader steps to.
+pub fn next<'a>(r: Reader<'a>) -> Next
+    ensures { λ s. ⌜ s ≡ nextFrom (now (r .entry .chunk)) (r .entry .at) ⌝ }
+{
+    let q = step(r);
+    line_between(r.chunk, r.at, q.at)
 }
 
 // What a reader finds in a plain slice from an index on: whoever calls it needs no walk by hand.

@@ -1,24 +1,21 @@
--- `walk::lines::next_start` meets its contract: each case of what `next_line` returned is one of the definition's.
+-- `walk::lines::next_start` meets its contract: what `find` returned is past the end, or the byte 10 before the place that it answers.
 -- Assumes nothing.
 use borrow.Author.Needs.{needs}
-use Rattle.walk.specs.Lines.{startFrom}
+use Rattle.walk.proofs.Nexts.{found-none, found-some}
 use Rattle.walk.proofs.lines.next_start.Statement.{statement}
 use Rattle.walk.proofs.lines.next_start.Tie as tie
 
 returns : tie.Need-returns
-unfolding startFrom
-returns c = rw (← (c .before .before .before .next-line .ensures), c .before .next .given .1)
+returns c = found-none _ _ _ (c .before .find .ensures) (c .if1 .taken)
 
 returns-2 : tie.Need-returns-2
-unfolding startFrom
-returns-2 c = rw (← (c .before .before .next-line .ensures), c .enum-told .given .1)
+returns-2 c = found-some _ _ _ (c .before .find .ensures) (c .if1 .left)
 
 pub next-start-spec : {M : Type 1} → statement M
 next-start-spec =
     tie.close
     (tie.spec
     (λ c κs. search needs)
-    (λ c. search needs)
-    (λ c. search needs)
     returns
+    (λ c. search needs)
     returns-2)
