@@ -30,6 +30,8 @@ pub mod Limits
 pub mod Fresh
 pub mod Verdicts
 pub mod Judged
+pub mod Demand2
+pub mod Numbers
 pub mod Refused
 pub mod Examples
 pub mod Tight

@@ -1,18 +1,20 @@
--- What a plan says: by tables of the right sizes a refusal is by one of the numbers 8 to 14, and a line that is taken breaks no rule.
+-- What a plan says: its number is the rules' answer at what the tables say, or 15 for a table of a wrong size; and what a line that is taken carries.
 use mathlib.Core.Path.{_≡_, refl, sym, ap, _∙_}
 use mathlib.Core.Bool.{Bool, true, false, cond}
 use mathlib.Core.List.{List}
 use Prim.Native.Nat.{ℕ, zero, suc, _≤_}
 use native.Mathlib.Omega.{arith}
+use lib.ListN.{length}
 use Rattle.rules.specs.Lists.{ifZero}
 use Rattle.rules.specs.Event.{Event}
 use Rattle.rules.specs.Refusals.{Known, timeFalls, secondKind, noRoom, offChart, notNext, coreBroken, countBroken, rules, answerTo}
+use Rattle.tables.specs.Range.{isSized}
 use Rattle.tables.proofs.Valid.{Sizes, sizes-mean}
 use Rattle.decide.specs.declared.sight.Sight.{Sight}
 use Rattle.decide.specs.declared.plan.Plan.the-variants.{Refuse, Take}
 use Rattle.decide.specs.Sight.{sightOf}
 use Rattle.decide.specs.Known.{knownBy}
-use Rattle.decide.specs.Decide.{enters, planBy, planOf, decided}
+use Rattle.decide.specs.Decide.{planAnswer, enters, planBy, planOf, decided}
 
 -- ---- tables of the right sizes
 
@@ -40,30 +42,41 @@ answer-ranged k e =
     (ranged (coreBroken k e) 13 _ (omega arith) (omega arith)
     (ranged (countBroken k e) 14 0 (omega arith) (omega arith) (λ h. absurd (omega arith))))))))
 
--- ---- the two cases
+-- ---- the number of a plan: what the rules answer at what the tables say, and 15 for a table of a wrong size
 
-pub plan-refuses : (names nums ticks : List ℕ) (e : Event) (n : ℕ) → planOf names nums ticks e ≡ Refuse n → (8 ≤ n) × (n ≤ 14)
-unfolding planOf planBy
-plan-refuses names nums ticks e n q =
-    let s = sightOf names nums e in
-    by-answer s (enters nums s e) (answerTo (knownBy nums ticks s e) e) (answer-ranged (knownBy nums ticks s e) e) q
-  where
-    by-answer : (s : Sight) (t a : ℕ) → Ranged a → ifZero a (Take s t) (Refuse a) ≡ Refuse n → (8 ≤ n) × (n ≤ 14)
-    by-answer s t zero r p = let z : _≡_ {A = ℕ} 0 1 = cc in absurd (omega arith)
-    by-answer s t (suc a) r p =
-        let z : suc a ≡ n = cc in
-        let h = r (omega arith) in
-        (omega arith, omega arith)
+module _ (names nums ticks : List ℕ) (e : Event) where
+  -- the rules' answer at what is looked up
+  abbrev pub ruled : ℕ
+  ruled = answerTo (knownBy nums ticks (sightOf names nums e) e) e
 
-pub plan-takes : (names nums ticks : List ℕ) (e : Event) (s : Sight) (t : ℕ) →
-    planOf names nums ticks e ≡ Take s t → (s ≡ sightOf names nums e) × (t ≡ enters nums s e) × (answerTo (knownBy nums ticks s e) e ≡ 0)
-unfolding planOf planBy
-plan-takes names nums ticks e s t q = by-answer (sightOf names nums e) (answerTo (knownBy nums ticks (sightOf names nums e) e) e) refl q
-  where
-    by-answer : (x : Sight) (a : ℕ) → answerTo (knownBy nums ticks x e) e ≡ a → ifZero a (Take x (enters nums x e)) (Refuse a) ≡ Take s t →
-        (s ≡ x) × (t ≡ enters nums s e) × (answerTo (knownBy nums ticks s e) e ≡ 0)
-    by-answer x zero r p =
-        let same : x ≡ s = cc in
-        let state : enters nums x e ≡ t = cc in
-        (sym same, sym state ∙ ap (λ (y : Sight). enters nums y e) same, ap (λ (y : Sight). answerTo (knownBy nums ticks y e) e) (sym same) ∙ r)
-    by-answer x (suc a) r p = let z : _≡_ {A = ℕ} 0 1 = cc in absurd (omega arith)
+  pub plan-answer : planAnswer (planOf names nums ticks e) ≡ ruled
+  unfolding planAnswer planOf planBy
+  plan-answer = by-answer (sightOf names nums e) (enters nums (sightOf names nums e) e) ruled
+    where
+      by-answer : (s : Sight) (t a : ℕ) → planAnswer (ifZero a (Take s t) (Refuse a)) ≡ a
+      by-answer s t zero = refl
+      by-answer s t (suc a) = refl
+
+  pub decided-answer : planAnswer (decided names nums ticks e) ≡ cond (isSized (length names) (length nums) (length ticks)) ruled 15
+  unfolding planAnswer decided
+  decided-answer = by-size (isSized (length names) (length nums) (length ticks))
+    where
+      by-size : (b : Bool) → planAnswer (cond b (planOf names nums ticks e) (Refuse 15)) ≡ cond b ruled 15
+      by-size true = plan-answer
+      by-size false = refl
+
+  -- by tables of the right sizes a refusal is by one of 8 to 14
+  pub plan-refuses : 1 ≤ planAnswer (planOf names nums ticks e) → (8 ≤ planAnswer (planOf names nums ticks e)) × (planAnswer (planOf names nums ticks e) ≤ 14)
+  plan-refuses = rw plan-answer (answer-ranged (knownBy nums ticks (sightOf names nums e) e) e)
+
+  -- and a line that is taken carries what was looked up and the state entered
+  pub plan-takes : (s : Sight) (t : ℕ) → planOf names nums ticks e ≡ Take s t → (s ≡ sightOf names nums e) × (t ≡ enters nums s e)
+  unfolding planOf planBy
+  plan-takes s t q = by-answer (sightOf names nums e) ruled q
+    where
+      by-answer : (x : Sight) (a : ℕ) → ifZero a (Take x (enters nums x e)) (Refuse a) ≡ Take s t → (s ≡ x) × (t ≡ enters nums s e)
+      by-answer x zero p =
+          let same : x ≡ s = cc in
+          let state : enters nums x e ≡ t = cc in
+          (sym same, sym state ∙ ap (λ (y : Sight). enters nums y e) same)
+      by-answer x (suc a) p = let z : _≡_ {A = ℕ} 0 1 = cc in absurd (omega arith)

@@ -1,5 +1,5 @@
 -- How tight the contracts of what is looked up and decided are: no second answer, and wrong answers that they shut out.
-use mathlib.Core.Path.{_≡_, refl}
+use mathlib.Core.Path.{_≡_, refl, ap}
 use mathlib.Core.Bool.{Bool, true, false, not, cond}
 use mathlib.Core.List.{List, []}
 use Prim.Native.Nat.{ℕ}
@@ -26,7 +26,7 @@ use Rattle.decide.specs.declared.plan.Plan.{Plan}
 use Rattle.decide.specs.Happening.{happeningOf}
 use Rattle.decide.specs.Sight.{coreClass, sightOf}
 use Rattle.decide.specs.Known.{oneNew}
-use Rattle.decide.specs.Decide.{planOf, decided}
+use Rattle.decide.specs.Decide.{planAnswer, planOf, decided}
 use Rattle.decide.proofs.Decided.{plan-refuses}
 
 -- ---- `to_rules`
@@ -154,6 +154,8 @@ decides (names, nums, ticks, e) = decided names nums ticks e
 
 -- tables of a wrong size are 15, whatever they hold
 pub decide-not-untested : ShutsOut decides (λ (names, nums, ticks, e). planOf names nums ticks e)
-unfolding decided isSized
-decide-not-untested =
-    record { input = ([], [], [], started task); breaks = λ q. omega (arith, plan-refuses [] [] [] (started task) 15 q) }
+unfolding decided isSized planAnswer
+decide-not-untested = record { input = ([], [], [], started task); breaks = λ q. by-number (ap planAnswer q) }
+  where
+    by-number : planAnswer (planOf [] [] [] (started task)) ≡ 15 → ⊥
+    by-number q = omega (arith, plan-refuses [] [] [] (started task) (omega arith))

@@ -18,6 +18,11 @@ use Rattle.decide.specs.declared.plan.Plan.the-variants.{Refuse, Take}
 use Rattle.decide.specs.Sight.{sightOf}
 use Rattle.decide.specs.Known.{stateIn, knownBy, timeFallsIn, sourceClashIn, targetClashIn, noRoomIn, notNextIn, coreBrokenIn, countBrokenIn}
 
+-- the number of document 01's table that a plan is: that of the refusal, and 0 for a line that is taken
+unfoldable pub planAnswer : Plan → ℕ
+planAnswer (Refuse n) = n
+planAnswer (Take s state) = 0
+
 -- the state that the event's semaphore or instance enters
 unfoldable pub enters : List ℕ → Sight → Event → ℕ
 enters nums s e = leadsTo (stepFor (chartOf (e .kind)) (e .word)) (stateIn nums s (e .kind))
