@@ -42,7 +42,7 @@ uses n k e = (isTracked (e .kind) && (eqb k (e .kind) && sameBytes n (e .target)
 abbrev pub OneKind : List Event → Type 0
 OneKind es = (n : List ℕ) (j k : ℕ) → any (uses n j) es ≡ true → any (uses n k) es ≡ true → j ≡ k
 
--- "tracked names (cores, T, I, R, SEM): 256, of them 64 cores; process and runnable instances: 1,024"
+-- "tracked names (cores, T, I, R, SEM) | 256, of them 64 cores"; "process and runnable instances | 1,024"
 pub record Fits (es : List Event) : Type 0 where
   pub names-fit : length (names es) ≤ 256
   pub cores-fit : length (cores es) ≤ 64
