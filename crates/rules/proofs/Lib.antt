@@ -4,6 +4,7 @@ pub mod ManyNames
 pub mod Tests
 pub mod Sums
 pub mod ChartFact
+pub mod States
 pub mod Rows
 pub mod Changes
 pub mod Steps

@@ -1,11 +1,11 @@
 -- A chart is any table of steps. What a run through a chart is, and the test that is made event by event.
 use mathlib.Core.Path.{_≡_}
-use mathlib.Core.Bool.{Bool, true, _&&_}
+use mathlib.Core.Bool.{Bool, true, _&&_, _||_}
 use mathlib.Core.Option.{Option, none, some}
 use mathlib.Core.List.{List, [], _∷_}
 use Prim.Native.Nat.{ℕ}
 use lib.Dec.{eqb}
-use Rattle.rules.specs.Lists.{member, latest, when}
+use Rattle.rules.specs.Lists.{any, member, latest, when}
 
 -- A step: the event word, the state that it leaves (or one of the others), and the state that it enters.
 pub record Step : Type 0 where
@@ -16,6 +16,10 @@ pub record Step : Type 0 where
 
 abbrev pub leaves : Step → ℕ → Bool
 leaves r s = member s (r .first ∷ r .others)
+
+-- a state of the chart: some step leaves or enters it
+unfoldable pub isStateOf : List Step → ℕ → Bool
+isStateOf t s = any (λ r. leaves r s || eqb s (r .enters)) t
 
 -- the step of a word, if the chart has the word
 abbrev pub stepFor : List Step → ℕ → Option Step
