@@ -25,7 +25,7 @@ headsOk nums =
     && (leb (verdictLine nums) 1000000001
     && (leb (lineCount nums) 1000000000 && (leb (scaleEntry nums) 5 && (leb (creatorEntry nums) 1 && leb (dateEntry nums) 1))))
 
--- "tracked names .. 256, of them 64 cores; process and runnable instances 1,024"
+-- "tracked names (cores, T, I, R, SEM) | 256, of them 64 cores"; "process and runnable instances | 1,024"
 unfoldable pub countsOk : List ℕ → Bool
 countsOk nums = leb (startedEntry nums) 1 && (leb (nameCount nums) 256 && (leb (coreCount nums) 64 && leb (instanceCount nums) 1024))
 
@@ -35,7 +35,7 @@ pub record Counted (nums : List ℕ) : Type 0 where
   pub names : nameCount nums ≤ 256
   pub instances : instanceCount nums ≤ 1024
 
--- "time: 2^56 − 1"; "a first time above the last"
+-- "time | 72,057,594,037,927,935 (2^56 − 1)"; "a first time above the last"
 unfoldable pub timesOk : List ℕ → Bool
 timesOk ticks = leb (lastTime ticks) 72057594037927935 && leb (firstTime ticks) (lastTime ticks)
 
