@@ -12,7 +12,9 @@ use Rattle.rules.specs.Words.{core, semaphore}
 use Rattle.rules.specs.Charts.{isProcess}
 use Rattle.rules.specs.History.{hasInstances, activates}
 use Rattle.rules.proofs.Tests.{both}
-use Rattle.tables.specs.Entry.{numsSize, lineCount, nameCount, coreCount, instanceCount}
+use Rattle.tables.specs.Entry.{Column, past, nameRows, instanceRows, numsSize, linesIndex, startedIndex, namesIndex, coresIndex, instancesIndex}
+use Rattle.tables.specs.Entry.{kindColumn, lengthColumn, markColumn, numberColumn, numberedColumn, ownerColumn, instanceColumn, stateColumn}
+use Rattle.tables.specs.Entry.{lineCount, nameCount, coreCount, instanceCount}
 use Rattle.tables.specs.Entry.{kindAt, lengthAt, markAt, numberAt, numberedAt, ownerAt, instanceAt, stateAt}
 use Rattle.tables.proofs.Stores.{same, other, entry}
 use Rattle.decide.specs.declared.happening.Happening.{Happening}
@@ -49,14 +51,15 @@ column n l b d i r v p z hi hr = by-test (eqb b d) refl (eqb r i) refl (both (le
         by-side true a k e = omega (arith, leb-true (b + n) d a)
         by-side false a k e = omega (arith, leb-true (d + n) b k)
 
--- an entry out of the columns from lo up to hi, after a store to one of them
-abbrev pub Outside : ℕ → ℕ → ℕ → Type 0
-Outside lo hi j = lo ≤ j → j < hi → ⊥
+-- an entry out of the columns from one up to another, after a store to one of them
+abbrev pub Outside : Column → Column → ℕ → Type 0
+Outside a z j = a .base ≤ j → j < past z → ⊥
 
-beside : (lo hi n : ℕ) (l : List ℕ) (d i j v : ℕ) → leb lo d && leb (d + n) hi ≡ true → Outside lo hi j → i < n → getD (set l (d + i) v) j 0 ≡ getD l j 0
-beside lo hi n l d i j v p out h =
-    let b = both (leb lo d) (leb (d + n) hi) p in
-    other l (d + i) j v (λ e. out (omega (arith, leb-true lo d (b .0))) (omega (arith, leb-true (d + n) hi (b .1))))
+beside : (a z : Column) (n : ℕ) (l : List ℕ) (d i j v : ℕ) → leb (a .base) d && leb (d + n) (past z) ≡ true → Outside a z j → i < n →
+    getD (set l (d + i) v) j 0 ≡ getD l j 0
+beside a z n l d i j v p out h =
+    let b = both (leb (a .base) d) (leb (d + n) (past z)) p in
+    other l (d + i) j v (λ e. out (omega (arith, leb-true (a .base) d (b .0))) (omega (arith, leb-true (d + n) (past z) (b .1))))
 
 -- a store that is made or not
 entry-if : (b : Bool) (x y : List ℕ) (j : ℕ) {v : ℕ} → (b ≡ true → getD x j 0 ≡ v) → (b ≡ false → getD y j 0 ≡ v) → getD (cond b x y) j 0 ≡ v
@@ -83,74 +86,74 @@ row-if n i t e x l b r v h p =
 
 -- ---- the stores to a row of a name
 
-module _ (nums : List ℕ) (z : length nums ≡ numsSize) (i r : ℕ) (h : r < 256) where
+module _ (nums : List ℕ) (z : length nums ≡ numsSize) (i r : ℕ) (h : r < nameRows) where
   pub row-kind : (kind n : ℕ) → kindAt (storeRow nums i kind n) r ≡ cond (eqb r i) kind (kindAt nums r)
   unfolding storeRow
-  row-kind kind n = row-if 256 i (ltb i 256) refl _ nums 10 r kind h (λ k. simp (column 256, length-set, z))
+  row-kind kind n = row-if nameRows i (ltb i nameRows) refl _ nums (kindColumn .base) r kind h (λ k. simp (column nameRows, length-set, z))
 
   pub row-length : (kind n : ℕ) → lengthAt (storeRow nums i kind n) r ≡ cond (eqb r i) (n % 2 ^ 32) (lengthAt nums r)
   unfolding storeRow
-  row-length kind n = row-if 256 i (ltb i 256) refl _ nums 266 r (n % 2 ^ 32) h (λ k. simp (column 256, length-set, z))
+  row-length kind n = row-if nameRows i (ltb i nameRows) refl _ nums (lengthColumn .base) r (n % 2 ^ 32) h (λ k. simp (column nameRows, length-set, z))
 
   pub row-mark : (kind n : ℕ) → markAt (storeRow nums i kind n) r ≡ cond (eqb r i) 0 (markAt nums r)
   unfolding storeRow
-  row-mark kind n = row-if 256 i (ltb i 256) refl _ nums 522 r 0 h (λ k. simp (column 256, length-set, z))
+  row-mark kind n = row-if nameRows i (ltb i nameRows) refl _ nums (markColumn .base) r 0 h (λ k. simp (column nameRows, length-set, z))
 
   pub row-number : (kind n : ℕ) → numberAt (storeRow nums i kind n) r ≡ cond (eqb r i) 0 (numberAt nums r)
   unfolding storeRow
-  row-number kind n = row-if 256 i (ltb i 256) refl _ nums 778 r 0 h (λ k. simp (column 256, length-set, z))
+  row-number kind n = row-if nameRows i (ltb i nameRows) refl _ nums (numberColumn .base) r 0 h (λ k. simp (column nameRows, length-set, z))
 
   pub row-numbered : (kind n : ℕ) → numberedAt (storeRow nums i kind n) r ≡ cond (eqb r i) 0 (numberedAt nums r)
   unfolding storeRow
-  row-numbered kind n = row-if 256 i (ltb i 256) refl _ nums 1034 r 0 h (λ k. simp (column 256, length-set, z))
+  row-numbered kind n = row-if nameRows i (ltb i nameRows) refl _ nums (numberedColumn .base) r 0 h (λ k. simp (column nameRows, length-set, z))
 
   mark-mark : (v : ℕ) → markAt (storeMark nums i v) r ≡ cond (eqb r i) v (markAt nums r)
   unfolding storeMark
-  mark-mark v = row-if 256 i (ltb i 256) refl _ nums 522 r v h (λ k. simp (column 256, z))
+  mark-mark v = row-if nameRows i (ltb i nameRows) refl _ nums (markColumn .base) r v h (λ k. simp (column nameRows, z))
 
   pub number-number : (v : ℕ) → numberAt (storeNumber nums i v) r ≡ cond (eqb r i) v (numberAt nums r)
   unfolding storeNumber
-  number-number v = row-if 256 i (ltb i 256) refl _ nums 778 r v h (λ k. simp (column 256, length-set, z))
+  number-number v = row-if nameRows i (ltb i nameRows) refl _ nums (numberColumn .base) r v h (λ k. simp (column nameRows, length-set, z))
 
   pub number-numbered : (v : ℕ) → numberedAt (storeNumber nums i v) r ≡ cond (eqb r i) 1 (numberedAt nums r)
   unfolding storeNumber
-  number-numbered v = row-if 256 i (ltb i 256) refl _ nums 1034 r 1 h (λ k. simp (column 256, length-set, z))
+  number-numbered v = row-if nameRows i (ltb i nameRows) refl _ nums (numberedColumn .base) r 1 h (λ k. simp (column nameRows, length-set, z))
 
 module _ (nums : List ℕ) (i j : ℕ) where
-  row-beside : (kind n : ℕ) → Outside 10 1290 j → getD (storeRow nums i kind n) j 0 ≡ getD nums j 0
+  row-beside : (kind n : ℕ) → Outside kindColumn numberedColumn j → getD (storeRow nums i kind n) j 0 ≡ getD nums j 0
   unfolding storeRow
-  row-beside kind n out = kept-if (ltb i 256) _ nums j (λ t. let h = ltb-true i 256 t in simp (beside 10 1290 256))
+  row-beside kind n out = kept-if (ltb i nameRows) _ nums j (λ t. let h = ltb-true i nameRows t in simp (beside kindColumn numberedColumn nameRows))
 
-  mark-beside : (v : ℕ) → Outside 522 778 j → getD (storeMark nums i v) j 0 ≡ getD nums j 0
+  mark-beside : (v : ℕ) → Outside markColumn markColumn j → getD (storeMark nums i v) j 0 ≡ getD nums j 0
   unfolding storeMark
-  mark-beside v out = kept-if (ltb i 256) _ nums j (λ t. let h = ltb-true i 256 t in simp (beside 522 778 256))
+  mark-beside v out = kept-if (ltb i nameRows) _ nums j (λ t. let h = ltb-true i nameRows t in simp (beside markColumn markColumn nameRows))
 
-  number-beside : (v : ℕ) → Outside 778 1290 j → getD (storeNumber nums i v) j 0 ≡ getD nums j 0
+  number-beside : (v : ℕ) → Outside numberColumn numberedColumn j → getD (storeNumber nums i v) j 0 ≡ getD nums j 0
   unfolding storeNumber
-  number-beside v out = kept-if (ltb i 256) _ nums j (λ t. let h = ltb-true i 256 t in simp (beside 778 1290 256))
+  number-beside v out = kept-if (ltb i nameRows) _ nums j (λ t. let h = ltb-true i nameRows t in simp (beside numberColumn numberedColumn nameRows))
 
-  instance-beside : (owner number state : ℕ) → Outside 1290 numsSize j → getD (storeInstance nums i owner number state) j 0 ≡ getD nums j 0
+  instance-beside : (owner number state : ℕ) → Outside ownerColumn stateColumn j → getD (storeInstance nums i owner number state) j 0 ≡ getD nums j 0
   unfolding storeInstance
   instance-beside owner number state out =
-      kept-if (ltb i 1024 && ltb owner 256) _ nums j (λ t. let h = ltb-true i 1024 (both (ltb i 1024) _ t .0) in simp (beside 1290 numsSize 1024))
+      kept-if (ltb i instanceRows && ltb owner nameRows) _ nums j (λ t. let h = ltb-true i instanceRows (both (ltb i instanceRows) _ t .0) in simp (beside ownerColumn stateColumn instanceRows))
 
 -- ---- the stores to a row of an instance
 
-module _ (nums : List ℕ) (z : length nums ≡ numsSize) (i owner q : ℕ) (o : owner < 256) (h : q < 1024) (number state : ℕ) where
-  tested : ltb i 1024 && ltb owner 256 ≡ ltb i 1024
-  tested = rw (lt-ltb owner 256 o) (and-true (ltb i 1024))
+module _ (nums : List ℕ) (z : length nums ≡ numsSize) (i owner q : ℕ) (o : owner < nameRows) (h : q < instanceRows) (number state : ℕ) where
+  tested : ltb i instanceRows && ltb owner nameRows ≡ ltb i instanceRows
+  tested = rw (lt-ltb owner nameRows o) (and-true (ltb i instanceRows))
 
   pub instance-owner : ownerAt (storeInstance nums i owner number state) q ≡ cond (eqb q i) owner (ownerAt nums q)
   unfolding storeInstance
-  instance-owner = row-if 1024 i (ltb i 1024 && ltb owner 256) tested _ nums 1290 q owner h (λ k. simp (column 1024, length-set, z))
+  instance-owner = row-if instanceRows i (ltb i instanceRows && ltb owner nameRows) tested _ nums (ownerColumn .base) q owner h (λ k. simp (column instanceRows, length-set, z))
 
   pub instance-number : instanceAt (storeInstance nums i owner number state) q ≡ cond (eqb q i) number (instanceAt nums q)
   unfolding storeInstance
-  instance-number = row-if 1024 i (ltb i 1024 && ltb owner 256) tested _ nums 2314 q number h (λ k. simp (column 1024, length-set, z))
+  instance-number = row-if instanceRows i (ltb i instanceRows && ltb owner nameRows) tested _ nums (instanceColumn .base) q number h (λ k. simp (column instanceRows, length-set, z))
 
   pub instance-state : stateAt (storeInstance nums i owner number state) q ≡ cond (eqb q i) state (stateAt nums q)
   unfolding storeInstance
-  instance-state = row-if 1024 i (ltb i 1024 && ltb owner 256) tested _ nums 3338 q state h (λ k. simp (column 1024, length-set, z))
+  instance-state = row-if instanceRows i (ltb i instanceRows && ltb owner nameRows) tested _ nums (stateColumn .base) q state h (λ k. simp (column instanceRows, length-set, z))
 
 -- ---- the rows of new names
 
@@ -163,11 +166,11 @@ isNewTarget nums s kind r = eqb (newName s kind) 1 && eqb r (targetRow nums s)
 
 -- what a new row has in the column from d on, by its kind and length
 abbrev pub Fills : ℕ → (ℕ → ℕ → ℕ) → Type 0
-Fills d value = (l : List ℕ) → length l ≡ numsSize → (i r : ℕ) → r < 256 → (kind n : ℕ) →
+Fills d value = (l : List ℕ) → length l ≡ numsSize → (i r : ℕ) → r < nameRows → (kind n : ℕ) →
     getD (storeRow l i kind n) (d + r) 0 ≡ cond (eqb r i) (value kind n) (getD l (d + r) 0)
 
 module _ (nums : List ℕ) (z : length nums ≡ numsSize) (s : Sight) (kind n m : ℕ) where
-  pub rows-stored : (d : ℕ) (value : ℕ → ℕ → ℕ) → Fills d value → (r : ℕ) → r < 256 →
+  pub rows-stored : (d : ℕ) (value : ℕ → ℕ → ℕ) → Fills d value → (r : ℕ) → r < nameRows →
       getD (withRows nums s kind n m) (d + r) 0
       ≡ cond (isNewTarget nums s kind r) (value kind m) (cond (isNewCore nums s r) (value core n) (getD nums (d + r) 0))
   unfolding withRows
@@ -179,7 +182,7 @@ module _ (nums : List ℕ) (z : length nums ≡ numsSize) (s : Sight) (kind n m 
       ∙ ap (cond (isNewTarget nums s kind r) (value kind m))
       (made (eqb (newCore s) 1) (eqb r (nameCount nums)) first nums (d + r) (value core n) (λ t. f nums z (nameCount nums) r h core n))
 
-  pub rows-beside : (j : ℕ) → Outside 10 1290 j → getD (withRows nums s kind n m) j 0 ≡ getD nums j 0
+  pub rows-beside : (j : ℕ) → Outside kindColumn numberedColumn j → getD (withRows nums s kind n m) j 0 ≡ getD nums j 0
   unfolding withRows
   rows-beside j out =
       let one = cond (eqb (newCore s) 1) (storeRow nums (nameCount nums) core n) nums in
@@ -199,7 +202,7 @@ no-activation k a e = rw (eqb-true k semaphore e)
 
 -- what a new number leaves in the column from d on
 abbrev pub Counts : ℕ → (ℕ → ℕ) → Type 0
-Counts d value = (l : List ℕ) → length l ≡ numsSize → (i r : ℕ) → r < 256 → (c : ℕ) →
+Counts d value = (l : List ℕ) → length l ≡ numsSize → (i r : ℕ) → r < nameRows → (c : ℕ) →
     getD (storeNumber l i c) (d + r) 0 ≡ cond (eqb r i) (value c) (getD l (d + r) 0)
 
 module _ (nums : List ℕ) (z : length nums ≡ numsSize) (i j t : ℕ) (w : Happening) where
@@ -213,27 +216,27 @@ module _ (nums : List ℕ) (z : length nums ≡ numsSize) (i j t : ℕ) (w : Hap
   one-size : length one ≡ numsSize
   one-size = length-if (hasInstances (w .kind)) _ nums (length-storeInstance nums j i (w .number) t) ∙ z
 
-  one-beside : (x : ℕ) → Outside 1290 numsSize x → getD one x 0 ≡ getD nums x 0
+  one-beside : (x : ℕ) → Outside ownerColumn stateColumn x → getD one x 0 ≡ getD nums x 0
   one-beside x out = kept-if (hasInstances (w .kind)) _ nums x (λ e. instance-beside nums j x i (w .number) t out)
 
-  two-beside : (x : ℕ) → Outside 778 1290 x → getD two x 0 ≡ getD one x 0
+  two-beside : (x : ℕ) → Outside numberColumn numberedColumn x → getD two x 0 ≡ getD one x 0
   two-beside x out = kept-if (activates (w .kind) (w .word)) _ one x (λ e. number-beside one i x (w .number) out)
 
-  pub target-beside : (x : ℕ) → Outside 522 numsSize x → getD (withTarget nums i j t w) x 0 ≡ getD nums x 0
+  pub target-beside : (x : ℕ) → Outside markColumn stateColumn x → getD (withTarget nums i j t w) x 0 ≡ getD nums x 0
   unfolding withTarget
   target-beside x out =
       entry-if (eqb (w .kind) semaphore) (storeNumber (storeMark nums i t) i (w .count)) two x
       (λ e. number-beside (storeMark nums i t) i x (w .count) (λ l u. out (omega arith) (omega arith)) ∙ mark-beside nums i x t (λ l u. out (omega arith) (omega arith)))
       (λ e. two-beside x (λ l u. out (omega arith) (omega arith)) ∙ one-beside x (λ l u. out (omega arith) (omega arith)))
 
-  pub target-mark : (r : ℕ) → r < 256 → markAt (withTarget nums i j t w) r ≡ cond (eqb (w .kind) semaphore && eqb r i) t (markAt nums r)
+  pub target-mark : (r : ℕ) → r < nameRows → markAt (withTarget nums i j t w) r ≡ cond (eqb (w .kind) semaphore && eqb r i) t (markAt nums r)
   unfolding withTarget
   target-mark r h =
-      entry-if (eqb (w .kind) semaphore) (storeNumber (storeMark nums i t) i (w .count)) two (522 + r)
-      (λ e. rw e (number-beside (storeMark nums i t) i (522 + r) (w .count) (λ l u. omega arith) ∙ mark-mark nums z i r h t))
-      (λ e. rw e (two-beside (522 + r) (λ l u. omega arith) ∙ one-beside (522 + r) (λ l u. omega arith)))
+      entry-if (eqb (w .kind) semaphore) (storeNumber (storeMark nums i t) i (w .count)) two (markColumn .base + r)
+      (λ e. rw e (number-beside (storeMark nums i t) i (markColumn .base + r) (w .count) (λ l u. omega arith) ∙ mark-mark nums z i r h t))
+      (λ e. rw e (two-beside (markColumn .base + r) (λ l u. omega arith) ∙ one-beside (markColumn .base + r) (λ l u. omega arith)))
 
-  pub target-number : (d : ℕ) (value : ℕ → ℕ) → Counts d value → 778 ≤ d → d ≤ 1034 → (r : ℕ) → r < 256 →
+  pub target-number : (d : ℕ) (value : ℕ → ℕ) → Counts d value → numberColumn .base ≤ d → d ≤ numberedColumn .base → (r : ℕ) → r < nameRows →
       getD (withTarget nums i j t w) (d + r) 0
       ≡ cond (eqb (w .kind) semaphore && eqb r i) (value (w .count)) (cond (activates (w .kind) (w .word) && eqb r i) (value (w .number)) (getD nums (d + r) 0))
   unfolding withTarget
@@ -246,7 +249,7 @@ module _ (nums : List ℕ) (z : length nums ≡ numsSize) (i j t : ℕ) (w : Hap
       (made (activates (w .kind) (w .word)) (eqb r i) _ one (d + r) (value (w .number)) (λ y. f one one-size i r h (w .number))
       ∙ ap (cond (activates (w .kind) (w .word) && eqb r i) (value (w .number))) (one-beside (d + r) (λ l u. omega arith))))
 
-  pub target-instance : (d q v : ℕ) → 1290 ≤ d →
+  pub target-instance : (d q v : ℕ) → ownerColumn .base ≤ d →
       (hasInstances (w .kind) ≡ true → getD (storeInstance nums j i (w .number) t) (d + q) 0 ≡ cond (eqb q j) v (getD nums (d + q) 0)) →
       getD (withTarget nums i j t w) (d + q) 0 ≡ cond (hasInstances (w .kind) && eqb q j) v (getD nums (d + q) 0)
   unfolding withTarget
@@ -259,35 +262,37 @@ module _ (nums : List ℕ) (z : length nums ≡ numsSize) (i j t : ℕ) (w : Hap
 -- ---- the state of the core
 
 module _ (nums : List ℕ) (class i j : ℕ) where
-  pub core-beside : (x : ℕ) → Outside 522 778 x → getD (withCore nums class i j) x 0 ≡ getD nums x 0
+  pub core-beside : (x : ℕ) → Outside markColumn markColumn x → getD (withCore nums class i j) x 0 ≡ getD nums x 0
   unfolding withCore
   core-beside x out =
       entry-if (eqb class 0) nums _ x (λ e. refl)
       (λ e. entry-if (eqb class 2) (storeMark nums i 1) _ x (λ f. mark-beside nums i x 1 out)
-      (λ f. kept-if (ltb j 1024) (storeMark nums i (j + 2)) nums x (λ g. mark-beside nums i x (j + 2) out)))
+      (λ f. kept-if (ltb j instanceRows) (storeMark nums i (j + 2)) nums x (λ g. mark-beside nums i x (j + 2) out)))
 
-  pub core-mark : length nums ≡ numsSize → (eqb class 0 ≡ false → j < 1024) → (r : ℕ) → r < 256 →
+  pub core-mark : length nums ≡ numsSize → (eqb class 0 ≡ false → j < instanceRows) → (r : ℕ) → r < nameRows →
       markAt (withCore nums class i j) r ≡ cond (not (eqb class 0) && eqb r i) (cond (eqb class 2) 1 (j + 2)) (markAt nums r)
   unfolding withCore
   core-mark z k r h =
-      entry-if (eqb class 0) nums _ (522 + r) (λ e. rw e)
-      (λ e. rw (e, lt-ltb j 1024 (k e))
-      (entry-if (eqb class 2) (storeMark nums i 1) (storeMark nums i (j + 2)) (522 + r)
+      entry-if (eqb class 0) nums _ (markColumn .base + r) (λ e. rw e)
+      (λ e. rw (e, lt-ltb j instanceRows (k e))
+      (entry-if (eqb class 2) (storeMark nums i 1) (storeMark nums i (j + 2)) (markColumn .base + r)
       (λ f. rw f (mark-mark nums z i r h 1))
       (λ f. rw f (mark-mark nums z i r h (j + 2)))))
 
 -- ---- the single entries
 
-below : (l : List ℕ) (k j v : ℕ) → ltb k 10 ≡ true → 10 ≤ j → getD (set l k v) j 0 ≡ getD l j 0
-below l k j v p h = other l k j v (λ e. omega (arith, ltb-true k 10 p))
+below : (l : List ℕ) (k j v : ℕ) → ltb k (kindColumn .base) ≡ true → kindColumn .base ≤ j → getD (set l k v) j 0 ≡ getD l j 0
+below l k j v p h = other l k j v (λ e. omega (arith, ltb-true k (kindColumn .base) p))
 
 module _ (nums : List ℕ) (a b d : ℕ) where
-  pub heads-beside : (j : ℕ) → 10 ≤ j → getD (withHeads nums a b d) j 0 ≡ getD nums j 0
+  pub heads-beside : (j : ℕ) → kindColumn .base ≤ j → getD (withHeads nums a b d) j 0 ≡ getD nums j 0
   unfolding withHeads
   heads-beside j h = simp below
 
   pub heads-stored : length nums ≡ numsSize → (j : ℕ) → getD (withHeads nums a b d) j 0 ≡
-      cond (eqb 9 j) ((instanceCount nums + d) % 2 ^ 32)
-      (cond (eqb 8 j) ((coreCount nums + b) % 2 ^ 32) (cond (eqb 7 j) ((nameCount nums + a) % 2 ^ 32) (cond (eqb 6 j) 1 (cond (eqb 2 j) ((lineCount nums + 1) % 2 ^ 32) (getD nums j 0)))))
+      cond (eqb instancesIndex j) ((instanceCount nums + d) % 2 ^ 32)
+      (cond (eqb coresIndex j) ((coreCount nums + b) % 2 ^ 32)
+      (cond (eqb namesIndex j) ((nameCount nums + a) % 2 ^ 32)
+      (cond (eqb startedIndex j) 1 (cond (eqb linesIndex j) ((lineCount nums + 1) % 2 ^ 32) (getD nums j 0)))))
   unfolding withHeads
   heads-stored z j = simp (single, length-set, z)

@@ -18,6 +18,7 @@ use Rattle.rules.specs.Event.{Event}
 use Rattle.rules.specs.History.{hasInstances, isTracked, activates}
 use Rattle.tables.specs.declared.find.Found.{Found}
 use Rattle.tables.specs.declared.find.Found.the-variants.{At, Nothing}
+use Rattle.tables.specs.Entry.{nameRows, instanceRows, nameRoom, kindColumn, lengthColumn, markColumn, numberColumn, numberedColumn, ownerColumn, instanceColumn, stateColumn}
 use Rattle.tables.specs.Entry.{namesSize, numsSize, verdictNumber, verdictLine, lineCount, scaleEntry, creatorEntry, dateEntry, startedEntry, nameCount, coreCount, instanceCount}
 use Rattle.tables.specs.Entry.{kindAt, lengthAt, markAt, numberAt, numberedAt, ownerAt, instanceAt, stateAt, nameAt}
 use Rattle.decide.specs.declared.happening.Happening.{Happening}
@@ -61,38 +62,38 @@ module _ (nums : List ℕ) (z : length nums ≡ numsSize) (s : Sight) (t : ℕ) 
   cored-size = length-withCore aimed (s .class) (coreRow nums s) (instanceRow nums s) ∙ aimed-size
 
   -- a column is not reached by the stores after its own
-  from-cored : (j : ℕ) → 10 ≤ j → getD (takenNums nums s t w n m) j 0 ≡ getD cored j 0
+  from-cored : (j : ℕ) → kindColumn .base ≤ j → getD (takenNums nums s t w n m) j 0 ≡ getD cored j 0
   unfolding takenNums
   from-cored j h = heads-beside cored _ _ _ j h
 
-  from-aimed : (j : ℕ) → 10 ≤ j → Outside 522 778 j → getD (takenNums nums s t w n m) j 0 ≡ getD aimed j 0
+  from-aimed : (j : ℕ) → kindColumn .base ≤ j → Outside markColumn markColumn j → getD (takenNums nums s t w n m) j 0 ≡ getD aimed j 0
   from-aimed j h out = from-cored j h ∙ core-beside aimed (s .class) (coreRow nums s) (instanceRow nums s) j out
 
-  from-filled : (j : ℕ) → 10 ≤ j → j < 522 → getD (takenNums nums s t w n m) j 0 ≡ getD filled j 0
+  from-filled : (j : ℕ) → kindColumn .base ≤ j → j < markColumn .base → getD (takenNums nums s t w n m) j 0 ≡ getD filled j 0
   from-filled j h k =
       from-aimed j h (λ l u. omega arith)
       ∙ target-beside filled filled-size (targetRow nums s) (instanceRow nums s) t w j (λ l u. omega arith)
 
   -- ---- by name
 
-  pub kind-taken : (r : ℕ) → r < 256 →
+  pub kind-taken : (r : ℕ) → r < nameRows →
       kindAt (takenNums nums s t w n m) r ≡ cond (isNewTarget nums s (w .kind) r) (w .kind) (cond (isNewCore nums s r) core (kindAt nums r))
-  kind-taken r h = from-filled (10 + r) (omega arith) (omega arith) ∙ rows-stored nums z s (w .kind) n m 10 (λ k c. k) row-kind r h
+  kind-taken r h = from-filled (kindColumn .base + r) (omega arith) (omega arith) ∙ rows-stored nums z s (w .kind) n m (kindColumn .base) (λ k c. k) row-kind r h
 
-  pub length-taken : (r : ℕ) → r < 256 →
+  pub length-taken : (r : ℕ) → r < nameRows →
       lengthAt (takenNums nums s t w n m) r ≡ cond (isNewTarget nums s (w .kind) r) (m % 2 ^ 32) (cond (isNewCore nums s r) (n % 2 ^ 32) (lengthAt nums r))
-  length-taken r h = from-filled (266 + r) (omega arith) (omega arith) ∙ rows-stored nums z s (w .kind) n m 266 (λ k c. c % 2 ^ 32) row-length r h
+  length-taken r h = from-filled (lengthColumn .base + r) (omega arith) (omega arith) ∙ rows-stored nums z s (w .kind) n m (lengthColumn .base) (λ k c. c % 2 ^ 32) row-length r h
 
-  pub mark-taken : (eqb (s .class) 0 ≡ false → instanceRow nums s < 1024) → (r : ℕ) → r < 256 →
+  pub mark-taken : (eqb (s .class) 0 ≡ false → instanceRow nums s < instanceRows) → (r : ℕ) → r < nameRows →
       markAt (takenNums nums s t w n m) r
       ≡ cond (not (eqb (s .class) 0) && eqb r (coreRow nums s)) (cond (eqb (s .class) 2) 1 (instanceRow nums s + 2))
       (cond (eqb (w .kind) semaphore && eqb r (targetRow nums s)) t (orNone nums s (w .kind) r (markAt nums r)))
   mark-taken k r h =
-      from-cored (522 + r) (omega arith)
+      from-cored (markColumn .base + r) (omega arith)
       ∙ core-mark aimed (s .class) (coreRow nums s) (instanceRow nums s) aimed-size k r h
-      ∙ rw (target-mark filled filled-size (targetRow nums s) (instanceRow nums s) t w r h, rows-stored nums z s (w .kind) n m 522 (λ k c. 0) row-mark r h)
+      ∙ rw (target-mark filled filled-size (targetRow nums s) (instanceRow nums s) t w r h, rows-stored nums z s (w .kind) n m (markColumn .base) (λ k c. 0) row-mark r h)
 
-  number-column : (d : ℕ) (value : ℕ → ℕ) → Fills d (λ k c. 0) → Counts d value → 778 ≤ d → d ≤ 1034 → (r : ℕ) → r < 256 →
+  number-column : (d : ℕ) (value : ℕ → ℕ) → Fills d (λ k c. 0) → Counts d value → numberColumn .base ≤ d → d ≤ numberedColumn .base → (r : ℕ) → r < nameRows →
       getD (takenNums nums s t w n m) (d + r) 0
       ≡ cond (eqb (w .kind) semaphore && eqb r (targetRow nums s)) (value (w .count))
       (cond (activates (w .kind) (w .word) && eqb r (targetRow nums s)) (value (w .number)) (orNone nums s (w .kind) r (getD nums (d + r) 0)))
@@ -101,23 +102,23 @@ module _ (nums : List ℕ) (z : length nums ≡ numsSize) (s : Sight) (t : ℕ) 
       ∙ target-number filled filled-size (targetRow nums s) (instanceRow nums s) t w d value c lo hi r h
       ∙ rw (rows-stored nums z s (w .kind) n m d (λ k c. 0) f r h)
 
-  pub number-taken : (r : ℕ) → r < 256 →
+  pub number-taken : (r : ℕ) → r < nameRows →
       numberAt (takenNums nums s t w n m) r
       ≡ cond (eqb (w .kind) semaphore && eqb r (targetRow nums s)) (w .count)
       (cond (activates (w .kind) (w .word) && eqb r (targetRow nums s)) (w .number) (orNone nums s (w .kind) r (numberAt nums r)))
-  number-taken = number-column 778 (λ c. c) row-number number-number (omega arith) (omega arith)
+  number-taken = number-column (numberColumn .base) (λ c. c) row-number number-number (omega arith) (omega arith)
 
-  pub numbered-taken : (r : ℕ) → r < 256 →
+  pub numbered-taken : (r : ℕ) → r < nameRows →
       numberedAt (takenNums nums s t w n m) r
       ≡ cond (eqb (w .kind) semaphore && eqb r (targetRow nums s)) 1
       (cond (activates (w .kind) (w .word) && eqb r (targetRow nums s)) 1 (orNone nums s (w .kind) r (numberedAt nums r)))
-  numbered-taken = number-column 1034 (λ c. 1) row-numbered number-numbered (omega arith) (omega arith)
+  numbered-taken = number-column (numberedColumn .base) (λ c. 1) row-numbered number-numbered (omega arith) (omega arith)
 
   -- ---- by instance
 
-  module _ (k : hasInstances (w .kind) ≡ true → targetRow nums s < 256) (q : ℕ) (h : q < 1024) where
-    instance-column : (d v : ℕ) → 1290 ≤ d →
-        ((l : List ℕ) → length l ≡ numsSize → targetRow nums s < 256 →
+  module _ (k : hasInstances (w .kind) ≡ true → targetRow nums s < nameRows) (q : ℕ) (h : q < instanceRows) where
+    instance-column : (d v : ℕ) → ownerColumn .base ≤ d →
+        ((l : List ℕ) → length l ≡ numsSize → targetRow nums s < nameRows →
         getD (storeInstance l (instanceRow nums s) (targetRow nums s) (w .number) t) (d + q) 0 ≡ cond (eqb q (instanceRow nums s)) v (getD l (d + q) 0)) →
         getD (takenNums nums s t w n m) (d + q) 0 ≡ cond (isInstance nums s (w .kind) q) v (getD nums (d + q) 0)
     instance-column d v lo f =
@@ -126,17 +127,17 @@ module _ (nums : List ℕ) (z : length nums ≡ numsSize) (s : Sight) (t : ℕ) 
         ∙ rw (rows-beside nums z s (w .kind) n m (d + q) (λ l u. omega arith))
 
     pub owner-taken : ownerAt (takenNums nums s t w n m) q ≡ cond (isInstance nums s (w .kind) q) (targetRow nums s) (ownerAt nums q)
-    owner-taken = instance-column 1290 (targetRow nums s) (omega arith) (λ l y o. instance-owner l y (instanceRow nums s) (targetRow nums s) q o h (w .number) t)
+    owner-taken = instance-column (ownerColumn .base) (targetRow nums s) (omega arith) (λ l y o. instance-owner l y (instanceRow nums s) (targetRow nums s) q o h (w .number) t)
 
     pub instance-taken : instanceAt (takenNums nums s t w n m) q ≡ cond (isInstance nums s (w .kind) q) (w .number) (instanceAt nums q)
-    instance-taken = instance-column 2314 (w .number) (omega arith) (λ l y o. instance-number l y (instanceRow nums s) (targetRow nums s) q o h (w .number) t)
+    instance-taken = instance-column (instanceColumn .base) (w .number) (omega arith) (λ l y o. instance-number l y (instanceRow nums s) (targetRow nums s) q o h (w .number) t)
 
     pub state-taken : stateAt (takenNums nums s t w n m) q ≡ cond (isInstance nums s (w .kind) q) t (stateAt nums q)
-    state-taken = instance-column 3338 t (omega arith) (λ l y o. instance-state l y (instanceRow nums s) (targetRow nums s) q o h (w .number) t)
+    state-taken = instance-column (stateColumn .base) t (omega arith) (λ l y o. instance-state l y (instanceRow nums s) (targetRow nums s) q o h (w .number) t)
 
   -- ---- single entries
 
-  cored-head : (j : ℕ) → j < 10 → getD cored j 0 ≡ getD nums j 0
+  cored-head : (j : ℕ) → j < kindColumn .base → getD cored j 0 ≡ getD nums j 0
   cored-head j h =
       core-beside aimed (s .class) (coreRow nums s) (instanceRow nums s) j (λ l u. omega arith)
       ∙ target-beside filled filled-size (targetRow nums s) (instanceRow nums s) t w j (λ l u. omega arith)
@@ -202,29 +203,29 @@ written-after (v ∷ vs) l at n k h =
     ∙ take-set-le k (drop n l) (at - n) v (omega arith)
 
 module _ (names : List ℕ) (i : ℕ) (name : List ℕ) (f : length name ≤ 64) where
-  name-beside : (r k : ℕ) → k ≤ 64 → eqb r i ≡ false → take k (drop (64 * r) (storeName names i name)) ≡ take k (drop (64 * r) names)
+  name-beside : (r k : ℕ) → k ≤ 64 → eqb r i ≡ false → take k (drop (nameRoom * r) (storeName names i name)) ≡ take k (drop (nameRoom * r) names)
   unfolding storeName put
-  name-beside r k h e = by-test (ltb i 256) (leb (64 * i + length name) (length names))
+  name-beside r k h e = by-test (ltb i nameRows) (leb (nameRoom * i + length name) (length names))
     where
-      by-side : (r < i) ⊎ (i ≤ r) → take k (drop (64 * r) (written names (64 * i) name)) ≡ take k (drop (64 * r) names)
-      by-side (inl l) = written-after name names (64 * i) (64 * r) k (omega arith)
-      by-side (inr l) = let d = eqb-false r i e in written-before name names (64 * i) (64 * r) k (omega arith)
+      by-side : (r < i) ⊎ (i ≤ r) → take k (drop (nameRoom * r) (written names (nameRoom * i) name)) ≡ take k (drop (nameRoom * r) names)
+      by-side (inl l) = written-after name names (nameRoom * i) (nameRoom * r) k (omega arith)
+      by-side (inr l) = let d = eqb-false r i e in written-before name names (nameRoom * i) (nameRoom * r) k (omega arith)
 
       by-test : (a b : Bool) →
-          take k (drop (64 * r) (cond a (cond b (after (64 * i + length name) (written names (64 * i) name)) (after (64 * i) names) .output) names)) ≡ take k (drop (64 * r) names)
+          take k (drop (nameRoom * r) (cond a (cond b (after (nameRoom * i + length name) (written names (nameRoom * i) name)) (after (nameRoom * i) names) .output) names)) ≡ take k (drop (nameRoom * r) names)
       by-test true true = by-side (lt-or-ge r i)
       by-test true false = refl
       by-test false b = refl
 
-  name-own : length names ≡ namesSize → i < 256 → take (length name) (drop (64 * i) (storeName names i name)) ≡ name
+  name-own : length names ≡ namesSize → i < nameRows → take (length name) (drop (nameRoom * i) (storeName names i name)) ≡ name
   unfolding storeName
   name-own z h =
       let fits : 64 * i + length name ≤ length names = omega arith in
-      let front : length (take (64 * i) names) ≡ 64 * i = length-take-le (64 * i) names (omega arith) in
-      rw (lt-ltb i 256 h, put-fits names (64 * i) name fits, written-parts names (64 * i) name fits, append-assoc, drop-at (take (64 * i) names) _ (64 * i) front)
+      let front : length (take (nameRoom * i) names) ≡ 64 * i = length-take-le (nameRoom * i) names (omega arith) in
+      rw (lt-ltb i nameRows h, put-fits names (nameRoom * i) name fits, written-parts names (nameRoom * i) name fits, append-assoc, drop-at (take (nameRoom * i) names) _ (nameRoom * i) front)
       (take-append-seam name _)
 
-  name-if : (b : Bool) (r k : ℕ) → k ≤ 64 → b && eqb r i ≡ false → take k (drop (64 * r) (cond b (storeName names i name) names)) ≡ take k (drop (64 * r) names)
+  name-if : (b : Bool) (r k : ℕ) → k ≤ 64 → b && eqb r i ≡ false → take k (drop (nameRoom * r) (cond b (storeName names i name) names)) ≡ take k (drop (nameRoom * r) names)
   name-if true r k h e = name-beside r k h e
   name-if false r k h e = refl
 
@@ -242,21 +243,21 @@ module _ (names nums : List ℕ) (s : Sight) (e : Event) (f : length (e .source)
   abbrev cores-named : List ℕ
   cores-named = cond (eqb (newCore s) 1) (storeName names (nameCount nums) (e .source)) names
 
-  bytes-beside : (r k : ℕ) → k ≤ 64 → isNewTarget nums s (e .kind) r ≡ false → take k (drop (64 * r) (takenNames names nums s e)) ≡ take k (drop (64 * r) cores-named)
+  bytes-beside : (r k : ℕ) → k ≤ 64 → isNewTarget nums s (e .kind) r ≡ false → take k (drop (nameRoom * r) (takenNames names nums s e)) ≡ take k (drop (nameRoom * r) cores-named)
   unfolding takenNames
   bytes-beside r k h p = name-if cores-named (targetRow nums s) (e .target) g (eqb (newName s (e .kind)) 1) r k h p
 
   bytes-kept : (r k : ℕ) → k ≤ 64 → isNewTarget nums s (e .kind) r ≡ false → isNewCore nums s r ≡ false →
-      take k (drop (64 * r) (takenNames names nums s e)) ≡ take k (drop (64 * r) names)
+      take k (drop (nameRoom * r) (takenNames names nums s e)) ≡ take k (drop (nameRoom * r) names)
   bytes-kept r k h p q = bytes-beside r k h p ∙ name-if names (nameCount nums) (e .source) f (eqb (newCore s) 1) r k h q
 
   module _ (z : length names ≡ namesSize) where
-    bytes-core : newCore s ≡ 1 → nameCount nums < 256 → take (length (e .source)) (drop (64 * nameCount nums) (takenNames names nums s e)) ≡ e .source
+    bytes-core : newCore s ≡ 1 → nameCount nums < nameRows → take (length (e .source)) (drop (nameRoom * nameCount nums) (takenNames names nums s e)) ≡ e .source
     bytes-core p h =
         bytes-beside (nameCount nums) (length (e .source)) f (new-apart nums s (e .kind) p)
         ∙ rw p (name-own names (nameCount nums) (e .source) f z h)
 
-    bytes-target : newName s (e .kind) ≡ 1 → targetRow nums s < 256 → take (length (e .target)) (drop (64 * targetRow nums s) (takenNames names nums s e)) ≡ e .target
+    bytes-target : newName s (e .kind) ≡ 1 → targetRow nums s < nameRows → take (length (e .target)) (drop (nameRoom * targetRow nums s) (takenNames names nums s e)) ≡ e .target
     unfolding takenNames
     bytes-target p h =
         rw p (name-own cores-named (targetRow nums s) (e .target) g (length-if (eqb (newCore s) 1) _ names (length-storeName names (nameCount nums) (e .source)) ∙ z) h)
@@ -276,24 +277,24 @@ module _ (names nums : List ℕ) (y : length names ≡ namesSize) (z : length nu
 
   -- the bytes and the length make the name
   named : (r : ℕ) (n : List ℕ) → lengthAt (takenNums nums s t w (length source) (length target)) r ≡ length n →
-      take (length n) (drop (64 * r) (takenNames names nums s e)) ≡ n → NameNext r n
+      take (length n) (drop (nameRoom * r) (takenNames names nums s e)) ≡ n → NameNext r n
   named r n k b = (rw k b, k)
 
   -- a row that is not new keeps its name
-  pub name-kept : (r : ℕ) (n : List ℕ) → r < 256 → isNewTarget nums s (w .kind) r ≡ false → isNewCore nums s r ≡ false →
+  pub name-kept : (r : ℕ) (n : List ℕ) → r < nameRows → isNewTarget nums s (w .kind) r ≡ false → isNewCore nums s r ≡ false →
       length n ≤ 64 → nameAt names nums r ≡ n → lengthAt nums r ≡ length n → NameNext r n
   name-kept r n h p q l b k =
       named r n (length-taken nums z s t w (length source) (length target) r h ∙ rw (p, q) k)
       (bytes-kept names nums s e f g r (length n) l p q ∙ rw k at b)
 
-  pub name-of-core : newCore s ≡ 1 → nameCount nums < 256 → NameNext (nameCount nums) source
+  pub name-of-core : newCore s ≡ 1 → nameCount nums < nameRows → NameNext (nameCount nums) source
   name-of-core p h =
       named (nameCount nums) source
       (length-taken nums z s t w (length source) (length target) (nameCount nums) h
       ∙ rw (new-apart nums s (w .kind) p, p, eq-eqb (nameCount nums) (nameCount nums) refl) (omega arith))
       (bytes-core names nums s e f g y p h)
 
-  pub name-of-target : newName s (w .kind) ≡ 1 → targetRow nums s < 256 → NameNext (targetRow nums s) target
+  pub name-of-target : newName s (w .kind) ≡ 1 → targetRow nums s < nameRows → NameNext (targetRow nums s) target
   name-of-target p h =
       named (targetRow nums s) target
       (length-taken nums z s t w (length source) (length target) (targetRow nums s) h

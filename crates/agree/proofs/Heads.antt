@@ -8,6 +8,8 @@ use native.Mathlib.Omega.{arith}
 use lib.ListN.{length, getD, take, drop}
 use Rattle.rules.specs.Event.{Event, Instance}
 use Rattle.rules.specs.Rows.{opened}
+use Rattle.tables.specs.Entry.{nameRoom, startedIndex, namesIndex, coresIndex, instancesIndex}
+use Rattle.tables.specs.Entry.{kindColumn, lengthColumn, markColumn, numberColumn, numberedColumn, ownerColumn, instanceColumn, stateColumn}
 use Rattle.judge.specs.Feed.{tables}
 use Rattle.agree.specs.Shown.{HeadShown, NameShown, InstanceShown, Shown}
 
@@ -19,32 +21,32 @@ AgreeFrom i nums nums' = (j : ℕ) → i ≤ j → getD nums' j 0 ≡ getD nums 
 module _ (h : List Event) (names nums nums' ticks : List ℕ) (g : AgreeFrom 6 nums nums') where
   head-later : HeadShown h nums ticks → HeadShown h nums' ticks
   head-later s = record {
-    started = g 6 (omega arith) ∙ s .started;
-    names-counted = g 7 (omega arith) ∙ s .names-counted;
-    cores-counted = g 8 (omega arith) ∙ s .cores-counted;
-    instances-counted = g 9 (omega arith) ∙ s .instances-counted;
+    started = g startedIndex (omega arith) ∙ s .started;
+    names-counted = g namesIndex (omega arith) ∙ s .names-counted;
+    cores-counted = g coresIndex (omega arith) ∙ s .cores-counted;
+    instances-counted = g instancesIndex (omega arith) ∙ s .instances-counted;
     first = s .first;
     last = s .last;
   }
 
   name-later : (i : ℕ) (n : List ℕ) → NameShown h names nums i n → NameShown h names nums' i n
   name-later i n s =
-      let k = g (10 + i) (omega arith) in
-      let d = g (1034 + i) (omega arith) in
+      let k = g (kindColumn .base + i) (omega arith) in
+      let d = g (numberedColumn .base + i) (omega arith) in
       record {
-        name = ap (λ m. take m (drop (64 * i) names)) (g (266 + i) (omega arith)) ∙ s .name;
-        size = g (266 + i) (omega arith) ∙ s .size;
+        name = ap (λ m. take m (drop (nameRoom * i) names)) (g (lengthColumn .base + i) (omega arith)) ∙ s .name;
+        size = g (lengthColumn .base + i) (omega arith) ∙ s .size;
         kind = s .kind ∙ ap some (sym k);
-        mark = rw (k, g (522 + i) (omega arith)) (s .mark);
+        mark = rw (k, g (markColumn .base + i) (omega arith)) (s .mark);
         numbered = rw d (s .numbered);
-        number = rw (d, g (778 + i) (omega arith), k) (s .number);
+        number = rw (d, g (numberColumn .base + i) (omega arith), k) (s .number);
       }
 
   instance-later : (j : ℕ) (x : Instance) → InstanceShown h nums j x → InstanceShown h nums' j x
   instance-later j x s = record {
-    owner = g (1290 + j) (omega arith) ∙ s .owner;
-    number = g (2314 + j) (omega arith) ∙ s .number;
-    state = ap opened (g (3338 + j) (omega arith)) ∙ s .state;
+    owner = g (ownerColumn .base + j) (omega arith) ∙ s .owner;
+    number = g (instanceColumn .base + j) (omega arith) ∙ s .number;
+    state = ap opened (g (stateColumn .base + j) (omega arith)) ∙ s .state;
   }
 
   pub shown-later : length nums' ≡ length nums → Shown h (tables names nums ticks) → Shown h (tables names nums' ticks)

@@ -23,6 +23,7 @@ use Rattle.rules.proofs.CoreWords.{on-process}
 use Rattle.rules.proofs.Steps.{step-state}
 use Rattle.tables.specs.declared.find.Found.{Found}
 use Rattle.tables.specs.declared.find.Found.the-variants.{Nothing}
+use Rattle.tables.specs.Entry.{stateColumn}
 use Rattle.decide.specs.Known.{markIn, entryOf, stateIn, numberKnown, coreIn, knownBy}
 use Rattle.decide.specs.Decide.{enters}
 use Rattle.decide.proofs.Classes.{class-on}
@@ -81,13 +82,13 @@ module _ (h : List Event) (a : Accepted h) (met : AllMet h) (t : Tables) (s : Sh
       the-semaphore q = rw (q, eqb-true (e .kind) semaphore q)
 
       by-kind : (b : Bool) → eqb (e .kind) semaphore ≡ b → (i : Bool) → hasInstances (e .kind) ≡ i →
-          opened (cond b (markIn (t .nums) (sightIn h e .target)) (entryOf (t .nums) 3338 1024 (sightIn h e .instance))) ≡ stateOf (instanceOf e) h
+          opened (cond b (markIn (t .nums) (sightIn h e .target)) (entryOf stateColumn (t .nums) (sightIn h e .instance))) ≡ stateOf (instanceOf e) h
       by-kind true q i r =
           let k = semaphore-tracked (e .kind) q in
           ap (λ (x : Found). opened (markIn (t .nums) x)) (target-asked h e k)
           ∙ semaphore-told h a t s (e .target) (subst (Only (kindOf (e .target) h)) (eqb-true (e .kind) semaphore q) (target-is h e f k))
           ∙ ap (λ (x : Instance). stateOf x h) (the-semaphore q)
-      by-kind false q true r = ap (λ (x : Found). opened (entryOf (t .nums) 3338 1024 x)) (instance-asked h e r) ∙ state-told h a t s (all-worded h met) (instanceOf e) r
+      by-kind false q true r = ap (λ (x : Found). opened (entryOf stateColumn (t .nums) x)) (instance-asked h e r) ∙ state-told h a t s (all-worded h met) (instanceOf e) r
       by-kind false q false r = rw (instance-unasked h e r, chartless (e .kind) q r) (sym (stateless (wordsOf (instanceOf e) h)))
 
   pub chart-agrees : offChart (knownBy (t .nums) (t .ticks) (sightIn h e) e) e ≡ offChart (look h e) e

@@ -10,7 +10,7 @@ use lib.ListN.{length, getD, set, length-set}
 use borrow.Author.Tests.{eqb-true, eqb-false, eq-eqb, ne-eqb, lt-ltb}
 use Rattle.tables.specs.declared.find.Found.{Found}
 use Rattle.tables.specs.declared.find.Found.the-variants.{At, Nothing}
-use Rattle.tables.specs.Entry.{ticksSize, startedEntry, nameCount, firstTime, lastTime, heldAt, idleAt, unknownAt, sinceAt}
+use Rattle.tables.specs.Entry.{storeAt, nameRows, heldColumn, idleColumn, unknownColumn, sinceColumn, ticksSize, startedEntry, nameCount, firstTime, lastTime, heldAt, idleAt, unknownAt, sinceAt}
 use Rattle.tables.proofs.Stores.{same, other, entry}
 use Rattle.decide.specs.declared.sight.Sight.{Sight}
 use Rattle.decide.specs.Known.{oneNew, newCore, newName}
@@ -37,10 +37,10 @@ sumsAt ticks r = sums (heldAt ticks r) (idleAt ticks r) (unknownAt ticks r) (sin
 
 -- the entry of the row i in the column b of the four
 abbrev inColumn : ℕ → ℕ → ℕ
-inColumn b i = 2 + 256 * b + i
+inColumn b i = heldColumn .base + nameRows * b + i
 
 -- columns do not meet
-column-test : (b d i r : ℕ) → i < 256 → r < 256 → eqb (inColumn b i) (inColumn d r) ≡ eqb b d && eqb i r
+column-test : (b d i r : ℕ) → i < nameRows → r < nameRows → eqb (inColumn b i) (inColumn d r) ≡ eqb b d && eqb i r
 column-test b d i r p q = by-tests (eqb b d) refl (eqb i r) refl
   where
     by-tests : (x : Bool) → eqb b d ≡ x → (y : Bool) → eqb i r ≡ y → eqb (inColumn b i) (inColumn d r) ≡ x && y
@@ -54,7 +54,7 @@ stored b i v r s =
     sums (cond (eqb b 0 && eqb i r) v (s .held)) (cond (eqb b 1 && eqb i r) v (s .idle)) (cond (eqb b 2 && eqb i r) v (s .unknown))
     (cond (eqb b 3 && eqb i r) v (s .since))
 
-sums-stored : (l : List ℕ) → length l ≡ ticksSize → (b i v r : ℕ) → b < 4 → i < 256 → r < 256 → sumsAt (set l (inColumn b i) v) r ≡ stored b i v r (sumsAt l r)
+sums-stored : (l : List ℕ) → length l ≡ ticksSize → (b i v r : ℕ) → b < 4 → i < nameRows → r < nameRows → sumsAt (set l (inColumn b i) v) r ≡ stored b i v r (sumsAt l r)
 sums-stored l z b i v r f p q = λ k. sums (at 0 k) (at 1 k) (at 2 k) (at 3 k)
   where
     at : (d : ℕ) → getD (set l (inColumn b i) v) (inColumn d r) 0 ≡ cond (eqb b d && eqb i r) v (getD l (inColumn d r) 0)
@@ -62,14 +62,14 @@ sums-stored l z b i v r f p q = λ k. sums (at 0 k) (at 1 k) (at 2 k) (at 3 k)
 
 -- ---- the rows of new names
 
-begun : (l : List ℕ) → length l ≡ ticksSize → (i unknown since r : ℕ) → i < 256 → r < 256 →
+begun : (l : List ℕ) → length l ≡ ticksSize → (i unknown since r : ℕ) → i < nameRows → r < nameRows →
     sumsAt (storeSums l i unknown since) r ≡ cond (eqb i r) (sums 0 0 unknown since) (sumsAt l r)
 unfolding storeSums
 begun l z i unknown since r p q =
-    let one = set l (2 + i) 0 in
-    let two = set one (258 + i) 0 in
-    let three = set two (514 + i) unknown in
-    rw (lt-ltb i 256 p)
+    let one = storeAt heldColumn l i 0 in
+    let two = storeAt idleColumn one i 0 in
+    let three = storeAt unknownColumn two i unknown in
+    rw (lt-ltb i nameRows p)
     (sums-stored three (simp length-set z) 3 i since r (omega arith) p q
     ∙ ap (stored 3 i since r) (sums-stored two (simp length-set z) 2 i unknown r (omega arith) p q)
     ∙ ap (λ (s : Sums). stored 3 i since r (stored 2 i unknown r s)) (sums-stored one (simp length-set z) 1 i 0 r (omega arith) p q)
@@ -95,20 +95,20 @@ targetSettled class ticks s = cond (eqb class 2) (sums ((s .held + ticks) % 2 ^ 
 
 settled-off : (l : List ℕ) (class i p time : ℕ) → eqb class 1 ≡ false → eqb class 2 ≡ false → settled l class i p time ≡ l
 unfolding settled
-settled-off l class i p time q u = rw (q, u, alike (ltb i 256 && ltb p 256) l)
+settled-off l class i p time q u = rw (q, u, alike (ltb i nameRows && ltb p nameRows) l)
 
 -- the row r of a list after another is settled to the rows i and p
 abbrev settledAt : List ℕ → ℕ → ℕ → ℕ → ℕ → ℕ → Sums
 settledAt l class i p time r =
     cond (eqb i r) (coreSettled class time (sumsAt l r)) (cond (eqb p r) (targetSettled class (time - sinceAt l i) (sumsAt l r)) (sumsAt l r))
 
-module _ (l : List ℕ) (z : length l ≡ ticksSize) (i p time r : ℕ) (n : i < 256) (m : p < 256) (k : r < 256) where
+module _ (l : List ℕ) (z : length l ≡ ticksSize) (i p time r : ℕ) (n : i < nameRows) (m : p < nameRows) (k : r < nameRows) where
   by-taking : sumsAt (settled l 1 i p time) r ≡ settledAt l 1 i p time r
   unfolding settled
   by-taking =
       let v = (idleAt l i + (time - sinceAt l i)) % 2 ^ 64 in
-      rw (lt-ltb i 256 n, lt-ltb p 256 m)
-      (sums-stored (set l (258 + i) v) (simp length-set z) 3 i time r (omega arith) n k
+      rw (lt-ltb i nameRows n, lt-ltb p nameRows m)
+      (sums-stored (storeAt idleColumn l i v) (simp length-set z) 3 i time r (omega arith) n k
       ∙ ap (stored 3 i time r) (sums-stored l z 1 i v r (omega arith) n k)
       ∙ by-row (eqb i r) refl (eqb p r))
     where
@@ -122,11 +122,11 @@ module _ (l : List ℕ) (z : length l ≡ ticksSize) (i p time r : ℕ) (n : i <
   by-giving : (i ≡ p → ⊥) → sumsAt (settled l 2 i p time) r ≡ settledAt l 2 i p time r
   unfolding settled
   by-giving d =
-      let one = set l (2 + i) ((heldAt l i + (time - sinceAt l i)) % 2 ^ 64) in
+      let one = storeAt heldColumn l i ((heldAt l i + (time - sinceAt l i)) % 2 ^ 64) in
       let v = (heldAt l p + (time - sinceAt l i)) % 2 ^ 64 in
-      let before : heldAt one p ≡ heldAt l p = other l (2 + i) (2 + p) _ (λ q. d (omega arith)) in
-      rw (lt-ltb i 256 n, lt-ltb p 256 m, before)
-      (sums-stored (set one (2 + p) v) (simp length-set z) 3 i time r (omega arith) n k
+      let before : heldAt one p ≡ heldAt l p = other l (heldColumn .base + i) (heldColumn .base + p) _ (λ q. d (omega arith)) in
+      rw (lt-ltb i nameRows n, lt-ltb p nameRows m, before)
+      (sums-stored (storeAt heldColumn one p v) (simp length-set z) 3 i time r (omega arith) n k
       ∙ ap (stored 3 i time r) (sums-stored one (simp length-set z) 0 p v r (omega arith) m k)
       ∙ ap (λ (s : Sums). stored 3 i time r (stored 0 p v r s)) (sums-stored l z 0 i ((heldAt l i + (time - sinceAt l i)) % 2 ^ 64) r (omega arith) n k)
       ∙ by-row (eqb i r) refl (eqb p r) refl)
@@ -151,10 +151,10 @@ module _ (l : List ℕ) (z : length l ≡ ticksSize) (i p time r : ℕ) (n : i <
 -- ---- what the tables must have for the stores to be made: rows in range, and the core's and the target's apart
 
 pub record Rows (nums : List ℕ) (s : Sight) (kind : ℕ) : Type 0 where
-  pub core : eqb (s .class) 0 ≡ false → coreRow nums s < 256
-  pub target : eqb (s .class) 0 ≡ false → targetRow nums s < 256
+  pub core : eqb (s .class) 0 ≡ false → coreRow nums s < nameRows
+  pub target : eqb (s .class) 0 ≡ false → targetRow nums s < nameRows
   pub apart : eqb (s .class) 0 ≡ false → coreRow nums s ≡ targetRow nums s → ⊥
-  pub new-name : newName s kind ≡ 1 → targetRow nums s < 256
+  pub new-name : newName s kind ≡ 1 → targetRow nums s < nameRows
 
 -- a new core is the next name
 new-core : (nums : List ℕ) (s : Sight) → newCore s ≡ 1 → (eqb (s .class) 0 ≡ false) × (coreRow nums s ≡ nameCount nums)
@@ -178,20 +178,20 @@ either-kept false l m n q r = r
 first-begun : (l : List ℕ) (i unknown since : ℕ) → firstTime (storeSums l i unknown since) ≡ firstTime l
 unfolding storeSums
 first-begun l i unknown since =
-    let a : 0 < 2 + i = omega arith in
-    let b : 0 < 258 + i = omega arith in
-    let c : 0 < 514 + i = omega arith in
-    let d : 0 < 770 + i = omega arith in
-    either-kept (ltb i 256) l _ l (simp first-kept) refl
+    let a : 0 < heldColumn .base + i = omega arith in
+    let b : 0 < idleColumn .base + i = omega arith in
+    let c : 0 < unknownColumn .base + i = omega arith in
+    let d : 0 < sinceColumn .base + i = omega arith in
+    either-kept (ltb i nameRows) l _ l (simp first-kept) refl
 
 first-settled : (l : List ℕ) (class i p time : ℕ) → firstTime (settled l class i p time) ≡ firstTime l
 unfolding settled
 first-settled l class i p time =
-    let a : 0 < 2 + i = omega arith in
-    let b : 0 < 2 + p = omega arith in
-    let c : 0 < 258 + i = omega arith in
-    let d : 0 < 770 + i = omega arith in
-    either-kept (ltb i 256 && ltb p 256) l _ l
+    let a : 0 < heldColumn .base + i = omega arith in
+    let b : 0 < heldColumn .base + p = omega arith in
+    let c : 0 < idleColumn .base + i = omega arith in
+    let d : 0 < sinceColumn .base + i = omega arith in
+    either-kept (ltb i nameRows && ltb p nameRows) l _ l
     (either-kept (eqb class 1) l _ _ (simp first-kept) (either-kept (eqb class 2) l _ l (simp first-kept) refl))
     refl
 
@@ -252,7 +252,7 @@ module _ (ticks nums : List ℕ) (z : length ticks ≡ ticksSize) (s : Sight) (k
 
   module _ (rows : Rows nums s kind) where
     -- the rows of new names begin anew
-    new-sums : (r : ℕ) → r < 256 → sumsAt (withSums ticks nums s kind time) r
+    new-sums : (r : ℕ) → r < nameRows → sumsAt (withSums ticks nums s kind time) r
         ≡ cond (eqb (newName s kind) 1 && eqb (targetRow nums s) r) (sums 0 0 0 0)
         (cond (eqb (newCore s) 1 && eqb (coreRow nums s) r) (sums 0 0 (unknownBefore ticks nums time) time) (sumsAt ticks r))
     unfolding withSums
@@ -292,7 +292,7 @@ module _ (ticks nums : List ℕ) (z : length ticks ≡ ticksSize) (s : Sight) (k
         by-tests false true = refl
         by-tests false false = refl
 
-    settled-row : eqb (s .class) 0 ≡ false → (r : ℕ) → r < 256 → sumsAt (takenTicks ticks nums s kind time) r
+    settled-row : eqb (s .class) 0 ≡ false → (r : ℕ) → r < nameRows → sumsAt (takenTicks ticks nums s kind time) r
         ≡ settledAt (withSums ticks nums s kind time) (s .class) (coreRow nums s) (targetRow nums s) time r
     unfolding summed
     settled-row c r k =
@@ -336,7 +336,7 @@ module _ (ticks nums : List ℕ) (z : length ticks ≡ ticksSize) (s : Sight) (k
     core-settled c n = settled-core c ∙ rw n
 
     -- the target's row: what a core had that it gives back, and nothing of a new one
-    target-begun : targetRow nums s < 256 → sumsAt (withSums ticks nums s kind time) (targetRow nums s)
+    target-begun : targetRow nums s < nameRows → sumsAt (withSums ticks nums s kind time) (targetRow nums s)
         ≡ cond (eqb (newName s kind) 1) (sums 0 0 0 0) (sumsAt ticks (targetRow nums s))
     target-begun k =
         new-sums (targetRow nums s) k
@@ -350,7 +350,7 @@ module _ (ticks nums : List ℕ) (z : length ticks ≡ ticksSize) (s : Sight) (k
         by-tests false true q = rw (ne-eqb (coreRow nums s) (targetRow nums s) (rows .apart (new-core nums s (eqb-true (newCore s) 1 q) .0)))
         by-tests false false q = refl
 
-    pub target-settled : targetRow nums s < 256 → sumsAt (takenTicks ticks nums s kind time) (targetRow nums s)
+    pub target-settled : targetRow nums s < nameRows → sumsAt (takenTicks ticks nums s kind time) (targetRow nums s)
         ≡ targetSettled (s .class) (cond (eqb (newCore s) 1) 0 (time - sinceAt ticks (coreRow nums s)))
         (cond (eqb (newName s kind) 1) (sums 0 0 0 0) (sumsAt ticks (targetRow nums s)))
     target-settled k = by-class (eqb (s .class) 0) refl
@@ -374,7 +374,7 @@ module _ (ticks nums : List ℕ) (z : length ticks ≡ ticksSize) (s : Sight) (k
             (ap (λ (u : Sums). time - u .since) (core-begun q) ∙ by-new (eqb (newCore s) 1)))
 
     -- every other row
-    pub row-kept : (r : ℕ) → r < 256 → (eqb (s .class) 0 ≡ false → (coreRow nums s ≡ r → ⊥) × (targetRow nums s ≡ r → ⊥)) →
+    pub row-kept : (r : ℕ) → r < nameRows → (eqb (s .class) 0 ≡ false → (coreRow nums s ≡ r → ⊥) × (targetRow nums s ≡ r → ⊥)) →
         (newName s kind ≡ 1 → targetRow nums s ≡ r → ⊥) →
         sumsAt (takenTicks ticks nums s kind time) r ≡ sumsAt ticks r
     row-kept r k f g = by-class (eqb (s .class) 0) refl

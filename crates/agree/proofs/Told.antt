@@ -22,7 +22,7 @@ use Rattle.rules.proofs.CoreRuns.{unseen-none}
 use Rattle.rules.proofs.Seen.{Worded, first-seen}
 use Rattle.rules.proofs.Tests.{clash}
 use Rattle.rules.proofs.Tracked.{kind-named, named-kind}
-use Rattle.tables.specs.Entry.{kindAt}
+use Rattle.tables.specs.Entry.{Column, column, entryAt, nameRows, kindColumn, markColumn, numberColumn, numberedColumn, stateColumn, kindAt}
 use Rattle.decide.specs.Known.{entryOf, kindIn, markIn, numberKnown}
 use Rattle.judge.specs.Feed.{Tables}
 use Rattle.agree.specs.Places.{place, seek, rowOf}
@@ -33,12 +33,12 @@ use Rattle.agree.proofs.Untold.{semaphore-tracked, no-number, no-count,
 
 -- ---- an entry of the row that was found
 
-module _ {A : Type 0} (f : A → Bool) (xs : List A) (nums : List ℕ) (base rows : ℕ) where
-  entry-there : length xs ≤ rows → any f xs ≡ true → entryOf nums base rows (seek f xs) ≡ getD nums (base + place f xs) 0
+module _ {A : Type 0} (f : A → Bool) (xs : List A) (nums : List ℕ) (c : Column) where
+  entry-there : length xs ≤ c .rows → any f xs ≡ true → entryOf c nums (seek f xs) ≡ entryAt c nums (place f xs)
   unfolding seek entryOf
-  entry-there l q = let b = place-bound f xs q in rw (q, lt-ltb (place f xs) rows (omega arith))
+  entry-there l q = let b = place-bound f xs q in rw (q, lt-ltb (place f xs) (c .rows) (omega arith))
 
-  entry-absent : any f xs ≡ false → entryOf nums base rows (seek f xs) ≡ 0
+  entry-absent : any f xs ≡ false → entryOf c nums (seek f xs) ≡ 0
   unfolding seek entryOf
   entry-absent q = rw q
 
@@ -60,11 +60,11 @@ module _ (h : List Event) (a : Accepted h) (t : Tables) (s : Shown h t) where
   -- ---- names
 
   module _ (n : List ℕ) where
-    in-row : (base : ℕ) → any (sameBytes n) (names h) ≡ true → entryOf (t .nums) base 256 (seek (sameBytes n) (names h)) ≡ getD (t .nums) (base + rowOf h n) 0
-    in-row base q = entry-there (sameBytes n) (names h) (t .nums) base 256 (all-fit h a .names-fit) q
+    in-row : (base : ℕ) → let c = column base nameRows in any (sameBytes n) (names h) ≡ true → entryOf c (t .nums) (seek (sameBytes n) (names h)) ≡ entryAt c (t .nums) (rowOf h n)
+    in-row base q = entry-there (sameBytes n) (names h) (t .nums) (column base nameRows) (all-fit h a .names-fit) q
 
-    in-none : (base : ℕ) → any (sameBytes n) (names h) ≡ false → entryOf (t .nums) base 256 (seek (sameBytes n) (names h)) ≡ 0
-    in-none base q = entry-absent (sameBytes n) (names h) (t .nums) base 256 q
+    in-none : (c : Column) → any (sameBytes n) (names h) ≡ false → entryOf c (t .nums) (seek (sameBytes n) (names h)) ≡ 0
+    in-none c q = entry-absent (sameBytes n) (names h) (t .nums) c q
 
     pub kind-told : opened (kindIn (t .nums) (seek (sameBytes n) (names h))) ≡ kindOf n h
     kind-told = by-test (any (sameBytes n) (names h)) refl
@@ -73,8 +73,8 @@ module _ (h : List Event) (a : Accepted h) (t : Tables) (s : Shown h t) where
         by-test true q =
             let k = name-kind h n q in
             let z : k .0 ≡ kindAt (t .nums) (rowOf h n) = cc (k .1, s .each-name n q .kind) in
-            ap opened (in-row 10 q) ∙ opened-some (kindAt (t .nums) (rowOf h n)) (omega (arith, k .2)) ∙ sym (s .each-name n q .kind)
-        by-test false q = ap opened (in-none 10 q) ∙ sym (kind-named h n q)
+            ap opened (in-row (kindColumn .base) q) ∙ opened-some (kindAt (t .nums) (rowOf h n)) (omega (arith, k .2)) ∙ sym (s .each-name n q .kind)
+        by-test false q = ap opened (in-none kindColumn q) ∙ sym (kind-named h n q)
 
     -- a row of the name has the kind that 9 leaves
     kind-there : (k : ℕ) → Only (kindOf n h) k → any (sameBytes n) (names h) ≡ true → kindAt (t .nums) (rowOf h n) ≡ k
@@ -84,15 +84,15 @@ module _ (h : List Event) (a : Accepted h) (t : Tables) (s : Shown h t) where
     core-told d = by-test (any (sameBytes n) (names h)) refl
       where
         by-test : (b : Bool) → any (sameBytes n) (names h) ≡ b → markIn (t .nums) (seek (sameBytes n) (names h)) ≡ coreMark h (coreAt n h)
-        by-test true q = in-row 522 q ∙ s .each-name n q .mark .of-core (eq-eqb _ core (kind-there core d q))
-        by-test false q = in-none 522 q ∙ sym (ap (coreMark h) (core-unknown n h a (λ p. clash _ (named-kind h n core p _ refl) q)))
+        by-test true q = in-row (markColumn .base) q ∙ s .each-name n q .mark .of-core (eq-eqb _ core (kind-there core d q))
+        by-test false q = in-none markColumn q ∙ sym (ap (coreMark h) (core-unknown n h a (λ p. clash _ (named-kind h n core p _ refl) q)))
 
     pub semaphore-told : Only (kindOf n h) semaphore → opened (markIn (t .nums) (seek (sameBytes n) (names h))) ≡ stateOf (theSemaphore n) h
     semaphore-told d = by-test (any (sameBytes n) (names h)) refl
       where
         by-test : (b : Bool) → any (sameBytes n) (names h) ≡ b → opened (markIn (t .nums) (seek (sameBytes n) (names h))) ≡ stateOf (theSemaphore n) h
-        by-test true q = ap opened (in-row 522 q) ∙ s .each-name n q .mark .of-semaphore (eq-eqb _ semaphore (kind-there semaphore d q))
-        by-test false q = ap opened (in-none 522 q) ∙ sym (no-state (theSemaphore n) (semaphore-tracked semaphore refl) h (kind-named h n q))
+        by-test true q = ap opened (in-row (markColumn .base) q) ∙ s .each-name n q .mark .of-semaphore (eq-eqb _ semaphore (kind-there semaphore d q))
+        by-test false q = ap opened (in-none markColumn q) ∙ sym (no-state (theSemaphore n) (semaphore-tracked semaphore refl) h (kind-named h n q))
 
     pub number-told : (k : ℕ) → Only (kindOf n h) k → numberKnown (t .nums) (seek (sameBytes n) (names h)) ≡ numberOf h n k
     number-told k d = by-test (any (sameBytes n) (names h)) refl
@@ -102,15 +102,15 @@ module _ (h : List Event) (a : Accepted h) (t : Tables) (s : Shown h t) where
         no-entry q false = no-number k n h q
 
         by-test : (b : Bool) → any (sameBytes n) (names h) ≡ b → numberKnown (t .nums) (seek (sameBytes n) (names h)) ≡ numberOf h n k
-        by-test true q = rw (in-row 1034 q, in-row 778 q) (s .each-name n q .number ∙ ap (numberOf h n) (kind-there k d q))
-        by-test false q = rw (in-none 1034 q) (sym (no-entry (kind-named h n q) (eqb k semaphore)))
+        by-test true q = rw (in-row (numberedColumn .base) q, in-row (numberColumn .base) q) (s .each-name n q .number ∙ ap (numberOf h n) (kind-there k d q))
+        by-test false q = rw (in-none numberedColumn q) (sym (no-entry (kind-named h n q) (eqb k semaphore)))
 
   -- ---- instances
 
-  pub state-told : Worded h → (x : Instance) → hasInstances (x .kind) ≡ true → opened (entryOf (t .nums) 3338 1024 (seek (sameInstance x) (instances h))) ≡ stateOf x h
+  pub state-told : Worded h → (x : Instance) → hasInstances (x .kind) ≡ true → opened (entryOf stateColumn (t .nums) (seek (sameInstance x) (instances h))) ≡ stateOf x h
   state-told w x k = by-test (any (sameInstance x) (instances h)) refl
     where
-      by-test : (b : Bool) → any (sameInstance x) (instances h) ≡ b → opened (entryOf (t .nums) 3338 1024 (seek (sameInstance x) (instances h))) ≡ stateOf x h
-      by-test true q = ap opened (entry-there (sameInstance x) (instances h) (t .nums) 3338 1024 (all-fit h a .instances-fit) q) ∙ s .each-instance x q .state
+      by-test : (b : Bool) → any (sameInstance x) (instances h) ≡ b → opened (entryOf stateColumn (t .nums) (seek (sameInstance x) (instances h))) ≡ stateOf x h
+      by-test true q = ap opened (entry-there (sameInstance x) (instances h) (t .nums) stateColumn (all-fit h a .instances-fit) q) ∙ s .each-instance x q .state
       by-test false q =
-          ap opened (entry-absent (sameInstance x) (instances h) (t .nums) 3338 1024 q) ∙ sym (unseen-none (stateOf x h) (first-seen h w x k ∙ ap not q))
+          ap opened (entry-absent (sameInstance x) (instances h) (t .nums) stateColumn q) ∙ sym (unseen-none (stateOf x h) (first-seen h w x k ∙ ap not q))

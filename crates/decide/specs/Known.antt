@@ -4,7 +4,6 @@ use mathlib.Core.Option.{Option, none, some}
 use mathlib.Core.List.{List, [], _∷_}
 use Prim.Native.Nat.{ℕ, suc, _+_}
 use lib.Dec.{eqb, leb, ltb}
-use lib.ListN.{getD}
 use Rattle.text.specs.Bytes.{sameBytes}
 use Rattle.rules.specs.Words.{core, semaphore, increment, decrement, lock-used, full, overfull, unlock-full, used}
 use Rattle.rules.specs.Lists.{member}
@@ -15,30 +14,30 @@ use Rattle.rules.specs.History.{hasInstances, isTracked, activates}
 use Rattle.rules.specs.Refusals.{Known, fixed}
 use Rattle.tables.specs.declared.find.Found.{Found}
 use Rattle.tables.specs.declared.find.Found.the-variants.{At, Nothing}
-use Rattle.tables.specs.Entry.{startedEntry, lastTime, nameCount, coreCount, instanceCount}
+use Rattle.tables.specs.Entry.{Column, entryAt, kindColumn, markColumn, numberColumn, numberedColumn, stateColumn, startedEntry, lastTime, nameCount, coreCount, instanceCount}
 use Rattle.decide.specs.declared.sight.Sight.{Sight}
 
 -- an entry of a column, in the row found; 0 where there is none
-unfoldable pub entryOf : List ℕ → ℕ → ℕ → Found → ℕ
-entryOf nums base rows Nothing = 0
-entryOf nums base rows (At i) = cond (ltb i rows) (getD nums (base + i) 0) 0
+unfoldable pub entryOf : Column → List ℕ → Found → ℕ
+entryOf c nums Nothing = 0
+entryOf c nums (At i) = cond (ltb i (c .rows)) (entryAt c nums i) 0
 
 -- the kind, the state, the last number and whether there is one, of the name in a row
 abbrev pub kindIn : List ℕ → Found → ℕ
-kindIn nums = entryOf nums 10 256
+kindIn = entryOf kindColumn
 
 abbrev pub markIn : List ℕ → Found → ℕ
-markIn nums = entryOf nums 522 256
+markIn = entryOf markColumn
 
 abbrev pub numberIn : List ℕ → Found → ℕ
-numberIn nums = entryOf nums 778 256
+numberIn = entryOf numberColumn
 
 abbrev pub numberedIn : List ℕ → Found → ℕ
-numberedIn nums = entryOf nums 1034 256
+numberedIn = entryOf numberedColumn
 
 -- the state of an event line's semaphore or instance
 unfoldable pub stateIn : List ℕ → Sight → ℕ → ℕ
-stateIn nums s k = cond (eqb k semaphore) (markIn nums (s .target)) (entryOf nums 3338 1024 (s .instance))
+stateIn nums s k = cond (eqb k semaphore) (markIn nums (s .target)) (entryOf stateColumn nums (s .instance))
 
 -- 1 where a row is needed and there is none yet
 abbrev pub oneNew : Bool → Found → ℕ

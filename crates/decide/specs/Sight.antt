@@ -9,6 +9,7 @@ use Rattle.rules.specs.Event.{Event}
 use Rattle.rules.specs.History.{hasInstances, isTracked}
 use Rattle.tables.specs.declared.find.Found.{Found}
 use Rattle.tables.specs.declared.find.Found.the-variants.{At, Nothing}
+use Rattle.tables.specs.Entry.{nameRows}
 use Rattle.tables.specs.Find.{findName, findInstance}
 use Rattle.decide.specs.declared.sight.Sight.{Sight}
 
@@ -23,7 +24,7 @@ lookIf false f = Nothing
 abbrev pub instanceIn : List ℕ → Bool → Found → ℕ → Found
 instanceIn nums false f n = Nothing
 instanceIn nums true Nothing n = Nothing
-instanceIn nums true (At i) n = cond (ltb i 256) (findInstance nums i n) Nothing
+instanceIn nums true (At i) n = cond (ltb i nameRows) (findInstance nums i n) Nothing
 
 unfoldable pub sightOf : List ℕ → List ℕ → Event → Sight
 sightOf names nums e =

@@ -4,20 +4,17 @@ ghost use mathlib.Core.Bool.{not};
 ghost use lib.Dec.{eqb};
 ghost use Prim.Native.Nat.{_+_, _≤_};
 ghost use lib.ListN.{length};
-ghost use Rattle.decide.specs.Known.{entryOf, oneNew, stateIn};
+ghost use Rattle.decide.specs.Known.{entryOf, kindIn, markIn, numberIn, numberedIn, oneNew, stateIn};
+ghost use Rattle.tables.specs.Entry.{numsSize, column, stateColumn};
 use crate::sight::Sight;
 use rules::numbers::SEMAPHORE;
-use tables::entry::KIND;
-use tables::entry::MARK;
-use tables::entry::NUMBER;
-use tables::entry::NUMBERED;
-use tables::entry::STATE;
+use tables::entry::*;
 use tables::find::Found;
 
 // An entry of the column that begins at base, in the row found; rows is how many the column has.
 fn entry(nums: &[u32], base: usize, rows: usize, f: Found) -> u32
-    requires { ⌜ (base + rows ≤ length (now nums)) × (length (now nums) ≡ 4362) ⌝ }
-    ensures { λ r. ⌜ r ≡ entryOf (now (nums .entry)) base rows f ⌝ }
+    requires { ⌜ (base + rows ≤ length (now nums)) × (length (now nums) ≡ numsSize) ⌝ }
+    ensures { λ r. ⌜ r ≡ entryOf (column base rows) (now (nums .entry)) f ⌝ }
 {
     let Found::At(i) = f else {
         return 0;
@@ -30,31 +27,31 @@ fn entry(nums: &[u32], base: usize, rows: usize, f: Found) -> u32
 
 // The kind of the name in a row.
 pub(crate) fn kind_in(nums: &[u32], f: Found) -> u32
-    requires { ⌜ length (now nums) ≡ 4362 ⌝ }
-    ensures { λ r. ⌜ r ≡ entryOf (now (nums .entry)) 10 256 f ⌝ }
+    requires { ⌜ length (now nums) ≡ numsSize ⌝ }
+    ensures { λ r. ⌜ r ≡ kindIn (now (nums .entry)) f ⌝ }
 {
-    entry(nums, KIND, 256, f)
+    entry(nums, KIND, NAME_ROWS, f)
 }
 
 // The state of the core or semaphore in a row.
 pub(crate) fn mark_in(nums: &[u32], f: Found) -> u32
-    requires { ⌜ length (now nums) ≡ 4362 ⌝ }
-    ensures { λ r. ⌜ r ≡ entryOf (now (nums .entry)) 522 256 f ⌝ }
+    requires { ⌜ length (now nums) ≡ numsSize ⌝ }
+    ensures { λ r. ⌜ r ≡ markIn (now (nums .entry)) f ⌝ }
 {
-    entry(nums, MARK, 256, f)
+    entry(nums, MARK, NAME_ROWS, f)
 }
 
 // The state of the instance in a row.
 fn instance_state(nums: &[u32], f: Found) -> u32
-    requires { ⌜ length (now nums) ≡ 4362 ⌝ }
-    ensures { λ r. ⌜ r ≡ entryOf (now (nums .entry)) 3338 1024 f ⌝ }
+    requires { ⌜ length (now nums) ≡ numsSize ⌝ }
+    ensures { λ r. ⌜ r ≡ entryOf stateColumn (now (nums .entry)) f ⌝ }
 {
-    entry(nums, STATE, 1024, f)
+    entry(nums, STATE, INSTANCE_ROWS, f)
 }
 
 // The state of an event line's semaphore or instance.
 pub(crate) fn state_in(nums: &[u32], s: Sight, kind: u32) -> u32
-    requires { ⌜ length (now nums) ≡ 4362 ⌝ }
+    requires { ⌜ length (now nums) ≡ numsSize ⌝ }
     ensures { λ r. ⌜ r ≡ stateIn (now (nums .entry)) s kind ⌝ }
 {
     let target = s.target;
@@ -80,15 +77,15 @@ pub fn one_new(needed: bool, f: Found) -> u64
 
 // Whether the name in a row has a last number or count, and that number.
 pub(crate) fn numbered_in(nums: &[u32], f: Found) -> bool
-    requires { ⌜ length (now nums) ≡ 4362 ⌝ }
-    ensures { λ r. ⌜ r ≡ not (eqb (entryOf (now (nums .entry)) 1034 256 f) 0) ⌝ }
+    requires { ⌜ length (now nums) ≡ numsSize ⌝ }
+    ensures { λ r. ⌜ r ≡ not (eqb (numberedIn (now (nums .entry)) f) 0) ⌝ }
 {
-    entry(nums, NUMBERED, 256, f) != 0
+    entry(nums, NUMBERED, NAME_ROWS, f) != 0
 }
 
 pub(crate) fn number_in(nums: &[u32], f: Found) -> u32
-    requires { ⌜ length (now nums) ≡ 4362 ⌝ }
-    ensures { λ r. ⌜ r ≡ entryOf (now (nums .entry)) 778 256 f ⌝ }
+    requires { ⌜ length (now nums) ≡ numsSize ⌝ }
+    ensures { λ r. ⌜ r ≡ numberIn (now (nums .entry)) f ⌝ }
 {
-    entry(nums, NUMBER, 256, f)
+    entry(nums, NUMBER, NAME_ROWS, f)
 }

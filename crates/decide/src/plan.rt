@@ -8,6 +8,7 @@ ghost use Rattle.rules.specs.Refusals.{fixed};
 ghost use Rattle.decide.specs.Happening.{asEvent};
 ghost use Rattle.decide.specs.Known.{timeFallsIn, kindClash, sourceClashIn, targetClashIn, noRoomIn, notNextIn, coreServes, coreBrokenIn, countFollowsIn, leastCount, countBrokenIn};
 ghost use Rattle.decide.specs.Decide.{stepsPlan, planOf, decided};
+ghost use Rattle.tables.specs.Entry.{numsSize, ticksSize};
 use crate::happening::Happening;
 use crate::known::kind_in;
 use crate::known::mark_in;
@@ -23,11 +24,7 @@ use rules::chart::Move;
 use rules::chart::chart_step;
 use rules::numbers::CORE;
 use rules::numbers::*;
-use tables::entry::CORES;
-use tables::entry::INSTANCES;
-use tables::entry::LAST;
-use tables::entry::NAMES;
-use tables::entry::STARTED;
+use tables::entry::*;
 use tables::find::Found;
 use tables::range::sized;
 use text::bytes::same;
@@ -40,7 +37,7 @@ pub enum Plan {
 
 // 8: whether the time is less than that of the event line before.
 fn time_falls(nums: &[u32], ticks: &[u64], time: u64) -> bool
-    requires { ⌜ (length (now nums) ≡ 4362) × (length (now ticks) ≡ 1026) ⌝ }
+    requires { ⌜ (length (now nums) ≡ numsSize) × (length (now ticks) ≡ ticksSize) ⌝ }
     ensures { λ r. ⌜ r ≡ timeFallsIn (now (nums .entry)) (now (ticks .entry)) time ⌝ }
 {
     if nums[STARTED] == 0 {
@@ -61,7 +58,7 @@ fn kind_clash(tracked_as: u32, kind: u32) -> bool
 
 // 9: whether the source of a core line is tracked as another kind, or is its target too.
 fn source_clash(nums: &[u32], s: Sight, source: &[u8], target: &[u8]) -> bool
-    requires { ⌜ length (now nums) ≡ 4362 ⌝ }
+    requires { ⌜ length (now nums) ≡ numsSize ⌝ }
     ensures { λ r. ⌜ r ≡ sourceClashIn (now (nums .entry)) s (now (source .entry)) (now (target .entry)) ⌝ }
 {
     if s.class == 0 {
@@ -76,7 +73,7 @@ fn source_clash(nums: &[u32], s: Sight, source: &[u8], target: &[u8]) -> bool
 
 // 9: whether the target is tracked as another kind.
 fn target_clash(nums: &[u32], s: Sight, kind: u32) -> bool
-    requires { ⌜ length (now nums) ≡ 4362 ⌝ }
+    requires { ⌜ length (now nums) ≡ numsSize ⌝ }
     ensures { λ r. ⌜ r ≡ targetClashIn (now (nums .entry)) s kind ⌝ }
 {
     if !tracked(kind) {
@@ -88,7 +85,7 @@ fn target_clash(nums: &[u32], s: Sight, kind: u32) -> bool
 
 // 10: whether the names or instances that the line adds don't fit.
 fn no_room(nums: &[u32], s: Sight, kind: u32) -> bool
-    requires { ⌜ length (now nums) ≡ 4362 ⌝ }
+    requires { ⌜ length (now nums) ≡ numsSize ⌝ }
     ensures { λ r. ⌜ r ≡ noRoomIn (now (nums .entry)) s kind ⌝ }
 {
     let source_row = s.source;
@@ -127,7 +124,7 @@ pub fn numbers_instance(kind: u32, word: u32) -> bool
 
 // 12: whether the instance number is not the next.
 fn not_next(nums: &[u32], s: Sight, h: Happening) -> bool
-    requires { ⌜ length (now nums) ≡ 4362 ⌝ }
+    requires { ⌜ length (now nums) ≡ numsSize ⌝ }
     ensures { λ r. ⌜ r ≡ notNextIn (now (nums .entry)) s (h .kind) (h .word) (h .number) ⌝ }
 {
     let row = s.target;
@@ -169,7 +166,7 @@ fn core_serves(class: u32, mark: u32, instance: Found, first: bool) -> bool
 
 // 13: whether the core rule is broken.
 fn core_broken(nums: &[u32], s: Sight, kind: u32) -> bool
-    requires { ⌜ length (now nums) ≡ 4362 ⌝ }
+    requires { ⌜ length (now nums) ≡ numsSize ⌝ }
     ensures { λ r. ⌜ r ≡ coreBrokenIn (now (nums .entry)) s kind ⌝ }
 {
     if s.class == 0 {
@@ -234,7 +231,7 @@ fn count_fits(word: u32, count: u32) -> bool
 
 // 14: whether a semaphore's count is broken.
 fn count_broken(nums: &[u32], s: Sight, h: Happening) -> bool
-    requires { ⌜ length (now nums) ≡ 4362 ⌝ }
+    requires { ⌜ length (now nums) ≡ numsSize ⌝ }
     ensures { λ r. ⌜ r ≡ countBrokenIn (now (nums .entry)) s (h .kind) (h .word) (h .count) ⌝ }
 {
     let row = s.target;
@@ -252,7 +249,7 @@ fn count_broken(nums: &[u32], s: Sight, h: Happening) -> bool
 
 // What becomes of an event line by its chart, its number, its core and its count.
 fn decide_steps(nums: &[u32], s: Sight, h: Happening) -> Plan
-    requires { ⌜ length (now nums) ≡ 4362 ⌝ }
+    requires { ⌜ length (now nums) ≡ numsSize ⌝ }
     ensures { λ r. ⌜ r ≡ stepsPlan (now (nums .entry)) s (h .kind) (h .word) (h .number) (h .count) ⌝ }
 {
     let m = chart_step(h.kind, h.word, state_in(nums, s, h.kind));
@@ -280,7 +277,7 @@ fn decide_in(
     source: &[u8],
     target: &[u8],
 ) -> Plan
-    requires { ⌜ (length (now nums) ≡ 4362) × (length (now ticks) ≡ 1026) ⌝ }
+    requires { ⌜ (length (now nums) ≡ numsSize) × (length (now ticks) ≡ ticksSize) ⌝ }
     ensures { λ r. ⌜ r ≡ planOf (now (names .entry)) (now (nums .entry)) (now (ticks .entry)) (asEvent h (now (source .entry)) (now (target .entry))) ⌝ }
 {
     let s = look(names, nums, h, source, target);

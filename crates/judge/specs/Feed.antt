@@ -14,7 +14,7 @@ use Rattle.rules.specs.declared.place.Place.{Place}
 use Rattle.rules.specs.Lists.{ifZero}
 use Rattle.rules.specs.Trace.{scaleNumber, placed}
 pub use Rattle.tables.specs.Entry.{Tables, tables}
-use Rattle.tables.specs.Entry.{namesSize, numsSize, ticksSize, verdictNumber, verdictLine, lineCount, scaleEntry, creatorEntry, dateEntry, startedEntry, firstTime, lastTime}
+use Rattle.tables.specs.Entry.{verdictIndex, verdictLineIndex, linesIndex, scaleIndex, creatorIndex, dateIndex, namesSize, numsSize, ticksSize, verdictNumber, verdictLine, lineCount, scaleEntry, creatorEntry, dateEntry, startedEntry, firstTime, lastTime}
 use Rattle.tables.specs.Range.{isSized, tableAnswer}
 use Rattle.decide.specs.declared.happening.Happening.{Happening}
 use Rattle.decide.specs.declared.plan.Plan.{Plan}
@@ -47,10 +47,10 @@ placeIn nums = record {
 
 -- "A refused line changes nothing but the remembered verdict: number and line, counted from 1."
 unfoldable pub remembered : List ℕ → ℕ → List ℕ
-remembered nums n = set (set nums 0 n) 1 ((lineCount nums + 1) % 2 ^ 32)
+remembered nums n = set (set nums verdictIndex n) verdictLineIndex ((lineCount nums + 1) % 2 ^ 32)
 
 unfoldable pub counted : List ℕ → List ℕ
-counted nums = set nums 2 ((lineCount nums + 1) % 2 ^ 32)
+counted nums = set nums linesIndex ((lineCount nums + 1) % 2 ^ 32)
 
 -- an event line decided and stored
 abbrev pub carried : Plan → Tables → Happening → List ℕ → List ℕ → After
@@ -70,9 +70,9 @@ eventLined t l e count =
 abbrev pub readLined : Reading → Tables → List ℕ → After
 readLined Version t l = after 0 (t .names) (counted (t .nums)) (t .ticks)
 readLined Comment t l = after 0 (t .names) (counted (t .nums)) (t .ticks)
-readLined (TimeScale s) t l = after 0 (t .names) (counted (set (t .nums) 3 (scaleNumber s))) (t .ticks)
-readLined Creator t l = after 0 (t .names) (counted (set (t .nums) 4 1)) (t .ticks)
-readLined CreationDate t l = after 0 (t .names) (counted (set (t .nums) 5 1)) (t .ticks)
+readLined (TimeScale s) t l = after 0 (t .names) (counted (set (t .nums) scaleIndex (scaleNumber s))) (t .ticks)
+readLined Creator t l = after 0 (t .names) (counted (set (t .nums) creatorIndex 1)) (t .ticks)
+readLined CreationDate t l = after 0 (t .names) (counted (set (t .nums) dateIndex 1)) (t .ticks)
 readLined (EventLine e count) t l = eventLined t l e count
 readLined (Refused n) t l = after 0 (t .names) (t .nums) (t .ticks)
 

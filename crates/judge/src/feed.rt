@@ -3,7 +3,7 @@ ghost use mathlib.Core.Path.{_≡_};
 ghost use Prim.Native.Nat.{_-_, _<_};
 ghost use lib.ListN.{length, set};
 ghost use Rattle.walk.specs.Lines.{wholeLines, usedUp};
-ghost use Rattle.tables.specs.Entry.{firstTime, lastTime};
+ghost use Rattle.tables.specs.Entry.{firstTime, lastTime, namesSize, numsSize, ticksSize};
 ghost use Rattle.judge.specs.Feed.{tables, after, placeIn, remembered, counted, eventLined, readLined, lined, fedLine, allLined, chunked, fedChunk, verdictIn, verdictOf, traced, judgedTrace};
 use decide::happening::to_rules;
 use decide::plan::Plan;
@@ -37,7 +37,7 @@ pub struct Verdict {
 
 // What the lines taken say of the next line's place.
 fn place_in(nums: &[u32]) -> Place
-    requires { ⌜ length (now nums) ≡ 4362 ⌝ }
+    requires { ⌜ length (now nums) ≡ numsSize ⌝ }
     ensures { λ r. ⌜ r ≡ placeIn (now (nums .entry)) ⌝ }
 {
     Place {
@@ -51,7 +51,7 @@ fn place_in(nums: &[u32]) -> Place
 
 // Remembers a refusal with its line.
 fn remember(nums: &mut [u32], n: u32) -> u32
-    requires { ⌜ length (now nums) ≡ 4362 ⌝ }
+    requires { ⌜ length (now nums) ≡ numsSize ⌝ }
     ensures { λ r. ⌜ (r ≡ n) × (now (nums .exit) ≡ remembered (now (nums .entry)) n) ⌝ }
 {
     let line = wrapping_add_u32(nums[LINES], 1);
@@ -62,7 +62,7 @@ fn remember(nums: &mut [u32], n: u32) -> u32
 
 // One line more.
 fn count_line(nums: &mut [u32]) -> u32
-    requires { ⌜ length (now nums) ≡ 4362 ⌝ }
+    requires { ⌜ length (now nums) ≡ numsSize ⌝ }
     ensures { λ r. ⌜ (r ≡ 0) × (now (nums .exit) ≡ counted (now (nums .entry))) ⌝ }
 {
     nums[LINES] = wrapping_add_u32(nums[LINES], 1);
@@ -71,7 +71,7 @@ fn count_line(nums: &mut [u32]) -> u32
 
 // One line more, which sets an entry of the line level.
 fn count_entry(nums: &mut [u32], at: usize, value: u32) -> u32
-    requires { ⌜ (length (now nums) ≡ 4362) × (at < 4362) ⌝ }
+    requires { ⌜ (length (now nums) ≡ numsSize) × (at < numsSize) ⌝ }
     ensures { λ r. ⌜ (r ≡ 0) × (now (nums .exit) ≡ counted (set (now (nums .entry)) at value)) ⌝ }
 {
     nums[at] = value;
@@ -87,7 +87,7 @@ fn event_in(
     e: Event,
     count: u32,
 ) -> u32
-    requires { ⌜ (length (now names) ≡ 16384) × ((length (now nums) ≡ 4362) × (length (now ticks) ≡ 1026)) ⌝ }
+    requires { ⌜ (length (now names) ≡ namesSize) × ((length (now nums) ≡ numsSize) × (length (now ticks) ≡ ticksSize)) ⌝ }
     ensures { λ r. ⌜ after r (now (names .exit)) (now (nums .exit)) (now (ticks .exit)) ≡ eventLined (tables (now (names .entry)) (now (nums .entry)) (now (ticks .entry))) (now (l .entry)) e count ⌝ }
 {
     let h = to_rules(e, count);
@@ -105,7 +105,7 @@ fn event_in(
 
 // A line that none of 1 to 7 refuses.
 fn read_in(names: &mut [u8], nums: &mut [u32], ticks: &mut [u64], l: &[u8], r: Reading) -> u32
-    requires { ⌜ (length (now names) ≡ 16384) × ((length (now nums) ≡ 4362) × (length (now ticks) ≡ 1026)) ⌝ }
+    requires { ⌜ (length (now names) ≡ namesSize) × ((length (now nums) ≡ numsSize) × (length (now ticks) ≡ ticksSize)) ⌝ }
     ensures { λ n. ⌜ after n (now (names .exit)) (now (nums .exit)) (now (ticks .exit)) ≡ readLined r (tables (now (names .entry)) (now (nums .entry)) (now (ticks .entry))) (now (l .entry)) ⌝ }
 {
     match r {
@@ -121,7 +121,7 @@ fn read_in(names: &mut [u8], nums: &mut [u32], ticks: &mut [u64], l: &[u8], r: R
 
 // A line against tables of the right sizes.
 fn line_in(names: &mut [u8], nums: &mut [u32], ticks: &mut [u64], l: &[u8]) -> u32
-    requires { ⌜ (length (now names) ≡ 16384) × ((length (now nums) ≡ 4362) × (length (now ticks) ≡ 1026)) ⌝ }
+    requires { ⌜ (length (now names) ≡ namesSize) × ((length (now nums) ≡ numsSize) × (length (now ticks) ≡ ticksSize)) ⌝ }
     ensures { λ r. ⌜ after r (now (names .exit)) (now (nums .exit)) (now (ticks .exit)) ≡ lined (tables (now (names .entry)) (now (nums .entry)) (now (ticks .entry))) (now (l .entry)) ⌝ }
 {
     let v = nums[VERDICT];
@@ -149,7 +149,7 @@ pub fn feed(names: &mut [u8], nums: &mut [u32], ticks: &mut [u64], l: &[u8]) -> 
 
 // Every whole line of a chunk in turn, and how many bytes they took.
 fn lines_in(names: &mut [u8], nums: &mut [u32], ticks: &mut [u64], chunk: &[u8]) -> usize
-    requires { ⌜ (length (now names) ≡ 16384) × ((length (now nums) ≡ 4362) × (length (now ticks) ≡ 1026)) ⌝ }
+    requires { ⌜ (length (now names) ≡ namesSize) × ((length (now nums) ≡ numsSize) × (length (now ticks) ≡ ticksSize)) ⌝ }
     ensures { λ r. ⌜ (r ≡ usedUp (now (chunk .entry))) × (tables (now (names .exit)) (now (nums .exit)) (now (ticks .exit)) ≡ allLined (tables (now (names .entry)) (now (nums .entry)) (now (ticks .entry))) (wholeLines (now (chunk .entry)))) ⌝ }
 {
     let mut at = 0;
@@ -180,7 +180,7 @@ pub fn feed_chunk(names: &mut [u8], nums: &mut [u32], ticks: &mut [u64], chunk: 
 
 // How much later the last time is than the first.
 fn span_in(ticks: &[u64]) -> u64
-    requires { ⌜ length (now ticks) ≡ 1026 ⌝ }
+    requires { ⌜ length (now ticks) ≡ ticksSize ⌝ }
     ensures { λ r. ⌜ r ≡ lastTime (now (ticks .entry)) - firstTime (now (ticks .entry)) ⌝ }
 {
     if ticks[LAST] < ticks[FIRST] {
@@ -191,7 +191,7 @@ fn span_in(ticks: &[u64]) -> u64
 
 // The verdict if the trace ended now, from tables of the right sizes.
 fn verdict_in(nums: &[u32], ticks: &[u64]) -> Verdict
-    requires { ⌜ (length (now nums) ≡ 4362) × (length (now ticks) ≡ 1026) ⌝ }
+    requires { ⌜ (length (now nums) ≡ numsSize) × (length (now ticks) ≡ ticksSize) ⌝ }
     ensures { λ r. ⌜ r ≡ verdictIn (now (nums .entry)) (now (ticks .entry)) ⌝ }
 {
     let span = span_in(ticks);

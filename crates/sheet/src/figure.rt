@@ -2,22 +2,15 @@
 ghost use mathlib.Core.Path.{_≡_};
 ghost use Prim.Native.Nat.{_≤_, _<_};
 ghost use lib.ListN.{length};
-ghost use Rattle.tables.specs.Entry.{nameCount};
+ghost use Rattle.tables.specs.Entry.{nameCount, numsSize, ticksSize, nameRows};
 ghost use Rattle.sheet.specs.Figure.{openAt, heldIn, idleIn, holds, chargeTo, chargeIn};
 use rules::numbers::CORE;
 use std::num::wrapping_add_u64;
-use tables::entry::HELD;
-use tables::entry::IDLE;
-use tables::entry::KIND;
-use tables::entry::LAST;
-use tables::entry::MARK;
-use tables::entry::NAMES;
-use tables::entry::OWNER;
-use tables::entry::SINCE;
+use tables::entry::*;
 
 // The ticks since the ticks of row i were stored.
 fn open_ticks(ticks: &[u64], i: usize) -> u64
-    requires { ⌜ (length (now ticks) ≡ 1026) × (i < 256) ⌝ }
+    requires { ⌜ (length (now ticks) ≡ ticksSize) × (i < nameRows) ⌝ }
     ensures { λ r. ⌜ r ≡ openAt (now (ticks .entry)) i ⌝ }
 {
     if ticks[LAST] < ticks[SINCE + i] {
@@ -28,7 +21,7 @@ fn open_ticks(ticks: &[u64], i: usize) -> u64
 
 // The held ticks of the core in row i.
 pub(crate) fn held_ticks(nums: &[u32], ticks: &[u64], i: usize) -> u64
-    requires { ⌜ (length (now nums) ≡ 4362) × ((length (now ticks) ≡ 1026) × (i < 256)) ⌝ }
+    requires { ⌜ (length (now nums) ≡ numsSize) × ((length (now ticks) ≡ ticksSize) × (i < nameRows)) ⌝ }
     ensures { λ r. ⌜ r ≡ heldIn (now (nums .entry)) (now (ticks .entry)) i ⌝ }
 {
     if nums[MARK + i] < 2 {
@@ -39,7 +32,7 @@ pub(crate) fn held_ticks(nums: &[u32], ticks: &[u64], i: usize) -> u64
 
 // The idle ticks of the core in row i.
 pub(crate) fn idle_ticks(nums: &[u32], ticks: &[u64], i: usize) -> u64
-    requires { ⌜ (length (now nums) ≡ 4362) × ((length (now ticks) ≡ 1026) × (i < 256)) ⌝ }
+    requires { ⌜ (length (now nums) ≡ numsSize) × ((length (now ticks) ≡ ticksSize) × (i < nameRows)) ⌝ }
     ensures { λ r. ⌜ r ≡ idleIn (now (nums .entry)) (now (ticks .entry)) i ⌝ }
 {
     if nums[MARK + i] != 1 {
@@ -50,7 +43,7 @@ pub(crate) fn idle_ticks(nums: &[u32], ticks: &[u64], i: usize) -> u64
 
 // Whether row k is a core that is held by an instance of the process in row i.
 fn holds_core(nums: &[u32], i: usize, k: usize) -> bool
-    requires { ⌜ (length (now nums) ≡ 4362) × (k < 256) ⌝ }
+    requires { ⌜ (length (now nums) ≡ numsSize) × (k < nameRows) ⌝ }
     ensures { λ r. ⌜ r ≡ holds (now (nums .entry)) i k ⌝ }
 {
     if nums[KIND + k] != CORE {
@@ -68,7 +61,7 @@ fn holds_core(nums: &[u32], i: usize, k: usize) -> bool
 
 // The charge of the process in row i.
 pub(crate) fn charge(nums: &[u32], ticks: &[u64], i: usize) -> u64
-    requires { ⌜ (length (now nums) ≡ 4362) × ((length (now ticks) ≡ 1026) × ((i < 256) × (nameCount (now nums) ≤ 256))) ⌝ }
+    requires { ⌜ (length (now nums) ≡ numsSize) × ((length (now ticks) ≡ ticksSize) × ((i < nameRows) × (nameCount (now nums) ≤ nameRows))) ⌝ }
     ensures { λ r. ⌜ r ≡ chargeIn (now (nums .entry)) (now (ticks .entry)) i ⌝ }
 {
     let n = nums[NAMES] as usize;

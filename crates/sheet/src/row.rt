@@ -4,7 +4,7 @@ ghost use mathlib.Core.List.{[], _∷_};
 ghost use Prim.Native.Nat.{_+_, _≤_, _<_};
 ghost use lib.ListN.{length};
 ghost use Rattle.text.specs.Put.{put, after};
-ghost use Rattle.tables.specs.Entry.{nameCount};
+ghost use Rattle.tables.specs.Entry.{nameCount, numsSize, ticksSize, nameRows};
 ghost use Rattle.tables.specs.Range.{tableAnswer};
 ghost use Rattle.sheet.specs.Text.{figuresText, rowText};
 ghost use Rattle.sheet.specs.Sheet.{figuresIn, rowIn};
@@ -12,8 +12,7 @@ use crate::figure::charge;
 use crate::figure::held_ticks;
 use crate::figure::idle_ticks;
 use crate::section::Section;
-use tables::entry::LENGTH;
-use tables::entry::UNKNOWN;
+use tables::entry::*;
 use text::put::digit_count;
 use text::put::put_bytes;
 use text::put::put_number;
@@ -29,7 +28,7 @@ fn put_figure(n: u64, out: &mut [u8], at: usize) -> usize
 
 // How many bytes the figures of the row i take.
 fn figures_length(nums: &[u32], ticks: &[u64], section: Section, i: usize) -> usize
-    requires { ⌜ (length (now nums) ≡ 4362) × ((length (now ticks) ≡ 1026) × ((i < 256) × (nameCount (now nums) ≤ 256))) ⌝ }
+    requires { ⌜ (length (now nums) ≡ numsSize) × ((length (now ticks) ≡ ticksSize) × ((i < nameRows) × (nameCount (now nums) ≤ nameRows))) ⌝ }
     ensures { λ r. ⌜ r ≡ length (figuresText (figuresIn section (now (nums .entry)) (now (ticks .entry)) i)) ⌝ }
 {
     match section {
@@ -52,7 +51,7 @@ fn put_figures(
     out: &mut [u8],
     at: usize,
 ) -> usize
-    requires { ⌜ (length (now nums) ≡ 4362) × ((length (now ticks) ≡ 1026) × ((i < 256) × ((nameCount (now nums) ≤ 256) × (at + length (figuresText (figuresIn section (now nums) (now ticks) i)) ≤ length (now out))))) ⌝ }
+    requires { ⌜ (length (now nums) ≡ numsSize) × ((length (now ticks) ≡ ticksSize) × ((i < nameRows) × ((nameCount (now nums) ≤ nameRows) × (at + length (figuresText (figuresIn section (now nums) (now ticks) i)) ≤ length (now out))))) ⌝ }
     ensures { λ r. ⌜ after r (now (out .exit)) ≡ put (now (out .entry)) at (figuresText (figuresIn section (now (nums .entry)) (now (ticks .entry)) i)) ⌝ }
 {
     match section {
@@ -93,7 +92,7 @@ pub(crate) fn put_row(
     requires { ⌜ (tableAnswer (now names) (now nums) (now ticks) ≡ 0) × ((i < nameCount (now nums)) × (at + length (rowText (rowIn section (now names) (now nums) (now ticks) i)) ≤ length (now out))) ⌝ }
     ensures { λ r. ⌜ after r (now (out .exit)) ≡ put (now (out .entry)) at (rowText (rowIn section (now (names .entry)) (now (nums .entry)) (now (ticks .entry)) i)) ⌝ }
 {
-    let start = 64 * i;
+    let start = NAME_ROOM * i;
     let end = start + nums[LENGTH + i] as usize;
     let one = put_bytes(&names[start..end], out, at);
     let two = put_figures(nums, ticks, section, i, out, one);

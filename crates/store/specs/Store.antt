@@ -11,7 +11,9 @@ use Rattle.rules.specs.Event.{Event}
 use Rattle.rules.specs.History.{hasInstances, activates}
 use Rattle.tables.specs.declared.find.Found.{Found}
 use Rattle.tables.specs.declared.find.Found.the-variants.{At, Nothing}
-use Rattle.tables.specs.Entry.{Tables, tables, lineCount, startedEntry, nameCount, coreCount, instanceCount, firstTime, heldAt, idleAt, sinceAt}
+use Rattle.tables.specs.Entry.{Tables, tables, storeAt, nameRows, instanceRows, nameRoom, linesIndex, startedIndex, namesIndex, coresIndex, instancesIndex, firstIndex, lastIndex}
+use Rattle.tables.specs.Entry.{kindColumn, lengthColumn, markColumn, numberColumn, numberedColumn, ownerColumn, instanceColumn, stateColumn, heldColumn, idleColumn, unknownColumn, sinceColumn}
+use Rattle.tables.specs.Entry.{lineCount, startedEntry, nameCount, coreCount, instanceCount, firstTime, heldAt, idleAt, sinceAt}
 use Rattle.tables.specs.Range.{isSized}
 use Rattle.decide.specs.declared.happening.Happening.{Happening}
 use Rattle.decide.specs.declared.sight.Sight.{Sight}
@@ -37,28 +39,32 @@ instanceRow nums s = rowOr (s .instance) (instanceCount nums)
 
 -- a new name: its bytes, its kind and length, no state, no number
 unfoldable pub storeName : List ℕ → ℕ → List ℕ → List ℕ
-storeName names i name = cond (ltb i 256) (put names (64 * i) name .output) names
+storeName names i name = cond (ltb i nameRows) (put names (nameRoom * i) name .output) names
 
 unfoldable pub storeRow : List ℕ → ℕ → ℕ → ℕ → List ℕ
 storeRow nums i kind n =
-    cond (ltb i 256) (set (set (set (set (set nums (10 + i) kind) (266 + i) (n % 2 ^ 32)) (522 + i) 0) (778 + i) 0) (1034 + i) 0) nums
+    cond (ltb i nameRows)
+    (let one = storeAt lengthColumn (storeAt kindColumn nums i kind) i (n % 2 ^ 32) in
+    storeAt numberedColumn (storeAt numberColumn (storeAt markColumn one i 0) i 0) i 0)
+    nums
 
 -- a new name's ticks: none held or idle, and for a core those before it was tracked unknown
 unfoldable pub storeSums : List ℕ → ℕ → ℕ → ℕ → List ℕ
-storeSums ticks i unknown since = cond (ltb i 256) (set (set (set (set ticks (2 + i) 0) (258 + i) 0) (514 + i) unknown) (770 + i) since) ticks
+storeSums ticks i unknown since =
+    cond (ltb i nameRows) (storeAt sinceColumn (storeAt unknownColumn (storeAt idleColumn (storeAt heldColumn ticks i 0) i 0) i unknown) i since) ticks
 
 -- an instance: the row of its name, its number, its state
 unfoldable pub storeInstance : List ℕ → ℕ → ℕ → ℕ → ℕ → List ℕ
 storeInstance nums j owner number state =
-    cond (ltb j 1024 && ltb owner 256) (set (set (set nums (1290 + j) owner) (2314 + j) number) (3338 + j) state) nums
+    cond (ltb j instanceRows && ltb owner nameRows) (storeAt stateColumn (storeAt instanceColumn (storeAt ownerColumn nums j owner) j number) j state) nums
 
 -- a state of a semaphore or core
 unfoldable pub storeMark : List ℕ → ℕ → ℕ → List ℕ
-storeMark nums i mark = cond (ltb i 256) (set nums (522 + i) mark) nums
+storeMark nums i mark = cond (ltb i nameRows) (storeAt markColumn nums i mark) nums
 
 -- a last number or count
 unfoldable pub storeNumber : List ℕ → ℕ → ℕ → List ℕ
-storeNumber nums i n = cond (ltb i 256) (set (set nums (778 + i) n) (1034 + i) 1) nums
+storeNumber nums i n = cond (ltb i nameRows) (storeAt numberedColumn (storeAt numberColumn nums i n) i 1) nums
 
 -- ---- the three tables after an event line
 
@@ -82,12 +88,13 @@ withTarget nums i j t h =
 
 -- "make it held", "make it idle"
 unfoldable pub withCore : List ℕ → ℕ → ℕ → ℕ → List ℕ
-withCore nums class i j = cond (eqb class 0) nums (cond (eqb class 2) (storeMark nums i 1) (cond (ltb j 1024) (storeMark nums i (j + 2)) nums))
+withCore nums class i j = cond (eqb class 0) nums (cond (eqb class 2) (storeMark nums i 1) (cond (ltb j instanceRows) (storeMark nums i (j + 2)) nums))
 
 unfoldable pub withHeads : List ℕ → ℕ → ℕ → ℕ → List ℕ
 withHeads nums names cores instances =
-    set (set (set (set (set nums 2 ((lineCount nums + 1) % 2 ^ 32)) 6 1) 7 ((nameCount nums + names) % 2 ^ 32)) 8 ((coreCount nums + cores) % 2 ^ 32)) 9
-    ((instanceCount nums + instances) % 2 ^ 32)
+    let one = set (set nums linesIndex ((lineCount nums + 1) % 2 ^ 32)) startedIndex 1 in
+    let two = set (set one namesIndex ((nameCount nums + names) % 2 ^ 32)) coresIndex ((coreCount nums + cores) % 2 ^ 32) in
+    set two instancesIndex ((instanceCount nums + instances) % 2 ^ 32)
 
 unfoldable pub takenNums : List ℕ → Sight → ℕ → Happening → ℕ → ℕ → List ℕ
 takenNums nums s t h n m =
@@ -100,16 +107,16 @@ takenNums nums s t h n m =
 -- the ticks from `since` on go to the core's sum, and those it was held also to its holder's charge
 unfoldable pub settled : List ℕ → ℕ → ℕ → ℕ → ℕ → List ℕ
 settled ticks class i p time =
-    cond (ltb i 256 && ltb p 256)
-    (cond (eqb class 1) (set (set ticks (258 + i) ((idleAt ticks i + (time - sinceAt ticks i)) % 2 ^ 64)) (770 + i) time)
+    cond (ltb i nameRows && ltb p nameRows)
+    (cond (eqb class 1) (storeAt sinceColumn (storeAt idleColumn ticks i ((idleAt ticks i + (time - sinceAt ticks i)) % 2 ^ 64)) i time)
     (cond (eqb class 2)
-    (let one = set ticks (2 + i) ((heldAt ticks i + (time - sinceAt ticks i)) % 2 ^ 64) in
-    set (set one (2 + p) ((heldAt one p + (time - sinceAt ticks i)) % 2 ^ 64)) (770 + i) time)
+    (let one = storeAt heldColumn ticks i ((heldAt ticks i + (time - sinceAt ticks i)) % 2 ^ 64) in
+    storeAt sinceColumn (storeAt heldColumn one p ((heldAt one p + (time - sinceAt ticks i)) % 2 ^ 64)) i time)
     ticks))
     ticks
 
 unfoldable pub withTimes : List ℕ → ℕ → ℕ → List ℕ
-withTimes ticks started time = cond (eqb started 0) (set (set ticks 0 time) 1 time) (set ticks 1 time)
+withTimes ticks started time = cond (eqb started 0) (set (set ticks firstIndex time) lastIndex time) (set ticks lastIndex time)
 
 unfoldable pub withSums : List ℕ → List ℕ → Sight → ℕ → ℕ → List ℕ
 withSums ticks nums s kind time =

@@ -4,7 +4,7 @@ ghost use mathlib.Core.Bool.{cond};
 ghost use Prim.Native.Nat.{_+_, _-_};
 ghost use lib.Dec.{eqb};
 ghost use lib.ListN.{length};
-ghost use Rattle.tables.specs.Entry.{tables};
+ghost use Rattle.tables.specs.Entry.{tables, namesSize, numsSize, ticksSize};
 ghost use Rattle.decide.specs.Happening.{asEvent};
 ghost use Rattle.decide.specs.Known.{newCore, newName, newInstance};
 ghost use Rattle.store.specs.Store.{coreRow, targetRow, instanceRow, storeName, storeRow, storeSums, storeInstance, storeMark, storeNumber, takenNames, withRows, withTarget, withCore, withHeads, takenNums, settled, withTimes, withSums, takenTicks, stored};
@@ -47,7 +47,7 @@ fn new_instance(s: Sight, kind: u32) -> u32
 
 // The row of the line's core, found or the next one.
 fn core_row(nums: &[u32], s: Sight) -> usize
-    requires { ⌜ length (now nums) ≡ 4362 ⌝ }
+    requires { ⌜ length (now nums) ≡ numsSize ⌝ }
     ensures { λ r. ⌜ r ≡ coreRow (now (nums .entry)) s ⌝ }
 {
     let row = s.source;
@@ -59,7 +59,7 @@ fn core_row(nums: &[u32], s: Sight) -> usize
 
 // The row of the line's target, found or the next one after its core's.
 fn target_row(nums: &[u32], s: Sight) -> usize
-    requires { ⌜ length (now nums) ≡ 4362 ⌝ }
+    requires { ⌜ length (now nums) ≡ numsSize ⌝ }
     ensures { λ r. ⌜ r ≡ targetRow (now (nums .entry)) s ⌝ }
 {
     let row = s.target;
@@ -72,7 +72,7 @@ fn target_row(nums: &[u32], s: Sight) -> usize
 
 // The row of the line's instance, found or the next one.
 fn instance_row(nums: &[u32], s: Sight) -> usize
-    requires { ⌜ length (now nums) ≡ 4362 ⌝ }
+    requires { ⌜ length (now nums) ≡ numsSize ⌝ }
     ensures { λ r. ⌜ r ≡ instanceRow (now (nums .entry)) s ⌝ }
 {
     let row = s.instance;
@@ -84,21 +84,21 @@ fn instance_row(nums: &[u32], s: Sight) -> usize
 
 // The bytes of a new name.
 fn store_name(names: &mut [u8], i: usize, name: &[u8])
-    requires { ⌜ length (now names) ≡ 16384 ⌝ }
+    requires { ⌜ length (now names) ≡ namesSize ⌝ }
     ensures { λ _. ⌜ now (names .exit) ≡ storeName (now (names .entry)) i (now (name .entry)) ⌝ }
 {
-    if 256 <= i {
+    if NAME_ROWS <= i {
         return;
     }
-    put_bytes(name, names, 64 * i);
+    put_bytes(name, names, NAME_ROOM * i);
 }
 
 // The numbers of a new name.
 fn store_row(nums: &mut [u32], i: usize, kind: u32, n: usize)
-    requires { ⌜ length (now nums) ≡ 4362 ⌝ }
+    requires { ⌜ length (now nums) ≡ numsSize ⌝ }
     ensures { λ _. ⌜ now (nums .exit) ≡ storeRow (now (nums .entry)) i kind n ⌝ }
 {
-    if 256 <= i {
+    if NAME_ROWS <= i {
         return;
     }
     nums[KIND + i] = kind;
@@ -110,10 +110,10 @@ fn store_row(nums: &mut [u32], i: usize, kind: u32, n: usize)
 
 // The ticks of a new name.
 fn store_sums(ticks: &mut [u64], i: usize, unknown: u64, since: u64)
-    requires { ⌜ length (now ticks) ≡ 1026 ⌝ }
+    requires { ⌜ length (now ticks) ≡ ticksSize ⌝ }
     ensures { λ _. ⌜ now (ticks .exit) ≡ storeSums (now (ticks .entry)) i unknown since ⌝ }
 {
-    if 256 <= i {
+    if NAME_ROWS <= i {
         return;
     }
     ticks[HELD + i] = 0;
@@ -124,13 +124,13 @@ fn store_sums(ticks: &mut [u64], i: usize, unknown: u64, since: u64)
 
 // An instance.
 fn store_instance(nums: &mut [u32], j: usize, owner: usize, number: u32, state: u32)
-    requires { ⌜ length (now nums) ≡ 4362 ⌝ }
+    requires { ⌜ length (now nums) ≡ numsSize ⌝ }
     ensures { λ _. ⌜ now (nums .exit) ≡ storeInstance (now (nums .entry)) j owner number state ⌝ }
 {
-    if 1024 <= j {
+    if INSTANCE_ROWS <= j {
         return;
     }
-    if 256 <= owner {
+    if NAME_ROWS <= owner {
         return;
     }
     nums[OWNER + j] = owner as u32;
@@ -140,10 +140,10 @@ fn store_instance(nums: &mut [u32], j: usize, owner: usize, number: u32, state: 
 
 // A state of a semaphore or core.
 fn store_mark(nums: &mut [u32], i: usize, mark: u32)
-    requires { ⌜ length (now nums) ≡ 4362 ⌝ }
+    requires { ⌜ length (now nums) ≡ numsSize ⌝ }
     ensures { λ _. ⌜ now (nums .exit) ≡ storeMark (now (nums .entry)) i mark ⌝ }
 {
-    if 256 <= i {
+    if NAME_ROWS <= i {
         return;
     }
     nums[MARK + i] = mark;
@@ -151,10 +151,10 @@ fn store_mark(nums: &mut [u32], i: usize, mark: u32)
 
 // A last number or count.
 fn store_number(nums: &mut [u32], i: usize, n: u32)
-    requires { ⌜ length (now nums) ≡ 4362 ⌝ }
+    requires { ⌜ length (now nums) ≡ numsSize ⌝ }
     ensures { λ _. ⌜ now (nums .exit) ≡ storeNumber (now (nums .entry)) i n ⌝ }
 {
-    if 256 <= i {
+    if NAME_ROWS <= i {
         return;
     }
     nums[NUMBER + i] = n;
@@ -163,7 +163,7 @@ fn store_number(nums: &mut [u32], i: usize, n: u32)
 
 // The bytes of the names that the line adds.
 fn take_names(names: &mut [u8], nums: &[u32], s: Sight, h: Happening, source: &[u8], target: &[u8])
-    requires { ⌜ (length (now names) ≡ 16384) × (length (now nums) ≡ 4362) ⌝ }
+    requires { ⌜ (length (now names) ≡ namesSize) × (length (now nums) ≡ numsSize) ⌝ }
     ensures { λ _. ⌜ now (names .exit) ≡ takenNames (now (names .entry)) (now (nums .entry)) s (asEvent h (now (source .entry)) (now (target .entry))) ⌝ }
 {
     let at = nums[NAMES] as usize;
@@ -178,7 +178,7 @@ fn take_names(names: &mut [u8], nums: &[u32], s: Sight, h: Happening, source: &[
 
 // The numbers of the names that the line adds; n and m are the lengths of its source and target.
 fn store_rows(nums: &mut [u32], s: Sight, kind: u32, n: usize, m: usize)
-    requires { ⌜ length (now nums) ≡ 4362 ⌝ }
+    requires { ⌜ length (now nums) ≡ numsSize ⌝ }
     ensures { λ _. ⌜ now (nums .exit) ≡ withRows (now (nums .entry)) s kind n m ⌝ }
 {
     let at = nums[NAMES] as usize;
@@ -193,7 +193,7 @@ fn store_rows(nums: &mut [u32], s: Sight, kind: u32, n: usize, m: usize)
 
 // What the event's instance or semaphore is from now on.
 fn store_target(nums: &mut [u32], i: usize, j: usize, state: u32, h: Happening)
-    requires { ⌜ length (now nums) ≡ 4362 ⌝ }
+    requires { ⌜ length (now nums) ≡ numsSize ⌝ }
     ensures { λ _. ⌜ now (nums .exit) ≡ withTarget (now (nums .entry)) i j state h ⌝ }
 {
     if h.kind == SEMAPHORE {
@@ -211,7 +211,7 @@ fn store_target(nums: &mut [u32], i: usize, j: usize, state: u32, h: Happening)
 
 // What the core is from now on.
 fn store_core(nums: &mut [u32], class: u32, i: usize, j: usize)
-    requires { ⌜ length (now nums) ≡ 4362 ⌝ }
+    requires { ⌜ length (now nums) ≡ numsSize ⌝ }
     ensures { λ _. ⌜ now (nums .exit) ≡ withCore (now (nums .entry)) class i j ⌝ }
 {
     if class == 0 {
@@ -221,7 +221,7 @@ fn store_core(nums: &mut [u32], class: u32, i: usize, j: usize)
         store_mark(nums, i, 1);
         return;
     }
-    if 1024 <= j {
+    if INSTANCE_ROWS <= j {
         return;
     }
     store_mark(nums, i, j as u32 + 2);
@@ -229,7 +229,7 @@ fn store_core(nums: &mut [u32], class: u32, i: usize, j: usize)
 
 // One line and so many names, cores and instances more, and an event was taken.
 fn store_heads(nums: &mut [u32], names: u32, cores: u32, instances: u32)
-    requires { ⌜ length (now nums) ≡ 4362 ⌝ }
+    requires { ⌜ length (now nums) ≡ numsSize ⌝ }
     ensures { λ _. ⌜ now (nums .exit) ≡ withHeads (now (nums .entry)) names cores instances ⌝ }
 {
     nums[LINES] = wrapping_add_u32(nums[LINES], 1);
@@ -241,7 +241,7 @@ fn store_heads(nums: &mut [u32], names: u32, cores: u32, instances: u32)
 
 // The numbers and states after an event line.
 fn take_nums(nums: &mut [u32], s: Sight, state: u32, h: Happening, n: usize, m: usize)
-    requires { ⌜ length (now nums) ≡ 4362 ⌝ }
+    requires { ⌜ length (now nums) ≡ numsSize ⌝ }
     ensures { λ _. ⌜ now (nums .exit) ≡ takenNums (now (nums .entry)) s state h n m ⌝ }
 {
     let i = core_row(nums, s);
@@ -268,7 +268,7 @@ fn gap(time: u64, since: u64) -> u64
 
 // The ticks of the names that the line adds: those of a core before it was tracked are unknown.
 fn store_all_sums(ticks: &mut [u64], nums: &[u32], s: Sight, kind: u32, time: u64)
-    requires { ⌜ (length (now nums) ≡ 4362) × (length (now ticks) ≡ 1026) ⌝ }
+    requires { ⌜ (length (now nums) ≡ numsSize) × (length (now ticks) ≡ ticksSize) ⌝ }
     ensures { λ _. ⌜ now (ticks .exit) ≡ withSums (now (ticks .entry)) (now (nums .entry)) s kind time ⌝ }
 {
     let at = nums[NAMES] as usize;
@@ -294,13 +294,13 @@ fn before_tracked(started: u32, first: u64, time: u64) -> u64
 
 // The ticks since a core's last change go to its sum, and those it was held to its holder's charge.
 fn settle(ticks: &mut [u64], class: u32, i: usize, p: usize, time: u64)
-    requires { ⌜ length (now ticks) ≡ 1026 ⌝ }
+    requires { ⌜ length (now ticks) ≡ ticksSize ⌝ }
     ensures { λ _. ⌜ now (ticks .exit) ≡ settled (now (ticks .entry)) class i p time ⌝ }
 {
-    if 256 <= i {
+    if NAME_ROWS <= i {
         return;
     }
-    if 256 <= p {
+    if NAME_ROWS <= p {
         return;
     }
     let more = gap(time, ticks[SINCE + i]);
@@ -319,7 +319,7 @@ fn settle(ticks: &mut [u64], class: u32, i: usize, p: usize, time: u64)
 
 // The last time, and at the first event the first.
 fn store_times(ticks: &mut [u64], started: u32, time: u64)
-    requires { ⌜ length (now ticks) ≡ 1026 ⌝ }
+    requires { ⌜ length (now ticks) ≡ ticksSize ⌝ }
     ensures { λ _. ⌜ now (ticks .exit) ≡ withTimes (now (ticks .entry)) started time ⌝ }
 {
     if started == 0 {
@@ -330,7 +330,7 @@ fn store_times(ticks: &mut [u64], started: u32, time: u64)
 
 // The times and ticks after an event line.
 fn take_ticks(ticks: &mut [u64], nums: &[u32], s: Sight, kind: u32, time: u64)
-    requires { ⌜ (length (now nums) ≡ 4362) × (length (now ticks) ≡ 1026) ⌝ }
+    requires { ⌜ (length (now nums) ≡ numsSize) × (length (now ticks) ≡ ticksSize) ⌝ }
     ensures { λ _. ⌜ now (ticks .exit) ≡ takenTicks (now (ticks .entry)) (now (nums .entry)) s kind time ⌝ }
 {
     let i = core_row(nums, s);
@@ -351,7 +351,7 @@ fn take_in(
     source: &[u8],
     target: &[u8],
 )
-    requires { ⌜ (length (now names) ≡ 16384) × ((length (now nums) ≡ 4362) × (length (now ticks) ≡ 1026)) ⌝ }
+    requires { ⌜ (length (now names) ≡ namesSize) × ((length (now nums) ≡ numsSize) × (length (now ticks) ≡ ticksSize)) ⌝ }
     ensures { λ _. ⌜ (now (names .exit) ≡ takenNames (now (names .entry)) (now (nums .entry)) s (asEvent h (now (source .entry)) (now (target .entry)))) × ((now (nums .exit) ≡ takenNums (now (nums .entry)) s state h (length (now (source .entry))) (length (now (target .entry)))) × (now (ticks .exit) ≡ takenTicks (now (ticks .entry)) (now (nums .entry)) s (h .kind) (h .time))) ⌝ }
 {
     take_names(names, nums, s, h, source, target);

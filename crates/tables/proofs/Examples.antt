@@ -9,12 +9,12 @@ use Rattle.rules.specs.Words.{TERMINATED, ACTIVE, RUNNING, READY, WAITING, POLL
 use Rattle.rules.specs.Chart.{isStateOf}
 use Rattle.rules.specs.Charts.{isProcess, processChart, runnableChart, semaphoreChart, chartOf}
 use Rattle.rules.specs.History.{hasInstances}
-use Rattle.tables.specs.Entry.{numsSize}
+use Rattle.tables.specs.Entry.{storeAt, namesIndex, instancesIndex, kindColumn, ownerColumn, stateColumn, numsSize}
 use Rattle.tables.specs.Range.{holderOk, coreOk, markOk, instanceOk}
 
 -- one name, of the kind k, and two instances: the first is its own and in the state s, the second belongs to no name
 abbrev rows : ℕ → ℕ → List ℕ
-rows k s = set (set (set (set (set (replicate numsSize 0) 7 1) 9 2) 10 k) 1291 1) 3338 s
+rows k s = storeAt stateColumn (storeAt ownerColumn (storeAt kindColumn (set (set (replicate numsSize 0) namesIndex 1) instancesIndex 2) 0 k) 1 1) 0 s
 
 -- of the numbers 0 to 9, the states in which an instance of a kind is in range
 abbrev statesOf : ℕ → List ℕ

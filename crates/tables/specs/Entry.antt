@@ -1,7 +1,8 @@
--- Where each entry of the lent tables lies. nums has single entries and then columns, ticks likewise; names has 64 bytes for each name.
+-- Where each entry of the lent tables lies: the one place that names a base or a size. nums has single entries and then columns, one after another, and so
+-- has ticks; names has 64 bytes for each name.
 use mathlib.Core.List.{List}
 use Prim.Native.Nat.{ℕ, _+_, _*_}
-use lib.ListN.{getD, take, drop}
+use lib.ListN.{getD, set, take, drop}
 
 -- the three tables
 pub record Tables : Type 0 where
@@ -12,100 +13,213 @@ pub record Tables : Type 0 where
 abbrev pub tables : List ℕ → List ℕ → List ℕ → Tables
 tables names nums ticks = record { names = names; nums = nums; ticks = ticks }
 
--- the sizes
+-- ---- columns
+
+-- a column of a table: its first entry, and one for each of so many rows
+pub record Column : Type 0 where
+  pub base : ℕ
+  pub rows : ℕ
+
+abbrev pub column : ℕ → ℕ → Column
+column base rows = record { base = base; rows = rows }
+
+-- the first entry past it: there the next one begins
+abbrev pub past : Column → ℕ
+past c = c .base + c .rows
+
+-- the entry of a row, and a store to it
+abbrev pub entryAt : Column → List ℕ → ℕ → ℕ
+entryAt c t i = getD t (c .base + i) 0
+
+abbrev pub storeAt : Column → List ℕ → ℕ → ℕ → List ℕ
+storeAt c t i v = set t (c .base + i) v
+
+-- how many rows there are: "tracked names .. | 256", "process and runnable instances | 1,024"; and "name, note | 1 to 64 bytes"
+abbrev pub nameRows : ℕ
+nameRows = 256
+
+abbrev pub instanceRows : ℕ
+instanceRows = 1024
+
+abbrev pub nameRoom : ℕ
+nameRoom = 64
+
+-- ---- nums
+
+-- the remembered verdict, the line level, and how many names, cores and instances there are
+abbrev pub verdictIndex : ℕ
+verdictIndex = 0
+
+abbrev pub verdictLineIndex : ℕ
+verdictLineIndex = 1
+
+abbrev pub linesIndex : ℕ
+linesIndex = 2
+
+abbrev pub scaleIndex : ℕ
+scaleIndex = 3
+
+abbrev pub creatorIndex : ℕ
+creatorIndex = 4
+
+abbrev pub dateIndex : ℕ
+dateIndex = 5
+
+abbrev pub startedIndex : ℕ
+startedIndex = 6
+
+abbrev pub namesIndex : ℕ
+namesIndex = 7
+
+abbrev pub coresIndex : ℕ
+coresIndex = 8
+
+abbrev pub instancesIndex : ℕ
+instancesIndex = 9
+
+-- by name: its kind, its length, its state (a core's or a semaphore's), its last number or count, and whether it has one
+abbrev pub kindColumn : Column
+kindColumn = column 10 nameRows
+
+abbrev pub lengthColumn : Column
+lengthColumn = column (past kindColumn) nameRows
+
+abbrev pub markColumn : Column
+markColumn = column (past lengthColumn) nameRows
+
+abbrev pub numberColumn : Column
+numberColumn = column (past markColumn) nameRows
+
+abbrev pub numberedColumn : Column
+numberedColumn = column (past numberColumn) nameRows
+
+-- by instance: the row of its name, its number, its state
+abbrev pub ownerColumn : Column
+ownerColumn = column (past numberedColumn) instanceRows
+
+abbrev pub instanceColumn : Column
+instanceColumn = column (past ownerColumn) instanceRows
+
+abbrev pub stateColumn : Column
+stateColumn = column (past instanceColumn) instanceRows
+
+-- ---- ticks
+
+-- the first and the last event time
+abbrev pub firstIndex : ℕ
+firstIndex = 0
+
+abbrev pub lastIndex : ℕ
+lastIndex = 1
+
+-- by name: a core's held ticks or a process's charge, idle and unknown ticks, and the time up to which a core's ticks are counted
+abbrev pub heldColumn : Column
+heldColumn = column 2 nameRows
+
+abbrev pub idleColumn : Column
+idleColumn = column (past heldColumn) nameRows
+
+abbrev pub unknownColumn : Column
+unknownColumn = column (past idleColumn) nameRows
+
+abbrev pub sinceColumn : Column
+sinceColumn = column (past unknownColumn) nameRows
+
+-- ---- the sizes
+
 abbrev pub namesSize : ℕ
 namesSize = 16384
 
 abbrev pub numsSize : ℕ
-numsSize = 4362
+numsSize = past stateColumn
 
 abbrev pub ticksSize : ℕ
-ticksSize = 1026
+ticksSize = past sinceColumn
 
 -- ---- single entries of nums: the remembered verdict, the line level, and how many names, cores and instances there are
 
 abbrev pub verdictNumber : List ℕ → ℕ
-verdictNumber nums = getD nums 0 0
+verdictNumber nums = getD nums verdictIndex 0
 
 abbrev pub verdictLine : List ℕ → ℕ
-verdictLine nums = getD nums 1 0
+verdictLine nums = getD nums verdictLineIndex 0
 
 abbrev pub lineCount : List ℕ → ℕ
-lineCount nums = getD nums 2 0
+lineCount nums = getD nums linesIndex 0
 
 -- 0 none yet, else 1 to 5 for ps, ns, us, ms, s
 abbrev pub scaleEntry : List ℕ → ℕ
-scaleEntry nums = getD nums 3 0
+scaleEntry nums = getD nums scaleIndex 0
 
 -- 1 once a creator, a creation date, an event was taken
 abbrev pub creatorEntry : List ℕ → ℕ
-creatorEntry nums = getD nums 4 0
+creatorEntry nums = getD nums creatorIndex 0
 
 abbrev pub dateEntry : List ℕ → ℕ
-dateEntry nums = getD nums 5 0
+dateEntry nums = getD nums dateIndex 0
 
 abbrev pub startedEntry : List ℕ → ℕ
-startedEntry nums = getD nums 6 0
+startedEntry nums = getD nums startedIndex 0
 
 abbrev pub nameCount : List ℕ → ℕ
-nameCount nums = getD nums 7 0
+nameCount nums = getD nums namesIndex 0
 
 abbrev pub coreCount : List ℕ → ℕ
-coreCount nums = getD nums 8 0
+coreCount nums = getD nums coresIndex 0
 
 abbrev pub instanceCount : List ℕ → ℕ
-instanceCount nums = getD nums 9 0
+instanceCount nums = getD nums instancesIndex 0
 
 -- ---- columns of nums by name: its kind, its length, its state (a core's or a semaphore's), its last number or count, and whether it has one
 
 abbrev pub kindAt : List ℕ → ℕ → ℕ
-kindAt nums i = getD nums (10 + i) 0
+kindAt = entryAt kindColumn
 
 abbrev pub lengthAt : List ℕ → ℕ → ℕ
-lengthAt nums i = getD nums (266 + i) 0
+lengthAt = entryAt lengthColumn
 
 abbrev pub markAt : List ℕ → ℕ → ℕ
-markAt nums i = getD nums (522 + i) 0
+markAt = entryAt markColumn
 
 abbrev pub numberAt : List ℕ → ℕ → ℕ
-numberAt nums i = getD nums (778 + i) 0
+numberAt = entryAt numberColumn
 
 abbrev pub numberedAt : List ℕ → ℕ → ℕ
-numberedAt nums i = getD nums (1034 + i) 0
+numberedAt = entryAt numberedColumn
 
 -- ---- columns of nums by instance: the row of its name, its number, its state
 
 abbrev pub ownerAt : List ℕ → ℕ → ℕ
-ownerAt nums j = getD nums (1290 + j) 0
+ownerAt = entryAt ownerColumn
 
 abbrev pub instanceAt : List ℕ → ℕ → ℕ
-instanceAt nums j = getD nums (2314 + j) 0
+instanceAt = entryAt instanceColumn
 
 abbrev pub stateAt : List ℕ → ℕ → ℕ
-stateAt nums j = getD nums (3338 + j) 0
+stateAt = entryAt stateColumn
 
 -- ---- ticks: the first and the last event time; by name a core's held ticks or a process's charge, idle and unknown ticks, and the time up
 -- to which a core's ticks are counted
 
 abbrev pub firstTime : List ℕ → ℕ
-firstTime ticks = getD ticks 0 0
+firstTime ticks = getD ticks firstIndex 0
 
 abbrev pub lastTime : List ℕ → ℕ
-lastTime ticks = getD ticks 1 0
+lastTime ticks = getD ticks lastIndex 0
 
 abbrev pub heldAt : List ℕ → ℕ → ℕ
-heldAt ticks i = getD ticks (2 + i) 0
+heldAt = entryAt heldColumn
 
 abbrev pub idleAt : List ℕ → ℕ → ℕ
-idleAt ticks i = getD ticks (258 + i) 0
+idleAt = entryAt idleColumn
 
 abbrev pub unknownAt : List ℕ → ℕ → ℕ
-unknownAt ticks i = getD ticks (514 + i) 0
+unknownAt = entryAt unknownColumn
 
 abbrev pub sinceAt : List ℕ → ℕ → ℕ
-sinceAt ticks i = getD ticks (770 + i) 0
+sinceAt = entryAt sinceColumn
 
 -- ---- names: the bytes of row i
 
 abbrev pub nameAt : List ℕ → List ℕ → ℕ → List ℕ
-nameAt names nums i = take (lengthAt nums i) (drop (64 * i) names)
+nameAt names nums i = take (lengthAt nums i) (drop (nameRoom * i) names)

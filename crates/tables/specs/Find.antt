@@ -7,7 +7,7 @@ use lib.ListN.{length}
 use Rattle.text.specs.Bytes.{sameBytes}
 use Rattle.tables.specs.declared.find.Found.{Found}
 use Rattle.tables.specs.declared.find.Found.the-variants.{At, Nothing}
-use Rattle.tables.specs.Entry.{namesSize, numsSize, nameCount, lengthAt, nameAt, instanceCount, ownerAt, instanceAt}
+use Rattle.tables.specs.Entry.{nameRows, instanceRows, nameRoom, namesSize, numsSize, nameCount, lengthAt, nameAt, instanceCount, ownerAt, instanceAt}
 
 -- the first of n numbers from i on that passes the test
 unfoldable pub firstFrom : (ℕ → Bool) → ℕ → ℕ → Found
@@ -21,7 +21,7 @@ lastBelow f (suc n) = cond (f n) (At n) (lastBelow f n)
 
 -- row i holds the name
 unfoldable pub rowIs : List ℕ → List ℕ → List ℕ → ℕ → Bool
-rowIs names nums name i = ltb i 256 && (eqb (lengthAt nums i) (length name) && (leb (lengthAt nums i) 64 && sameBytes (nameAt names nums i) name))
+rowIs names nums name i = ltb i nameRows && (eqb (lengthAt nums i) (length name) && (leb (lengthAt nums i) nameRoom && sameBytes (nameAt names nums i) name))
 
 unfoldable pub findName : List ℕ → List ℕ → List ℕ → Found
 findName names nums name =
@@ -29,7 +29,7 @@ findName names nums name =
 
 -- row j is the instance of an owner with a number
 unfoldable pub instanceIs : List ℕ → ℕ → ℕ → ℕ → Bool
-instanceIs nums owner number j = ltb j 1024 && (eqb (instanceAt nums j) number && eqb (ownerAt nums j) owner)
+instanceIs nums owner number j = ltb j instanceRows && (eqb (instanceAt nums j) number && eqb (ownerAt nums j) owner)
 
 unfoldable pub findInstance : List ℕ → ℕ → ℕ → Found
 findInstance nums owner number = cond (eqb (length nums) numsSize) (lastBelow (instanceIs nums owner number) (instanceCount nums)) Nothing

@@ -11,7 +11,7 @@ use Rattle.rules.specs.Words.{core, semaphore}
 use Rattle.rules.specs.Chart.{isStateOf}
 use Rattle.rules.specs.Charts.{isProcess, chartOf}
 use Rattle.rules.specs.History.{hasInstances}
-use Rattle.tables.specs.Entry.{namesSize, numsSize, ticksSize}
+use Rattle.tables.specs.Entry.{nameRows, instanceRows, nameRoom, namesSize, numsSize, ticksSize}
 use Rattle.tables.specs.Entry.{verdictNumber, verdictLine, lineCount, scaleEntry, creatorEntry, dateEntry, startedEntry, nameCount, coreCount, instanceCount}
 use Rattle.tables.specs.Entry.{kindAt, lengthAt, markAt, numberedAt, ownerAt, stateAt, firstTime, lastTime, heldAt, idleAt, unknownAt, sinceAt, nameAt}
 
@@ -27,13 +27,13 @@ headsOk nums =
 
 -- "tracked names (cores, T, I, R, SEM) | 256, of them 64 cores"; "process and runnable instances | 1,024"
 unfoldable pub countsOk : List ℕ → Bool
-countsOk nums = leb (startedEntry nums) 1 && (leb (nameCount nums) 256 && (leb (coreCount nums) 64 && leb (instanceCount nums) 1024))
+countsOk nums = leb (startedEntry nums) 1 && (leb (nameCount nums) nameRows && (leb (coreCount nums) 64 && leb (instanceCount nums) instanceRows))
 
 -- what the code needs before it looks at rows: every row that is counted is there
 pub record Counted (nums : List ℕ) : Type 0 where
   pub size : length nums ≡ numsSize
-  pub names : nameCount nums ≤ 256
-  pub instances : instanceCount nums ≤ 1024
+  pub names : nameCount nums ≤ nameRows
+  pub instances : instanceCount nums ≤ instanceRows
 
 -- "time | 72,057,594,037,927,935 (2^56 − 1)"; "a first time above the last"
 unfoldable pub timesOk : List ℕ → Bool
@@ -59,7 +59,7 @@ unfoldable pub sumsOk : List ℕ → ℕ → Bool
 sumsOk ticks i = leb (heldAt ticks i) maxSum && (leb (idleAt ticks i) maxSum && (leb (unknownAt ticks i) maxSum && leb (sinceAt ticks i) (lastTime ticks)))
 
 unfoldable pub bytesOk : List ℕ → List ℕ → ℕ → Bool
-bytesOk names nums i = leb (lengthAt nums i) 64 && isName (nameAt names nums i)
+bytesOk names nums i = leb (lengthAt nums i) nameRoom && isName (nameAt names nums i)
 
 -- the row of name i
 unfoldable pub nameOk : List ℕ → List ℕ → List ℕ → ℕ → Bool

@@ -1,11 +1,11 @@
-// Where each entry lies. "Numbers, states and charges lie in lent tables of u32 and u64 entries", in columns: entry BASE + i.
+// Where each entry lies: the one place in code that names a base or a size. "Numbers, states and charges lie in lent tables of u32 and u64 entries", in columns: entry BASE + i.
 
-// the sizes of the three tables
-pub const NAMES_SIZE: usize = 16384;
+// how many rows a column has, by name and by instance, and how many bytes a name
+pub const NAME_ROWS: usize = 256;
 
-pub const NUMS_SIZE: usize = 4362;
+pub const INSTANCE_ROWS: usize = 1024;
 
-pub const TICKS_SIZE: usize = 1026;
+pub const NAME_ROOM: usize = 64;
 
 // single entries of nums
 pub const VERDICT: usize = 0;
@@ -31,20 +31,20 @@ pub const INSTANCES: usize = 9;
 // columns of nums with an entry for each of 256 names
 pub const KIND: usize = 10;
 
-pub const LENGTH: usize = 266;
+pub const LENGTH: usize = KIND + NAME_ROWS;
 
-pub const MARK: usize = 522;
+pub const MARK: usize = LENGTH + NAME_ROWS;
 
-pub const NUMBER: usize = 778;
+pub const NUMBER: usize = MARK + NAME_ROWS;
 
-pub const NUMBERED: usize = 1034;
+pub const NUMBERED: usize = NUMBER + NAME_ROWS;
 
 // columns of nums with an entry for each of 1,024 instances
-pub const OWNER: usize = 1290;
+pub const OWNER: usize = NUMBERED + NAME_ROWS;
 
-pub const INSTANCE: usize = 2314;
+pub const INSTANCE: usize = OWNER + INSTANCE_ROWS;
 
-pub const STATE: usize = 3338;
+pub const STATE: usize = INSTANCE + INSTANCE_ROWS;
 
 // single entries of ticks, and its columns with an entry for each of 256 names
 pub const FIRST: usize = 0;
@@ -53,8 +53,15 @@ pub const LAST: usize = 1;
 
 pub const HELD: usize = 2;
 
-pub const IDLE: usize = 258;
+pub const IDLE: usize = HELD + NAME_ROWS;
 
-pub const UNKNOWN: usize = 514;
+pub const UNKNOWN: usize = IDLE + NAME_ROWS;
 
-pub const SINCE: usize = 770;
+pub const SINCE: usize = UNKNOWN + NAME_ROWS;
+
+// the sizes of the three tables
+pub const NAMES_SIZE: usize = NAME_ROOM * NAME_ROWS;
+
+pub const NUMS_SIZE: usize = STATE + INSTANCE_ROWS;
+
+pub const TICKS_SIZE: usize = SINCE + NAME_ROWS;

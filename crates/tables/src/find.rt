@@ -5,13 +5,8 @@ ghost use mathlib.Core.List.{List};
 ghost use Prim.Native.Nat.{ℕ, _+_, _-_, _*_, _<_, _≤_};
 ghost use lib.ListN.{length};
 ghost use Rattle.tables.specs.Find.{rowIs, instanceIs, findName, findInstance, firstFrom, lastBelow};
-use crate::entry::INSTANCE;
-use crate::entry::INSTANCES;
-use crate::entry::LENGTH;
-use crate::entry::NAMES;
-use crate::entry::NAMES_SIZE;
-use crate::entry::NUMS_SIZE;
-use crate::entry::OWNER;
+ghost use Rattle.tables.specs.Entry.{namesSize, numsSize, instanceRows, nameRoom};
+use crate::entry::*;
 use text::bytes::same;
 
 pub enum Found {
@@ -21,20 +16,20 @@ pub enum Found {
 
 // Whether row i holds the name. Lengths are compared first.
 fn row_is(names: &[u8], nums: &[u32], name: &[u8], i: usize) -> bool
-    requires { ⌜ (length (now names) ≡ 16384) × (length (now nums) ≡ 4362) ⌝ }
+    requires { ⌜ (length (now names) ≡ namesSize) × (length (now nums) ≡ numsSize) ⌝ }
     ensures { λ r. ⌜ r ≡ rowIs (now (names .entry)) (now (nums .entry)) (now (name .entry)) i ⌝ }
 {
-    if 256 <= i {
+    if NAME_ROWS <= i {
         return false;
     }
     let n = nums[LENGTH + i] as usize;
     if n != name.len() {
         return false;
     }
-    if 64 < n {
+    if NAME_ROOM < n {
         return false;
     }
-    let at = 64 * i;
+    let at = NAME_ROOM * i;
     let to = at + n;
     same(&names[at..to], name)
 }
@@ -42,11 +37,11 @@ fn row_is(names: &[u8], nums: &[u32], name: &[u8], i: usize) -> bool
 // Whether the last four bytes of row i, were it as long as the name, are others than the name's; `true` is what it promises. All four are
 // looked at with no exit between, so that they can be compared at once.
 fn ends_differ(names: &[u8], name: &[u8], i: usize) -> bool
-    requires { ⌜ (4 ≤ length (now name)) × (64 * i + length (now name) ≤ length (now names)) × (length (now names) ≡ 16384) ⌝ }
+    requires { ⌜ (4 ≤ length (now name)) × (nameRoom * i + length (now name) ≤ length (now names)) × (length (now names) ≡ namesSize) ⌝ }
     ensures { λ r. ⌜ (r ≡ true → (nums : List ℕ) → rowIs (now (names .entry)) nums (now (name .entry)) i ≡ false) ⌝ }
 {
     let n = name.len() - 4;
-    let at = 64 * i + n;
+    let at = NAME_ROOM * i + n;
     let mut differ = false;
     let mut k = 0;
     while k < 4 {
@@ -58,16 +53,16 @@ fn ends_differ(names: &[u8], name: &[u8], i: usize) -> bool
 
 // A row from `from` on before which none holds the name.
 fn skip_names(names: &[u8], name: &[u8], from: usize, to: usize) -> usize
-    requires { ⌜ length (now names) ≡ 16384 ⌝ }
+    requires { ⌜ length (now names) ≡ namesSize ⌝ }
     ensures { λ r. ⌜ («from» ≤ r) × ((nums : List ℕ) → firstFrom (rowIs (now (names .entry)) nums (now (name .entry))) «from» (to - «from») ≡ firstFrom (rowIs (now (names .entry)) nums (now (name .entry))) r (to - r)) ⌝ }
 {
     if name.len() < 4 {
         return from;
     }
-    if 64 < name.len() {
+    if NAME_ROOM < name.len() {
         return from;
     }
-    if 256 < to {
+    if NAME_ROWS < to {
         return from;
     }
     let mut i = from;
@@ -82,7 +77,7 @@ fn skip_names(names: &[u8], name: &[u8], from: usize, to: usize) -> usize
 
 // The first of n rows that holds the name.
 fn first_row(names: &[u8], nums: &[u32], name: &[u8], n: usize) -> Found
-    requires { ⌜ (length (now names) ≡ 16384) × (length (now nums) ≡ 4362) ⌝ }
+    requires { ⌜ (length (now names) ≡ namesSize) × (length (now nums) ≡ numsSize) ⌝ }
     ensures { λ r. ⌜ r ≡ firstFrom (rowIs (now (names .entry)) (now (nums .entry)) (now (name .entry))) 0 n ⌝ }
 {
     let mut from = 0;
@@ -114,10 +109,10 @@ pub fn find_name(names: &[u8], nums: &[u32], name: &[u8]) -> Found
 
 // Whether row j is the instance of an owner with a number.
 fn instance_is(nums: &[u32], owner: u32, number: u32, j: usize) -> bool
-    requires { ⌜ length (now nums) ≡ 4362 ⌝ }
+    requires { ⌜ length (now nums) ≡ numsSize ⌝ }
     ensures { λ r. ⌜ r ≡ instanceIs (now (nums .entry)) owner number j ⌝ }
 {
-    if 1024 <= j {
+    if INSTANCE_ROWS <= j {
         return false;
     }
     if nums[INSTANCE + j] != number {
@@ -129,7 +124,7 @@ fn instance_is(nums: &[u32], owner: u32, number: u32, j: usize) -> bool
 // Whether one of the eight rows from `from` on is the instance of an owner with a number; `false` is what it promises. All eight are looked
 // at with no exit between, so that they can be compared at once.
 fn eight_have(nums: &[u32], owner: u32, number: u32, from: usize) -> bool
-    requires { ⌜ («from» + 8 ≤ 1024) × (length (now nums) ≡ 4362) ⌝ }
+    requires { ⌜ («from» + 8 ≤ instanceRows) × (length (now nums) ≡ numsSize) ⌝ }
     ensures { λ r. ⌜ (r ≡ false → lastBelow (instanceIs (now (nums .entry)) owner number) («from» + 8) ≡ lastBelow (instanceIs (now (nums .entry)) owner number) «from») ⌝ }
 {
     let mut have = false;
@@ -144,10 +139,10 @@ fn eight_have(nums: &[u32], owner: u32, number: u32, from: usize) -> bool
 
 // A number from `to` downwards, in steps of eight, from which on no row below `to` is that instance.
 fn skip_rows(nums: &[u32], owner: u32, number: u32, to: usize) -> usize
-    requires { ⌜ length (now nums) ≡ 4362 ⌝ }
+    requires { ⌜ length (now nums) ≡ numsSize ⌝ }
     ensures { λ r. ⌜ lastBelow (instanceIs (now (nums .entry)) owner number) to ≡ lastBelow (instanceIs (now (nums .entry)) owner number) r ⌝ }
 {
-    if 1024 < to {
+    if INSTANCE_ROWS < to {
         return to;
     }
     let mut j = to;

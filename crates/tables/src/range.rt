@@ -3,31 +3,8 @@ ghost use mathlib.Core.Path.{_≡_};
 ghost use Prim.Native.Nat.{_<_, _≤_};
 ghost use lib.ListN.{length};
 ghost use Rattle.tables.specs.Range.{isSized, Counted, countsOk, headsOk, timesOk, holderOk, coreOk, markOk, sumsOk, bytesOk, nameOk, instanceOk, upTo, inRange, tableAnswer};
-use crate::entry::CORES;
-use crate::entry::CREATOR;
-use crate::entry::DATE;
-use crate::entry::FIRST;
-use crate::entry::HELD;
-use crate::entry::IDLE;
-use crate::entry::INSTANCES;
-use crate::entry::KIND;
-use crate::entry::LAST;
-use crate::entry::LENGTH;
-use crate::entry::LINES;
-use crate::entry::MARK;
-use crate::entry::NAMES;
-use crate::entry::NAMES_SIZE;
-use crate::entry::NUMBERED;
-use crate::entry::NUMS_SIZE;
-use crate::entry::OWNER;
-use crate::entry::SCALE;
-use crate::entry::SINCE;
-use crate::entry::STARTED;
-use crate::entry::STATE;
-use crate::entry::TICKS_SIZE;
-use crate::entry::UNKNOWN;
-use crate::entry::VERDICT;
-use crate::entry::VERDICT_LINE;
+ghost use Rattle.tables.specs.Entry.{namesSize, numsSize, ticksSize, nameRows, instanceRows};
+use crate::entry::*;
 use crate::state::is_process;
 use crate::state::of_semaphore;
 use crate::state::state_ok;
@@ -50,7 +27,7 @@ pub fn sized(names: usize, nums: usize, ticks: usize) -> bool
 
 // The verdict and the line level's entries.
 fn heads_ok(nums: &[u32]) -> bool
-    requires { ⌜ length (now nums) ≡ 4362 ⌝ }
+    requires { ⌜ length (now nums) ≡ numsSize ⌝ }
     ensures { λ r. ⌜ r ≡ headsOk (now (nums .entry)) ⌝ }
 {
     (nums[VERDICT] <= 14)
@@ -61,7 +38,7 @@ fn heads_ok(nums: &[u32]) -> bool
 
 // How many names, cores and instances there are.
 fn counts_ok(nums: &[u32]) -> bool
-    requires { ⌜ length (now nums) ≡ 4362 ⌝ }
+    requires { ⌜ length (now nums) ≡ numsSize ⌝ }
     ensures { λ r. ⌜ r ≡ countsOk (now (nums .entry)) ⌝ }
 {
     (nums[STARTED] <= 1)
@@ -70,7 +47,7 @@ fn counts_ok(nums: &[u32]) -> bool
 
 // The first and the last time.
 fn times_ok(ticks: &[u64]) -> bool
-    requires { ⌜ length (now ticks) ≡ 1026 ⌝ }
+    requires { ⌜ length (now ticks) ≡ ticksSize ⌝ }
     ensures { λ r. ⌜ r ≡ timesOk (now (ticks .entry)) ⌝ }
 {
     (ticks[LAST] <= 72057594037927935) & (ticks[FIRST] <= ticks[LAST])
@@ -118,7 +95,7 @@ fn mark_ok(nums: &[u32], kind: u32, mark: u32) -> bool
 
 // The tick sums and the time since of name i.
 fn sums_ok(ticks: &[u64], i: usize) -> bool
-    requires { ⌜ (i < 256) × (length (now ticks) ≡ 1026) ⌝ }
+    requires { ⌜ (i < nameRows) × (length (now ticks) ≡ ticksSize) ⌝ }
     ensures { λ r. ⌜ r ≡ sumsOk (now (ticks .entry)) i ⌝ }
 {
     (ticks[HELD + i] <= 0x4000_0000_0000_0000)
@@ -128,21 +105,21 @@ fn sums_ok(ticks: &[u64], i: usize) -> bool
 
 // Whether the bytes of row i are a name of its length.
 fn bytes_ok(names: &[u8], nums: &[u32], i: usize) -> bool
-    requires { ⌜ (i < 256) × ((length (now names) ≡ 16384) × (length (now nums) ≡ 4362)) ⌝ }
+    requires { ⌜ (i < nameRows) × ((length (now names) ≡ namesSize) × (length (now nums) ≡ numsSize)) ⌝ }
     ensures { λ r. ⌜ r ≡ bytesOk (now (names .entry)) (now (nums .entry)) i ⌝ }
 {
     let n = nums[LENGTH + i] as usize;
-    if 64 < n {
+    if NAME_ROOM < n {
         return false;
     }
-    let at = 64 * i;
+    let at = NAME_ROOM * i;
     let to = at + n;
     name(&names[at..to])
 }
 
 // The whole row of name i.
 fn name_ok(names: &[u8], nums: &[u32], ticks: &[u64], i: usize) -> bool
-    requires { ⌜ (i < 256) × ((length (now names) ≡ 16384) × ((length (now ticks) ≡ 1026) × Counted (now nums))) ⌝ }
+    requires { ⌜ (i < nameRows) × ((length (now names) ≡ namesSize) × ((length (now ticks) ≡ ticksSize) × Counted (now nums))) ⌝ }
     ensures { λ r. ⌜ r ≡ nameOk (now (names .entry)) (now (nums .entry)) (now (ticks .entry)) i ⌝ }
 {
     let kind = nums[KIND + i];
@@ -154,7 +131,7 @@ fn name_ok(names: &[u8], nums: &[u32], ticks: &[u64], i: usize) -> bool
 
 // The whole row of instance j.
 fn instance_ok(nums: &[u32], j: usize) -> bool
-    requires { ⌜ (j < 1024) × Counted (now nums) ⌝ }
+    requires { ⌜ (j < instanceRows) × Counted (now nums) ⌝ }
     ensures { λ r. ⌜ r ≡ instanceOk (now (nums .entry)) j ⌝ }
 {
     let owner = nums[OWNER + j];
@@ -165,7 +142,7 @@ fn instance_ok(nums: &[u32], j: usize) -> bool
 }
 
 fn names_ok(names: &[u8], nums: &[u32], ticks: &[u64], n: usize) -> bool
-    requires { ⌜ (n ≤ 256) × ((length (now names) ≡ 16384) × ((length (now ticks) ≡ 1026) × Counted (now nums))) ⌝ }
+    requires { ⌜ (n ≤ nameRows) × ((length (now names) ≡ namesSize) × ((length (now ticks) ≡ ticksSize) × Counted (now nums))) ⌝ }
     ensures { λ r. ⌜ r ≡ upTo (nameOk (now (names .entry)) (now (nums .entry)) (now (ticks .entry))) n ⌝ }
 {
     let mut i = 0;
@@ -179,7 +156,7 @@ fn names_ok(names: &[u8], nums: &[u32], ticks: &[u64], n: usize) -> bool
 }
 
 fn instances_ok(nums: &[u32], n: usize) -> bool
-    requires { ⌜ (n ≤ 1024) × Counted (now nums) ⌝ }
+    requires { ⌜ (n ≤ instanceRows) × Counted (now nums) ⌝ }
     ensures { λ r. ⌜ r ≡ upTo (instanceOk (now (nums .entry))) n ⌝ }
 {
     let mut j = 0;
@@ -194,7 +171,7 @@ fn instances_ok(nums: &[u32], n: usize) -> bool
 
 // Whether every entry is in its range. The counts are tested first, since they tell how many rows there are to test.
 fn in_range(names: &[u8], nums: &[u32], ticks: &[u64]) -> bool
-    requires { ⌜ (length (now names) ≡ 16384) × ((length (now nums) ≡ 4362) × (length (now ticks) ≡ 1026)) ⌝ }
+    requires { ⌜ (length (now names) ≡ namesSize) × ((length (now nums) ≡ numsSize) × (length (now ticks) ≡ ticksSize)) ⌝ }
     ensures { λ r. ⌜ r ≡ inRange (now (names .entry)) (now (nums .entry)) (now (ticks .entry)) ⌝ }
 {
     if !counts_ok(nums) {

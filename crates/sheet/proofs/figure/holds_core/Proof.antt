@@ -5,7 +5,7 @@ use Prim.Native.Nat.{_+_, _-_}
 use native.Mathlib.Omega.{arith}
 use borrow.Author.Needs.{needs}
 use borrow.Author.Tests.{le-leb, lt-leb, eq-eqb, ne-eqb}
-use Rattle.tables.specs.Entry.{markAt}
+use Rattle.tables.specs.Entry.{markColumn, ownerColumn, markAt}
 use Rattle.tables.proofs.Chains.{pass, stop}
 use Rattle.sheet.specs.Figure.{holds}
 use Rattle.sheet.proofs.figure.holds_core.Statement.{statement}
@@ -32,7 +32,7 @@ returns-4 c =
 cast-owner : tie.Need-cast-result
 cast-owner c =
     let a = c .before .before .before .before .before .before .args in
-    omega (arith, c .shared-slice-known3 .given (1290 + (markAt (a .nums .now) (a .k) - 2)))
+    omega (arith, c .shared-slice-known3 .given (ownerColumn .base + (markAt (a .nums .now) (a .k) - 2)))
 
 pub holds-core-spec : {M : Type 1} → statement M
 holds-core-spec =
@@ -45,7 +45,7 @@ holds-core-spec =
     (λ c. search needs)
     (λ c. search needs)
     (λ c. search needs)
-    (λ c. omega (arith, c .shared-slice-known2 .given (522 + c .before .before .before .args .k)))
+    (λ c. omega (arith, c .shared-slice-known2 .given (markColumn .base + c .before .before .before .args .k)))
     returns-2
     returns-3
     (λ c. search needs)

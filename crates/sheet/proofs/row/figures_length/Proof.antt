@@ -7,7 +7,7 @@ use native.Mathlib.Omega.{arith}
 use borrow.Author.Needs.{needs}
 use lib.ListN.{length}
 use Rattle.text.specs.Number.{digitsOf}
-use Rattle.tables.specs.Entry.{unknownAt}
+use Rattle.tables.specs.Entry.{heldColumn, idleColumn, unknownColumn, unknownAt}
 use Rattle.sheet.specs.declared.section.Section.{Section}
 use Rattle.sheet.specs.declared.section.Section.the-variants.{Cores, Processes}
 use Rattle.sheet.specs.Figure.{heldIn, idleIn, chargeIn}
@@ -26,7 +26,7 @@ short : (c : tie.After-shared-slice-known2) (s : Section) → length (figures c 
 short c s =
     let a = c .before .before .args in
     let k = c .shared-slice-known2 .given in
-    figures-short (a .nums .now) (a .ticks .now) (a .i) s (omega (arith, k (2 + a .i))) (omega (arith, k (258 + a .i))) (omega (arith, k (514 + a .i)))
+    figures-short (a .nums .now) (a .ticks .now) (a .i) s (omega (arith, k (heldColumn .base + a .i))) (omega (arith, k (idleColumn .base + a .i))) (omega (arith, k (unknownColumn .base + a .i)))
 
 -- ---- a core
 

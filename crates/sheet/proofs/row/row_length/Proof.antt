@@ -6,7 +6,7 @@ use native.Mathlib.Omega.{arith}
 use borrow.Author.Needs.{needs}
 use lib.ListN.{length}
 use Rattle.rules.specs.Sheet.{Row}
-use Rattle.tables.specs.Entry.{lengthAt}
+use Rattle.tables.specs.Entry.{lengthColumn, lengthAt}
 use Rattle.tables.proofs.Valid.{Valid, valid}
 use Rattle.sheet.specs.Text.{rowText}
 use Rattle.sheet.specs.Sheet.{rowIn}
@@ -38,7 +38,7 @@ row-length-spec =
     (λ c. omega (arith, valid-at (c .before .before .before)))
     (λ c. omega (arith, valid-at (c .before .before .before)))
     (λ c. omega (arith, valid-at (c .before .before .before .before)))
-    (λ c. omega (arith, c .shared-slice-known4 .given (266 + c .before .before .before .before .args .i)))
+    (λ c. omega (arith, c .shared-slice-known4 .given (lengthColumn .base + c .before .before .before .before .args .i)))
     (λ c κs. let v = valid-at (c .before .before .before .before) in search needs)
     (λ c. omega (arith, sum c, no-wrap c))
     (λ c. omega (arith, sum c, no-wrap c))

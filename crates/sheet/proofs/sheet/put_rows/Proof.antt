@@ -9,7 +9,7 @@ use lib.ListN.{length}
 use Rattle.text.specs.Put.{after, put}
 use Rattle.text.proofs.Writes.{put-length}
 use Rattle.line.proofs.Texts.{put-none}
-use Rattle.tables.specs.Entry.{nameCount}
+use Rattle.tables.specs.Entry.{nameRows, numsSize, nameCount}
 use Rattle.tables.proofs.Valid.{valid}
 use Rattle.sheet.specs.Text.{rowsText}
 use Rattle.sheet.specs.Sheet.{rowsTo, rowsIn}
@@ -19,7 +19,7 @@ use Rattle.sheet.proofs.sheet.put_rows.Tie as tie
 
 abbrev Inv-loop : tie.InvT-loop
 Inv-loop names nums ticks section out₀ at n next₀ i₀ out next i =
-    (i ≤ n) × (n ≤ 256) × (length nums ≡ 4362) × (after next out ≡ put out₀ at (rowsText (rowsTo section names nums ticks i)))
+    (i ≤ n) × (n ≤ nameRows) × (length nums ≡ numsSize) × (after next out ≡ put out₀ at (rowsText (rowsTo section names nums ticks i)))
 
 abbrev μ-loop : tie.MeasureT-loop
 μ-loop names nums ticks section out₀ at n next₀ i₀ out next i = n - i

@@ -6,7 +6,7 @@ use Prim.Native.Nat.{_-_, _≤_}
 use native.Mathlib.Omega.{arith}
 use borrow.Author.Needs.{needs}
 use lib.ListN.{length}
-use Rattle.tables.specs.Entry.{nameCount}
+use Rattle.tables.specs.Entry.{nameRows, numsSize, nameCount}
 use Rattle.tables.proofs.Valid.{valid}
 use Rattle.sheet.specs.Sheet.{rowsTo, rowsIn}
 use Rattle.sheet.proofs.Rows.{count-in, row-out}
@@ -15,7 +15,7 @@ use Rattle.sheet.proofs.sheet.rows_count.Statement.{statement}
 use Rattle.sheet.proofs.sheet.rows_count.Tie as tie
 
 abbrev Inv-loop : tie.InvT-loop
-Inv-loop names nums ticks section n count₀ i₀ count i = (i ≤ n) × (n ≤ 256) × (length nums ≡ 4362) × (count ≡ length (rowsTo section names nums ticks i))
+Inv-loop names nums ticks section n count₀ i₀ count i = (i ≤ n) × (n ≤ nameRows) × (length nums ≡ numsSize) × (count ≡ length (rowsTo section names nums ticks i))
 
 abbrev μ-loop : tie.MeasureT-loop
 μ-loop names nums ticks section n count₀ i₀ count i = n - i

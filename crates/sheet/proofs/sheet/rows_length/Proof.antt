@@ -7,7 +7,7 @@ use Prim.Native.Nat.{_-_, _≤_}
 use native.Mathlib.Omega.{arith}
 use borrow.Author.Needs.{needs}
 use lib.ListN.{length}
-use Rattle.tables.specs.Entry.{nameCount}
+use Rattle.tables.specs.Entry.{nameRows, numsSize, nameCount}
 use Rattle.tables.proofs.Valid.{valid}
 use Rattle.sheet.specs.Text.{rowsText}
 use Rattle.sheet.specs.Sheet.{rowsTo, rowsIn}
@@ -17,7 +17,7 @@ use Rattle.sheet.proofs.sheet.rows_length.Statement.{statement}
 use Rattle.sheet.proofs.sheet.rows_length.Tie as tie
 
 abbrev Inv-loop : tie.InvT-loop
-Inv-loop names nums ticks section n sum₀ i₀ sum i = (i ≤ n) × (n ≤ 256) × (length nums ≡ 4362) × (sum ≡ length (rowsText (rowsTo section names nums ticks i)))
+Inv-loop names nums ticks section n sum₀ i₀ sum i = (i ≤ n) × (n ≤ nameRows) × (length nums ≡ numsSize) × (sum ≡ length (rowsText (rowsTo section names nums ticks i)))
 
 abbrev μ-loop : tie.MeasureT-loop
 μ-loop names nums ticks section n sum₀ i₀ sum i = n - i

@@ -6,6 +6,7 @@ use Prim.Native.Nat.{ℕ, _+_}
 use native.Mathlib.Omega.{arith}
 use borrow.Author.Needs.{needs}
 use borrow.Author.Tests.{le-leb, lt-leb, lt-ltb, le-ltb, eq-eqb, ne-eqb}
+use Rattle.tables.specs.Entry.{lengthColumn}
 use Rattle.text.specs.Bytes.{sameBytes}
 use Rattle.tables.specs.Find.{rowIs}
 use Rattle.tables.proofs.Chains.{pass, stop}
@@ -42,7 +43,7 @@ row-is-spec =
     (λ c. search needs)
     (λ c. search needs)
     (λ c. search needs)
-    (λ c. omega (arith, c .shared-slice-known4 .given (266 + c .before .before .before .before .before .args .i)))
+    (λ c. omega (arith, c .shared-slice-known4 .given (lengthColumn .base + c .before .before .before .before .before .args .i)))
     returns-2
     returns-3
     (λ c. search needs)

@@ -5,6 +5,7 @@ use Prim.Native.Nat.{_+_}
 use native.Mathlib.Omega.{arith}
 use borrow.Author.Needs.{needs}
 use borrow.Author.Tests.{le-leb, lt-leb}
+use Rattle.tables.specs.Entry.{lengthColumn}
 use Rattle.text.specs.Name.{isName}
 use Rattle.tables.specs.Range.{bytesOk}
 use Rattle.tables.proofs.Chains.{pass, stop}
@@ -29,7 +30,7 @@ bytes-ok-spec =
     (λ c. search needs)
     (λ c. search needs)
     (λ c. search needs)
-    (λ c. omega (arith, c .shared-slice-known3 .given (266 + c .before .before .before .args .i)))
+    (λ c. omega (arith, c .shared-slice-known3 .given (lengthColumn .base + c .before .before .before .args .i)))
     returns
     (λ c. search needs)
     (λ c. search needs)
