@@ -1,47 +1,77 @@
 -- Tables that show a history of lines that were read are in range: where the line level's entries are, answer 16 does not come.
 use mathlib.Core.Path.{_≡_, refl, ap, subst, _∙_}
-use mathlib.Core.Bool.{Bool, true, false, not, _&&_, cond}
+use mathlib.Core.Bool.{Bool, true, false, not, _||_, cond}
 use mathlib.Core.Option.{some}
 use mathlib.Core.List.{List}
-use Prim.Native.Nat.{ℕ, zero, suc, _+_, _≤_}
+use Prim.Native.Nat.{ℕ, zero, suc, _+_, _-_, _≤_, _<_}
 use native.Mathlib.Omega.{arith}
-use lib.Dec.{eqb, leb}
-use borrow.Author.Tests.{eqb-true, eqb-false, eq-eqb, le-leb}
+use lib.Dec.{eqb}
+use borrow.Author.Tests.{eqb-true, eqb-false, eq-eqb, ne-eqb, lt-ltb, le-ltb}
 use Rattle.text.specs.Bytes.{sameBytes}
 use Rattle.text.proofs.Names.{name-length}
 use Rattle.line.specs.Event.{maxTime}
 use Rattle.rules.specs.Lists.{any}
 use Rattle.rules.specs.Words.{core, semaphore}
-use Rattle.rules.specs.Event.{Event, Instance, sameInstance}
-use Rattle.rules.specs.Core.{coreAt}
-use Rattle.rules.specs.History.{names, instances, kindOf}
+use Rattle.rules.specs.Chart.{isStateOf}
+use Rattle.rules.specs.Charts.{chartOf}
+use Rattle.rules.specs.Event.{Event, Instance, sameInstance, wordsOf}
+use Rattle.rules.specs.Core.{Core, unknown, idle, held, coreAt}
+use Rattle.rules.specs.History.{hasInstances, names, instances, kindOf}
 use Rattle.rules.specs.Refusals.{unseen}
 use Rattle.rules.specs.Rows.{opened}
 use Rattle.rules.specs.Verdict.{Accepted}
 use Rattle.rules.specs.Sheet.{span}
-use Rattle.rules.proofs.Tests.{and-true}
 use Rattle.rules.proofs.Answers.{all-fit}
 use Rattle.rules.proofs.Seen.{first-seen}
 use Rattle.rules.proofs.Tracked.{named-kind}
 use Rattle.rules.proofs.Totals.{core-total}
 use Rattle.rules.proofs.Charges.{charge-at-most}
-use Rattle.tables.specs.Entry.{verdictNumber, verdictLine, lineCount, scaleEntry, creatorEntry, dateEntry, instanceCount}
-use Rattle.tables.specs.Entry.{kindAt, markAt, heldAt, idleAt, unknownAt, sinceAt, lastTime, stateAt}
-use Rattle.tables.specs.Range.{markOk, maxSum}
+use Rattle.rules.proofs.Alone.{alone}
+use Rattle.tables.specs.Entry.{verdictNumber, verdictLine, lineCount, scaleEntry, creatorEntry, dateEntry, nameCount, instanceCount}
+use Rattle.tables.specs.Entry.{kindAt, markAt, ownerAt, stateAt, heldAt, idleAt, unknownAt, sinceAt, lastTime}
+use Rattle.tables.specs.Range.{holderOk, coreOk, markOk, maxSum}
 use Rattle.tables.proofs.Valid.{NameRow, InstanceRow, Valid}
 use Rattle.judge.specs.Feed.{Tables}
 use Rattle.agree.specs.Places.{rowOf, instanceRowOf}
-use Rattle.agree.specs.Shown.{Shown, NameShown, theSemaphore}
+use Rattle.agree.specs.Shown.{Shown, NameShown, coreMark, theSemaphore}
 use Rattle.agree.proofs.Places.{place-bound}
 use Rattle.agree.proofs.Grown.{AllMet, name-kind, name-at, instance-at, instance-kind, core-known, named-well}
 use Rattle.agree.proofs.Told.{all-worded}
 use Rattle.agree.proofs.Holders.{holder-listed}
-use Rattle.agree.proofs.Bounds.{state-known, semaphore-state, core-mark, started-one, first-last, last-most, span-most}
+use Rattle.agree.proofs.Bounds.{stored-state, started-one, first-last, last-most, span-most}
 
 -- ---- names
 
 module _ (h : List Event) (a : Accepted h) (met : AllMet h) (t : Tables) (s : Shown h t) where
-  mark-ok : (n : List ℕ) → any (sameBytes n) (names h) ≡ true → markOk (kindAt (t .nums) (rowOf h n)) (markAt (t .nums) (rowOf h n)) (instanceCount (t .nums)) ≡ true
+  -- the name that an instance belongs to is there and of the instance's kind
+  record Owned (x : Instance) : Type 0 where
+    there : ownerAt (t .nums) (instanceRowOf h x) < nameCount (t .nums)
+    kind : kindAt (t .nums) (ownerAt (t .nums) (instanceRowOf h x)) ≡ x .kind
+    has-instances : hasInstances (x .kind) ≡ true
+
+  owned : (x : Instance) → any (sameInstance x) (instances h) ≡ true → Owned x
+  owned x q =
+      let owner = s .each-instance x q .owner in
+      let k = instance-kind h a x q in
+      let listed = named-kind h (x .name) (x .kind) (k .1) _ refl in
+      record {
+        there = omega (arith, owner, s .head .names-counted, place-bound (sameBytes (x .name)) (names h) listed);
+        kind = rw owner (let n = s .each-name (x .name) listed .kind in cc (k .1));
+        has-instances = k .0;
+      }
+
+  core-ok : (n : List ℕ) (c : Core) → coreAt n h ≡ c → (c ≡ unknown → ⊥) → coreOk (t .nums) (coreMark h c) ≡ true
+  unfolding coreOk holderOk
+  core-ok n unknown p k = absurd (k refl)
+  core-ok n idle p k = refl
+  core-ok n (held x) p k =
+      let q = holder-listed n h x p in
+      let o = owned x q in
+      let row : (instanceRowOf h x + 2) - 2 ≡ instanceRowOf h x = omega arith in
+      let below : instanceRowOf h x < instanceCount (t .nums) = omega (arith, s .head .instances-counted, place-bound (sameInstance x) (instances h) q) in
+      rw (le-ltb (instanceRowOf h x + 2) 2 (omega arith), row, lt-ltb _ _ below, lt-ltb _ _ (o .there), o .kind, alone h a .holder-occupies n x p .0)
+
+  mark-ok : (n : List ℕ) → any (sameBytes n) (names h) ≡ true → markOk (t .nums) (kindAt (t .nums) (rowOf h n)) (markAt (t .nums) (rowOf h n)) ≡ true
   unfolding markOk
   mark-ok n q = by-kind (eqb k core) refl (eqb k semaphore) refl
     where
@@ -54,12 +84,10 @@ module _ (h : List Event) (a : Accepted h) (met : AllMet h) (t : Tables) (s : Sh
       m : ℕ
       m = markAt (t .nums) (rowOf h n)
 
-      by-kind : (b : Bool) → eqb k core ≡ b → (d : Bool) → eqb k semaphore ≡ d → cond b (leb 1 m && leb m (instanceCount (t .nums) + 1)) (cond d (leb m 4) (eqb m 0)) ≡ true
-      by-kind true p d u =
-          let c = core-mark h (coreAt n h) (core-known n h (r .kind ∙ ap some (eqb-true k core p))) (holder-listed n h) in
-          let z = r .mark .of-core p in
-          and-true _ _ (le-leb 1 m (omega (arith, c .0, z))) (le-leb m (instanceCount (t .nums) + 1) (omega (arith, c .1, z, s .head .instances-counted)))
-      by-kind false p true u = le-leb m 4 (semaphore-state h (theSemaphore n) m refl (r .mark .of-semaphore u))
+      by-kind : (b : Bool) → eqb k core ≡ b → (d : Bool) → eqb k semaphore ≡ d →
+          cond b (coreOk (t .nums) m) (cond d (eqb m 0 || isStateOf (chartOf semaphore) m) (eqb m 0)) ≡ true
+      by-kind true p d u = rw (r .mark .of-core p) (core-ok n (coreAt n h) refl (core-known n h (r .kind ∙ ap some (eqb-true k core p))))
+      by-kind false p true u = stored-state (chartOf semaphore) (wordsOf (theSemaphore n) h) m (r .mark .of-semaphore u)
       by-kind false p false u = eq-eqb m 0 (r .mark .of-other p u)
 
   -- ---- the ticks of a name
@@ -125,16 +153,18 @@ module _ (h : List Event) (a : Accepted h) (met : AllMet h) (t : Tables) (s : Sh
   instance-row : (x : Instance) → any (sameInstance x) (instances h) ≡ true → InstanceRow (t .nums) (instanceRowOf h x)
   instance-row x q =
       let r = s .each-instance x q in
-      let k = instance-kind h a x q in
+      let o = owned x q in
+      let state = stateAt (t .nums) (instanceRowOf h x) in
+      let seen = not-none state (ap unseen (r .state) ∙ first-seen h (all-worded h met) x (o .has-instances) ∙ ap not q) in
       record {
-        owner = omega (arith, r .owner, s .head .names-counted, place-bound (sameBytes (x .name)) (names h) (named-kind h (x .name) (x .kind) (k .1) _ refl));
-        state-some = has-state (stateAt (t .nums) (instanceRowOf h x)) (ap unseen (r .state) ∙ first-seen h (all-worded h met) x (k .0) ∙ ap not q);
-        state-known = state-known h x (stateAt (t .nums) (instanceRowOf h x)) (r .state);
+        owner = o .there;
+        owner-kind = rw (o .kind) (o .has-instances);
+        state = rw (o .kind) (rw seen at (stored-state (chartOf (x .kind)) (wordsOf x h) state (r .state)));
       }
     where
-      has-state : (n : ℕ) → unseen (opened n) ≡ false → 1 ≤ n
-      has-state zero p = let z : _≡_ {A = ℕ} 0 1 = cc in absurd (omega arith)
-      has-state (suc n) p = omega arith
+      not-none : (n : ℕ) → unseen (opened n) ≡ false → eqb n 0 ≡ false
+      not-none zero p = p
+      not-none (suc n) p = ne-eqb (suc n) 0 (λ q. omega arith)
 
   -- ---- the tables
 

@@ -8,6 +8,10 @@ use native.Mathlib.Omega.{arith}
 use lib.ListN.{length, drop, length-take}
 use Rattle.text.specs.Name.{isName}
 use Rattle.text.proofs.Names.{name-length}
+use Rattle.rules.specs.Words.{core, semaphore}
+use Rattle.rules.specs.Chart.{isStateOf}
+use Rattle.rules.specs.Charts.{chartOf}
+use Rattle.rules.specs.History.{hasInstances}
 use Rattle.tables.specs.Entry.{namesSize, numsSize, ticksSize}
 use Rattle.tables.specs.Entry.{verdictNumber, verdictLine, lineCount, scaleEntry, creatorEntry, dateEntry, startedEntry, nameCount, coreCount, instanceCount}
 use Rattle.tables.specs.Entry.{kindAt, lengthAt, markAt, numberedAt, ownerAt, stateAt, firstTime, lastTime, heldAt, idleAt, unknownAt, sinceAt, nameAt}
@@ -22,10 +26,10 @@ pub record Sizes (names nums ticks : List ℕ) : Type 0 where
   pub ticks-size : length ticks ≡ ticksSize
 
 pub record NameRow (names nums ticks : List ℕ) (i : ℕ) : Type 0 where
-  pub kind-some : 1 ≤ kindAt nums i
-  pub kind-known : kindAt nums i ≤ 5
+  pub kind-some : core ≤ kindAt nums i
+  pub kind-known : kindAt nums i ≤ semaphore
   pub numbered : numberedAt nums i ≤ 1
-  pub mark : markOk (kindAt nums i) (markAt nums i) (instanceCount nums) ≡ true
+  pub mark : markOk nums (kindAt nums i) (markAt nums i) ≡ true
   pub length-some : 1 ≤ lengthAt nums i
   pub length-most : lengthAt nums i ≤ 64
   pub named : isName (nameAt names nums i) ≡ true
@@ -36,8 +40,8 @@ pub record NameRow (names nums ticks : List ℕ) (i : ℕ) : Type 0 where
 
 pub record InstanceRow (nums : List ℕ) (j : ℕ) : Type 0 where
   pub owner : ownerAt nums j < nameCount nums
-  pub state-some : 1 ≤ stateAt nums j
-  pub state-known : stateAt nums j ≤ 8
+  pub owner-kind : hasInstances (kindAt nums (ownerAt nums j)) ≡ true
+  pub state : isStateOf (chartOf (kindAt nums (ownerAt nums j))) (stateAt nums j) ≡ true
 
 pub record Valid (names nums ticks : List ℕ) : Type 0 where
   pub sizes : Sizes names nums ticks
@@ -97,10 +101,10 @@ name-mean : (names nums ticks : List ℕ) (i : ℕ) → Means (nameOk names nums
 unfolding nameOk
 name-mean names nums ticks i =
     means-as
-    (means-and (means-le 1 (kindAt nums i))
-    (means-and (means-le (kindAt nums i) 5)
+    (means-and (means-le core (kindAt nums i))
+    (means-and (means-le (kindAt nums i) semaphore)
     (means-and (means-le (numberedAt nums i) 1)
-    (means-and (means-true (markOk (kindAt nums i) (markAt nums i) (instanceCount nums))) (means-and (bytes-mean names nums i) (sums-mean ticks i))))))
+    (means-and (means-true (markOk nums (kindAt nums i) (markAt nums i))) (means-and (bytes-mean names nums i) (sums-mean ticks i))))))
     (λ p.
     record {
       kind-some = p .0;
@@ -120,9 +124,11 @@ name-mean names nums ticks i =
 instance-mean : (nums : List ℕ) (j : ℕ) → Means (instanceOk nums j) (InstanceRow nums j)
 unfolding instanceOk
 instance-mean nums j =
-    means-as (means-and (means-lt (ownerAt nums j) (nameCount nums)) (means-and (means-le 1 (stateAt nums j)) (means-le (stateAt nums j) 8)))
-    (λ p. record { owner = p .0; state-some = p .1 .0; state-known = p .1 .1 })
-    (λ r. (r .owner, (r .state-some, r .state-known)))
+    let kind = kindAt nums (ownerAt nums j) in
+    means-as
+    (means-and (means-lt (ownerAt nums j) (nameCount nums)) (means-and (means-true (hasInstances kind)) (means-true (isStateOf (chartOf kind) (stateAt nums j)))))
+    (λ p. record { owner = p .0; owner-kind = p .1 .0; state = p .1 .1 })
+    (λ r. (r .owner, (r .owner-kind, r .state)))
 
 module _ (names nums ticks : List ℕ) where
   range-mean : Sizes names nums ticks → Means (inRange names nums ticks) (Valid names nums ticks)

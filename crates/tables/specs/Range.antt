@@ -1,11 +1,16 @@
 -- 15: "lent output or table of the wrong size". 16: "table holding an index, state, kind, count, name or time outside its range, a first time
 -- above the last, or a tick sum above 2^62".
-use mathlib.Core.Bool.{Bool, true, _&&_, cond}
+use mathlib.Core.Path.{_≡_}
+use mathlib.Core.Bool.{Bool, true, _&&_, _||_, cond}
 use mathlib.Core.List.{List}
-use Prim.Native.Nat.{ℕ, zero, suc, _+_}
+use Prim.Native.Nat.{ℕ, zero, suc, _-_, _≤_}
 use lib.Dec.{eqb, leb, ltb}
 use lib.ListN.{length}
 use Rattle.text.specs.Name.{isName}
+use Rattle.rules.specs.Words.{core, semaphore}
+use Rattle.rules.specs.Chart.{isStateOf}
+use Rattle.rules.specs.Charts.{isProcess, chartOf}
+use Rattle.rules.specs.History.{hasInstances}
 use Rattle.tables.specs.Entry.{namesSize, numsSize, ticksSize}
 use Rattle.tables.specs.Entry.{verdictNumber, verdictLine, lineCount, scaleEntry, creatorEntry, dateEntry, startedEntry, nameCount, coreCount, instanceCount}
 use Rattle.tables.specs.Entry.{kindAt, lengthAt, markAt, numberedAt, ownerAt, stateAt, firstTime, lastTime, heldAt, idleAt, unknownAt, sinceAt, nameAt}
@@ -24,14 +29,27 @@ headsOk nums =
 unfoldable pub countsOk : List ℕ → Bool
 countsOk nums = leb (startedEntry nums) 1 && (leb (nameCount nums) 256 && (leb (coreCount nums) 64 && leb (instanceCount nums) 1024))
 
+-- what the code needs before it looks at rows: every row that is counted is there
+pub record Counted (nums : List ℕ) : Type 0 where
+  pub size : length nums ≡ numsSize
+  pub names : nameCount nums ≤ 256
+  pub instances : instanceCount nums ≤ 1024
+
 -- "time: 2^56 − 1"; "a first time above the last"
 unfoldable pub timesOk : List ℕ → Bool
 timesOk ticks = leb (lastTime ticks) 72057594037927935 && leb (firstTime ticks) (lastTime ticks)
 
--- the state of a name by its kind: a core (1) is idle, 1, or held by instance j, 2 + j; a semaphore (5) has none yet, 0, or one of four;
--- any other name has none
-unfoldable pub markOk : ℕ → ℕ → ℕ → Bool
-markOk kind mark instances = cond (eqb kind 1) (leb 1 mark && leb mark (instances + 1)) (cond (eqb kind 5) (leb mark 4) (eqb mark 0))
+-- instance j can hold a core: it is there, and one of a process ("one process instance at a time")
+unfoldable pub holderOk : List ℕ → ℕ → Bool
+holderOk nums j = ltb j (instanceCount nums) && (ltb (ownerAt nums j) (nameCount nums) && isProcess (kindAt nums (ownerAt nums j)))
+
+-- the state of a core: idle, 1, or held by instance j, 2 + j
+unfoldable pub coreOk : List ℕ → ℕ → Bool
+coreOk nums mark = cond (ltb mark 2) (eqb mark 1) (holderOk nums (mark - 2))
+
+-- the state of a name by its kind: a core's; of a semaphore none yet, 0, or one of its chart's; any other name has none
+unfoldable pub markOk : List ℕ → ℕ → ℕ → Bool
+markOk nums kind mark = cond (eqb kind core) (coreOk nums mark) (cond (eqb kind semaphore) (eqb mark 0 || isStateOf (chartOf semaphore) mark) (eqb mark 0))
 
 -- "a tick sum above 2^62"
 abbrev pub maxSum : ℕ
@@ -46,14 +64,15 @@ bytesOk names nums i = leb (lengthAt nums i) 64 && isName (nameAt names nums i)
 -- the row of name i
 unfoldable pub nameOk : List ℕ → List ℕ → List ℕ → ℕ → Bool
 nameOk names nums ticks i =
-    leb 1 (kindAt nums i)
-    && (leb (kindAt nums i) 5
-    && (leb (numberedAt nums i) 1
-    && (markOk (kindAt nums i) (markAt nums i) (instanceCount nums) && (bytesOk names nums i && sumsOk ticks i))))
+    leb core (kindAt nums i)
+    && (leb (kindAt nums i) semaphore
+    && (leb (numberedAt nums i) 1 && (markOk nums (kindAt nums i) (markAt nums i) && (bytesOk names nums i && sumsOk ticks i))))
 
--- the row of instance j: the row of its name, and one of eight states
+-- the row of instance j: the row of its name, a process's or a runnable's, and one of the states of that kind's chart
 unfoldable pub instanceOk : List ℕ → ℕ → Bool
-instanceOk nums j = ltb (ownerAt nums j) (nameCount nums) && (leb 1 (stateAt nums j) && leb (stateAt nums j) 8)
+instanceOk nums j =
+    ltb (ownerAt nums j) (nameCount nums)
+    && (hasInstances (kindAt nums (ownerAt nums j)) && isStateOf (chartOf (kindAt nums (ownerAt nums j))) (stateAt nums j))
 
 -- the test passes at each number below n
 unfoldable pub upTo : (ℕ → Bool) → ℕ → Bool

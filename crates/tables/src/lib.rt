@@ -3,6 +3,7 @@ pub mod entry;
 pub mod find;
 pub mod fresh;
 pub mod range;
+pub mod state;
 
 pub use find::find_instance;
 pub use find::find_name;

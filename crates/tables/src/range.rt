@@ -2,8 +2,7 @@
 ghost use mathlib.Core.Path.{_≡_};
 ghost use Prim.Native.Nat.{_<_, _≤_};
 ghost use lib.ListN.{length};
-ghost use Rattle.tables.specs.Range.{isSized, countsOk, headsOk, timesOk, markOk, sumsOk, bytesOk, nameOk, instanceOk, upTo, inRange, tableAnswer};
-ghost use Rattle.tables.specs.Entry.{instanceCount};
+ghost use Rattle.tables.specs.Range.{isSized, Counted, countsOk, headsOk, timesOk, holderOk, coreOk, markOk, sumsOk, bytesOk, nameOk, instanceOk, upTo, inRange, tableAnswer};
 use crate::entry::CORES;
 use crate::entry::CREATOR;
 use crate::entry::DATE;
@@ -29,6 +28,11 @@ use crate::entry::TICKS_SIZE;
 use crate::entry::UNKNOWN;
 use crate::entry::VERDICT;
 use crate::entry::VERDICT_LINE;
+use crate::state::is_process;
+use crate::state::of_semaphore;
+use crate::state::state_ok;
+use rules::numbers::CORE;
+use rules::numbers::SEMAPHORE;
 use text::name::name;
 
 // Whether the three tables have their sizes.
@@ -72,20 +76,42 @@ fn times_ok(ticks: &[u64]) -> bool
     (ticks[LAST] <= 72057594037927935) & (ticks[FIRST] <= ticks[LAST])
 }
 
-// The state of a name by its kind: a core is idle (1) or held by instance j (2 + j), a semaphore has none yet (0) or one of four, any other
-// name has none.
-fn mark_ok(kind: u32, mark: u32, instances: u32) -> bool
-    requires { ⌜ instances ≤ 1024 ⌝ }
-    ensures { λ r. ⌜ r ≡ markOk kind mark instances ⌝ }
+// Whether instance j can hold a core: it is there, and belongs to a process.
+fn holder_ok(nums: &[u32], j: u32) -> bool
+    requires { ⌜ Counted (now nums) ⌝ }
+    ensures { λ r. ⌜ r ≡ holderOk (now (nums .entry)) j ⌝ }
 {
-    if kind == 1 {
-        if mark < 1 {
-            return false;
-        }
-        return mark <= instances + 1;
+    if nums[INSTANCES] <= j {
+        return false;
     }
-    if kind == 5 {
-        return mark <= 4;
+    let row = nums[OWNER + j as usize];
+    if nums[NAMES] <= row {
+        return false;
+    }
+    is_process(nums[KIND + row as usize])
+}
+
+// The state of a core: idle (1), or held by instance j (2 + j).
+fn core_ok(nums: &[u32], mark: u32) -> bool
+    requires { ⌜ Counted (now nums) ⌝ }
+    ensures { λ r. ⌜ r ≡ coreOk (now (nums .entry)) mark ⌝ }
+{
+    if mark < 2 {
+        return mark == 1;
+    }
+    holder_ok(nums, mark - 2)
+}
+
+// The state of a name by its kind: a core's; of a semaphore none yet (0) or one of its chart's; any other name has none.
+fn mark_ok(nums: &[u32], kind: u32, mark: u32) -> bool
+    requires { ⌜ Counted (now nums) ⌝ }
+    ensures { λ r. ⌜ r ≡ markOk (now (nums .entry)) kind mark ⌝ }
+{
+    if kind == CORE {
+        return core_ok(nums, mark);
+    }
+    if kind == SEMAPHORE {
+        return (mark == 0) | of_semaphore(mark);
     }
     mark == 0
 }
@@ -116,27 +142,30 @@ fn bytes_ok(names: &[u8], nums: &[u32], i: usize) -> bool
 
 // The whole row of name i.
 fn name_ok(names: &[u8], nums: &[u32], ticks: &[u64], i: usize) -> bool
-    requires { ⌜ (i < 256) × ((length (now names) ≡ 16384) × ((length (now nums) ≡ 4362) × ((length (now ticks) ≡ 1026) × (instanceCount (now nums) ≤ 1024)))) ⌝ }
+    requires { ⌜ (i < 256) × ((length (now names) ≡ 16384) × ((length (now ticks) ≡ 1026) × Counted (now nums))) ⌝ }
     ensures { λ r. ⌜ r ≡ nameOk (now (names .entry)) (now (nums .entry)) (now (ticks .entry)) i ⌝ }
 {
     let kind = nums[KIND + i];
-    let mark = mark_ok(kind, nums[MARK + i], nums[INSTANCES]);
+    let mark = mark_ok(nums, kind, nums[MARK + i]);
     let bytes = bytes_ok(names, nums, i);
     let sums = sums_ok(ticks, i);
-    (1 <= kind) & ((kind <= 5) & ((nums[NUMBERED + i] <= 1) & (mark & (bytes & sums))))
+    (CORE <= kind) & ((kind <= SEMAPHORE) & ((nums[NUMBERED + i] <= 1) & (mark & (bytes & sums))))
 }
 
 // The whole row of instance j.
 fn instance_ok(nums: &[u32], j: usize) -> bool
-    requires { ⌜ (j < 1024) × (length (now nums) ≡ 4362) ⌝ }
+    requires { ⌜ (j < 1024) × Counted (now nums) ⌝ }
     ensures { λ r. ⌜ r ≡ instanceOk (now (nums .entry)) j ⌝ }
 {
-    let state = nums[STATE + j];
-    (nums[OWNER + j] < nums[NAMES]) & ((1 <= state) & (state <= 8))
+    let owner = nums[OWNER + j];
+    if nums[NAMES] <= owner {
+        return false;
+    }
+    state_ok(nums[KIND + owner as usize], nums[STATE + j])
 }
 
 fn names_ok(names: &[u8], nums: &[u32], ticks: &[u64], n: usize) -> bool
-    requires { ⌜ (n ≤ 256) × ((length (now names) ≡ 16384) × ((length (now nums) ≡ 4362) × ((length (now ticks) ≡ 1026) × (instanceCount (now nums) ≤ 1024)))) ⌝ }
+    requires { ⌜ (n ≤ 256) × ((length (now names) ≡ 16384) × ((length (now ticks) ≡ 1026) × Counted (now nums))) ⌝ }
     ensures { λ r. ⌜ r ≡ upTo (nameOk (now (names .entry)) (now (nums .entry)) (now (ticks .entry))) n ⌝ }
 {
     let mut i = 0;
@@ -150,7 +179,7 @@ fn names_ok(names: &[u8], nums: &[u32], ticks: &[u64], n: usize) -> bool
 }
 
 fn instances_ok(nums: &[u32], n: usize) -> bool
-    requires { ⌜ (n ≤ 1024) × (length (now nums) ≡ 4362) ⌝ }
+    requires { ⌜ (n ≤ 1024) × Counted (now nums) ⌝ }
     ensures { λ r. ⌜ r ≡ upTo (instanceOk (now (nums .entry))) n ⌝ }
 {
     let mut j = 0;

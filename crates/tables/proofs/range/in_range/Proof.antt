@@ -1,10 +1,8 @@
 -- `tables::range::in_range` meets its contract: with wrong counts the definition's test fails, and with right ones its other tests are left.
 -- Assumes nothing.
 use mathlib.Core.Bool.{and-false}
-use Prim.Native.Nat.{_≤_}
 use borrow.Author.Needs.{needs}
-use Rattle.tables.specs.Entry.{nameCount, instanceCount}
-use Rattle.tables.specs.Range.{inRange}
+use Rattle.tables.specs.Range.{Counted, inRange}
 use Rattle.tables.proofs.Chains.{passed, failed}
 use Rattle.tables.proofs.Valid.{counts-mean}
 use Rattle.tables.proofs.range.in_range.Statement.{statement}
@@ -30,8 +28,10 @@ returns-2 c =
     )
 
 -- how many names and instances there are, once their counts are tested
-few : (c : tie.Else1) → let nums = c .before .before .before .before .before .args .nums .now in (nameCount nums ≤ 256) × (instanceCount nums ≤ 1024)
-few c = let h = counts-mean _ .holds (passed (c .before .counts-ok .ensures) (c .if1 .left)) in (h .1 .0, h .1 .1 .1)
+few : (c : tie.Else1) → Counted (c .before .before .before .before .before .args .nums .now)
+few c =
+    let h = counts-mean _ .holds (passed (c .before .counts-ok .ensures) (c .if1 .left)) in
+    record { size = c .before .before .before .before .before .pre .1 .0; names = h .1 .0; instances = h .1 .1 .1 }
 
 pub in-range-spec : {M : Type 1} → statement M
 in-range-spec =

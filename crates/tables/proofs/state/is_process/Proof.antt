@@ -1,0 +1,10 @@
+-- `tables::state::is_process` meets its contract: its tests are the definition's.
+-- Assumes nothing.
+use mathlib.Core.Path.{refl}
+use Rattle.rules.specs.Charts.{isProcess}
+use Rattle.tables.proofs.state.is_process.Statement.{statement}
+use Rattle.tables.proofs.state.is_process.Tie as tie
+
+pub is-process-spec : {M : Type 1} → statement M
+unfolding isProcess
+is-process-spec = tie.close (tie.spec (λ c. refl))
