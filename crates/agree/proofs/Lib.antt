@@ -30,6 +30,7 @@ pub mod Limits
 pub mod Fresh
 pub mod Verdicts
 pub mod Judged
+pub mod Demand2
 pub mod Refused
 pub mod Examples
 pub mod Tight

@@ -5,9 +5,9 @@ use mathlib.Core.Bool.{Bool, true, false, not, _&&_, _||_, cond}
 use mathlib.Core.List.{List, _∷_}
 use Prim.Native.Nat.{ℕ, _+_, _<_}
 use native.Mathlib.Omega.{arith}
-use lib.Dec.{eqb, ltb}
+use lib.Dec.{eqb}
 use lib.ListN.{length}
-use borrow.Author.Tests.{eq-eqb, ne-eqb, ltb-false}
+use borrow.Author.Tests.{eq-eqb, ne-eqb}
 use Rattle.text.specs.Bytes.{sameBytes}
 use Rattle.text.proofs.Words.{same-eq, same-refl}
 use Rattle.rules.specs.Lists.{any, oneIf}
@@ -15,10 +15,10 @@ use Rattle.rules.specs.Words.{core, semaphore}
 use Rattle.rules.specs.Charts.{isProcess}
 use Rattle.rules.specs.Event.{Event, Instance, sameInstance, instanceOf}
 use Rattle.rules.specs.Core.{takes, gives, keeps, onCore, on}
-use Rattle.rules.specs.History.{hasInstances, isTracked, names, cores, instances, activates}
-use Rattle.rules.specs.Refusals.{noRoom}
-use Rattle.rules.proofs.Tests.{both, neither, clash, instance-true, instance-refl}
-use Rattle.rules.proofs.Answers.{Passed, Fits}
+use Rattle.rules.specs.History.{hasInstances, isTracked, names, instances, activates}
+use Rattle.rules.specs.Lawful.{Fits}
+use Rattle.rules.proofs.Tests.{both, clash, instance-true, instance-refl}
+use Rattle.rules.proofs.Answers.{Passed, room-fits}
 use Rattle.rules.proofs.CoreWords.{on-process, gives-only}
 use Rattle.tables.specs.Entry.{kindAt, markAt, numberAt, numberedAt, ownerAt, instanceAt, stateAt}
 use Rattle.decide.specs.declared.happening.Happening.{Happening}
@@ -40,11 +40,7 @@ use Rattle.agree.proofs.Entries.{orNone, isInstance, kind-taken, mark-t
 -- ---- the lists of the longer history fit
 
 pub room : (h : List Event) (e : Event) → Passed h e → Fits (e ∷ h)
-unfolding noRoom
-room h e f =
-    let n = neither (ltb 256 (length (names (e ∷ h)))) _ (f .room) in
-    let c = neither (ltb 64 (length (cores (e ∷ h)))) (ltb 1024 (length (instances (e ∷ h)))) (n .1) in
-    record { names-fit = ltb-false _ _ (n .0); cores-fit = ltb-false _ _ (c .0); instances-fit = ltb-false _ _ (c .1) }
+room h e f = room-fits h e (f .room)
 
 -- ---- two rows are one exactly if they are of one element
 

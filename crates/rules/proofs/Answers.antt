@@ -13,6 +13,7 @@ use Rattle.rules.specs.Event.{Event}
 use Rattle.rules.specs.History.{names, cores, instances}
 use Rattle.rules.specs.Refusals.{Known, look, timeFalls, secondKind, noRoom, offChart, notNext, coreBroken, countBroken, Rule, rule, rules, firstBroken, answerTo}
 use Rattle.rules.specs.Verdict.{answer, Accepted, Never}
+use Rattle.rules.specs.Lawful.{Fits}
 use Rattle.rules.proofs.Tests.{both, neither, clash}
 
 -- ---- any list of rules whose numbers rise
@@ -177,15 +178,17 @@ time-never-falls e d (f ∷ h) a m = by-place m (time-never-falls f d h (a .1))
 
 -- ---- the names, cores and instances fit
 
-pub record Fits (h : List Event) : Type 0 where
-  pub names-fit : length (names h) ≤ 256
-  pub cores-fit : length (cores h) ≤ 64
-  pub instances-fit : length (instances h) ≤ 1024
-
-pub all-fit : (h : List Event) → Accepted h → Fits h
-unfolding noRoom names instances
-all-fit [] a = record { names-fit = omega arith; cores-fit = omega arith; instances-fit = omega arith }
-all-fit (e ∷ h) a =
-    let n = neither (ltb 256 (length (names (e ∷ h)))) _ (passed h e (a .0) .room) in
+pub room-fits : (h : List Event) (e : Event) → noRoom (look h e) e ≡ false → Fits (e ∷ h)
+unfolding noRoom
+room-fits h e q =
+    let n = neither (ltb 256 (length (names (e ∷ h)))) _ q in
     let c = neither (ltb 64 (length (cores (e ∷ h)))) (ltb 1024 (length (instances (e ∷ h)))) (n .1) in
     record { names-fit = ltb-false _ _ (n .0); cores-fit = ltb-false _ _ (c .0); instances-fit = ltb-false _ _ (c .1) }
+
+pub never-fits : (h : List Event) → Never noRoom h → Fits h
+unfolding names instances
+never-fits [] c = record { names-fit = omega arith; cores-fit = omega arith; instances-fit = omega arith }
+never-fits (e ∷ h) c = room-fits h e (c .0)
+
+pub all-fit : (h : List Event) → Accepted h → Fits h
+all-fit h a = never-fits h (accepted-exactly h .0 a (rule 10 noRoom) listed-10)

@@ -10,8 +10,9 @@ use Rattle.rules.specs.Core.{CoreRun, coreAt, Alone}
 use Rattle.rules.specs.History.{cores, processes}
 use Rattle.rules.specs.Refusals.{offChart, coreBroken, rule}
 use Rattle.rules.specs.Verdict.{Accepted, taken}
+use Rattle.rules.specs.Lawful.{Fits}
 use Rattle.rules.specs.Sheet.{heldTicks, idleTicks, unknownTicks, charge, chargeOn, span}
-use Rattle.rules.proofs.Answers.{accepted-exactly, listed-11, listed-13, Fits, all-fit}
+use Rattle.rules.proofs.Answers.{accepted-exactly, listed-11, listed-13, all-fit}
 use Rattle.rules.proofs.Verdicts.{taken-accepted}
 use Rattle.rules.proofs.ChartFact.{chart-runs}
 use Rattle.rules.proofs.CoreRuns.{kept-run}

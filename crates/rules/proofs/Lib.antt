@@ -11,9 +11,12 @@ pub mod Answers
 pub mod Verdicts
 pub mod CoreWords
 pub mod CoreRuns
+pub mod Chains
 pub mod Seen
 pub mod Totals
 pub mod Tracked
+pub mod OneKind
+pub mod Room
 pub mod Charges
 pub mod Alone
 pub mod Laws
@@ -21,5 +24,6 @@ pub mod Meets
 pub mod Told
 pub mod Places
 pub mod Traces
+pub mod Lawful
 pub mod TraceExamples
 pub mod Tight

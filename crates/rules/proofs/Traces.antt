@@ -46,7 +46,7 @@ module _ (h : List (List ℕ)) (l : List ℕ) where
       let z = both-zero (answerInPlace (placeOf h) l) (eventAnswer (eventOfLine l) (eventsOf h)) q in
       record { in-place = (z .0, k .in-place); accepted = with-accepted (eventOfLine l) (eventsOf h) .1 (z .1, k .accepted) }
 
-  kept-before : Kept (l ∷ h) → (answerAt h l ≡ 0) × Kept h
+  pub kept-before : Kept (l ∷ h) → (answerAt h l ≡ 0) × Kept h
   unfolding answerAt eventsOf
   kept-before k =
       let a = with-accepted (eventOfLine l) (eventsOf h) .0 (k .accepted) in

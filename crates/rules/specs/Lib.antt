@@ -12,3 +12,4 @@ pub mod Sheet
 pub mod Rows
 pub mod Lines
 pub mod Trace
+pub mod Lawful
