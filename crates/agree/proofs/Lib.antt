@@ -31,6 +31,7 @@ pub mod Fresh
 pub mod Verdicts
 pub mod Judged
 pub mod Demand2
+pub mod Numbers
 pub mod Refused
 pub mod Examples
 pub mod Tight

@@ -1,10 +1,12 @@
 -- Over any tables. 3: a refused line changes no entry but the two of the remembered verdict, and every further line gets that verdict again and changes
--- nothing. 4: 15 and 16 change nothing. 6: no second answer and no second table satisfies the contracts.
-use mathlib.Core.Path.{_≡_, refl, sym}
+-- nothing, one by one and many at once. 4: 15 and 16 change nothing. 6: no second answer and no second table satisfies the contracts.
+use mathlib.Core.Path.{_≡_, refl, sym, ap, _∙_}
 use mathlib.Core.Bool.{Bool, true, false, cond}
-use mathlib.Core.List.{List}
-use Prim.Native.Nat.{ℕ, zero, suc}
+use mathlib.Core.List.{List, [], _∷_, _++_}
+use Prim.Native.Nat.{ℕ, zero, suc, _≤_}
+use native.Mathlib.Omega.{arith}
 use lib.Dec.{eqb}
+use lib.ListN.{length}
 use Rattle.text.proofs.Tight.{unique}
 use Rattle.line.specs.declared.reading.Reading.{Reading}
 use Rattle.line.specs.declared.reading.Reading.the-variants.{Version, Comment, TimeScale, Creator, CreationDate, EventLine, Refused}
@@ -12,7 +14,7 @@ use Rattle.line.specs.Part.{fieldOf}
 use Rattle.line.specs.Reading.{readLine}
 use Rattle.rules.specs.Lists.{ifZero}
 use Rattle.rules.specs.Trace.{placed}
-use Rattle.tables.specs.Entry.{verdictNumber}
+use Rattle.tables.specs.Entry.{numsSize, verdictNumber}
 use Rattle.tables.specs.Range.{tableAnswer}
 use Rattle.tables.specs.Fresh.{Cleared, clearedOf}
 use Rattle.decide.specs.declared.happening.Happening.{Happening}
@@ -21,10 +23,11 @@ use Rattle.decide.specs.declared.plan.Plan.the-variants.{Refuse, Take}
 use Rattle.decide.specs.Happening.{happeningOf, asEvent}
 use Rattle.decide.specs.Decide.{planOf}
 use Rattle.judge.specs.declared.feed.Verdict.{Verdict}
-use Rattle.judge.specs.Feed.{Tables, tables, After, after, placeIn, remembered, carried, eventLined, readLined, placedLine, lined, fedLine, AfterChunk, fedChunk, verdict, verdictOf, AfterTrace, judgedTrace}
-use Rattle.judge.proofs.Feeds.{verdict-again}
+use Rattle.judge.specs.Feed.{Tables, tables, After, after, placeIn, remembered, carried, eventLined, readLined, placedLine, lined, allLined, fedLine, AfterChunk, fedChunk, verdict, verdictOf, AfterTrace, judgedTrace}
+use Rattle.judge.proofs.Feeds.{lined-alike, verdict-again}
 use Rattle.agree.proofs.Heads.{AgreeFrom}
-use Rattle.agree.proofs.Traces.{remembered-later}
+use Rattle.agree.proofs.Traces.{remembered-later, further}
+use Rattle.agree.proofs.Numbers.{lined-numbered}
 
 -- ---- 3: a refused line
 
@@ -41,7 +44,7 @@ verdict-stored : (t : Tables) (n : ℕ) → OnlyVerdict t (tables (t .names) (re
 verdict-stored t n = record { names = refl; nums = remembered-later (t .nums) n; ticks = refl }
 
 -- an answer other than 0 leaves only that
-abbrev Spares : Tables → After → Type 0
+abbrev pub Spares : Tables → After → Type 0
 Spares t x = (x .answer ≡ 0 → ⊥) → OnlyVerdict t (x .left)
 
 module _ (t : Tables) where
@@ -66,7 +69,7 @@ module _ (t : Tables) where
   placed-spares zero l = read-spares (readLine l) l
   placed-spares (suc m) l = λ n. verdict-stored t (suc m)
 
-  lined-spares : (l : List ℕ) → Spares t (lined t l)
+  pub lined-spares : (l : List ℕ) → Spares t (lined t l)
   unfolding lined
   lined-spares l = by-verdict (eqb (verdictNumber (t .nums)) 0)
     where
@@ -90,6 +93,44 @@ pub again : (t : Tables) → tableAnswer (t .names) (t .nums) (t .ticks) ≡ 0 �
     fedLine t l ≡ record { answer = verdictNumber (t .nums); left = t }
 unfolding fedLine
 again t q v l = rw q (sym (verdict-again t l v))
+
+-- ---- many lines
+
+-- each line is answered 0
+abbrev pub AllTaken : Tables → List (List ℕ) → Type 0
+AllTaken t [] = Unit {0}
+AllTaken t (l ∷ ls) = (lined t l .answer ≡ 0) × AllTaken (lined t l .left) ls
+
+-- the lines before the first that is refused are taken, and what follows them changes nothing but the verdict
+pub record StopsAfter (t : Tables) (ls : List (List ℕ)) : Type 0 where
+  pub taken : List (List ℕ)
+  pub rest : List (List ℕ)
+  pub splits : ls ≡ taken ++ rest
+  pub all-taken : AllTaken t taken
+  pub spares : OnlyVerdict (allLined t taken) (allLined t ls)
+
+pub lines-spare : (t : Tables) → length (t .nums) ≡ numsSize → verdictNumber (t .nums) ≤ 14 → (ls : List (List ℕ)) → StopsAfter t ls
+unfolding allLined
+lines-spare t z m [] = record { taken = []; rest = []; splits = refl; all-taken = tt; spares = unchanged t }
+lines-spare t z m (l ∷ ls) =
+    let x = lined-numbered t z m l in
+    by-answer (lined t l .answer) refl (x .kept) (lines-spare (lined t l .left) (lined-alike t l .nums-kept ∙ z) (rw (x .kept) (x .most)) ls)
+  where
+    by-answer : (n : ℕ) → lined t l .answer ≡ n → verdictNumber (lined t l .left .nums) ≡ lined t l .answer → StopsAfter (lined t l .left) ls → StopsAfter t (l ∷ ls)
+    by-answer zero q k s = record {
+      taken = l ∷ s .taken;
+      rest = s .rest;
+      splits = ap {B = List (List ℕ)} (λ r. l ∷ r) (s .splits);
+      all-taken = (q, s .all-taken);
+      spares = s .spares;
+    }
+    by-answer (suc n) q k s = record {
+      taken = [];
+      rest = l ∷ ls;
+      splits = refl;
+      all-taken = tt;
+      spares = rw (further (lined t l .left) (λ e. omega (arith, k, q)) ls) (lined-spares t l (λ e. omega (arith, q)));
+    }
 
 -- ---- 4: 15 and 16 change nothing
 

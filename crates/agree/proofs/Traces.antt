@@ -33,7 +33,7 @@ module _ (nums : List ℕ) (n : ℕ) where
   unfolding remembered
   remembered-later j h = other (set nums 0 n) 1 j _ (λ e. omega arith) ∙ other nums 0 j n (λ e. omega arith)
 
-  remembered-number : length nums ≡ numsSize → verdictNumber (remembered nums n) ≡ n
+  pub remembered-number : length nums ≡ numsSize → verdictNumber (remembered nums n) ≡ n
   unfolding remembered
   remembered-number z = other (set nums 0 n) 1 0 _ (λ e. omega arith) ∙ same nums 0 n (omega arith)
 

@@ -10,3 +10,4 @@ pub mod Reading
 pub mod Buffered
 pub mod Tight
 pub mod Fits
+pub mod Demand1

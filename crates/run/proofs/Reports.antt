@@ -29,7 +29,7 @@ module _ (names nums ticks : List ℕ) where
   abbrev own : ℕ
   own = tableAnswer names nums ticks
 
-  told-most : own ≡ 0 → verdictIn nums ticks .number ≤ 14
+  pub told-most : own ≡ 0 → verdictIn nums ticks .number ≤ 14
   unfolding verdictIn
   told-most e = by-tests (eqb (verdictNumber nums) 0) (eqb (lineCount nums) 0) (eqb (scaleEntry nums) 0) _ _ _ _ _
     where
