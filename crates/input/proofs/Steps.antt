@@ -55,7 +55,7 @@ module _ {n have : ℕ} {b c : List ℕ} (f : Filled n have b c) (some : 0 < n) 
 
   a-read : ARead have read
   a-read = record {
-    some = omega (arith, length-read);
+    some-bytes = omega (arith, length-read);
     room = omega (arith, length-read, f .room);
     bytes = λ i h. let l : i < n = omega (arith, length-read) in rw (getD-take n (drop have c) i 0 l, getD-drop have c i 0) (bytes (have + i));
   }
