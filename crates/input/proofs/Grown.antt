@@ -14,7 +14,7 @@ use Rattle.run.specs.Chunk.{Progress, going, stopped, readOn, atInputEnd}
 use Rattle.input.specs.declared.reads.Step.{Step}
 use Rattle.input.specs.declared.reads.Step.the-variants.{More, Stop, End, Error}
 use Rattle.input.specs.declared.reads.Input.the-variants.{Read, Failed, Refused}
-use Rattle.input.specs.Reads.{ARead, OneMore, Stepped, AllReads, SoFar, Came, BrokeOff, inputRefusal, Taken}
+use Rattle.input.specs.Reads.{bufferSize, ARead, OneMore, Stepped, AllReads, SoFar, Came, BrokeOff, inputRefusal, Taken}
 
 -- ---- a list of reads that grows at its end
 
@@ -46,7 +46,7 @@ reads-more (q ∷ rs) r s a = (s .0, reads-more rs r (s .1) a)
 
 -- ---- what a turn came to, by the answer
 
-read-size : {k have : ℕ} {t : Tables} {b : List ℕ} {p : Progress} → OneMore k have t b p → (0 < k) × (k ≤ 65536)
+read-size : {k have : ℕ} {t : Tables} {b : List ℕ} {p : Progress} → OneMore k have t b p → (0 < k) × (k ≤ bufferSize)
 read-size m = let a = m .each in let e = m .counted in (omega arith, omega arith)
 
 module _ (have : ℕ) (t : Tables) (b : List ℕ) (u : Tables) (c : List ℕ) {r : Step} {k : ℕ} where
@@ -56,10 +56,10 @@ module _ (have : ℕ) (t : Tables) (b : List ℕ) (u : Tables) (c : List ℕ) {r
   as-stop : r ≡ Stop k → Stepped r have t b u c → OneMore k have t b (stopped u)
   as-stop e w = rw e at w
 
-  pub more-size : {left : ℕ} → r ≡ More k left → Stepped r have t b u c → (0 < k) × (k ≤ 65536)
+  pub more-size : {left : ℕ} → r ≡ More k left → Stepped r have t b u c → (0 < k) × (k ≤ bufferSize)
   more-size e w = read-size (as-more e w .1)
 
-  pub stop-size : r ≡ Stop k → Stepped r have t b u c → (0 < k) × (k ≤ 65536)
+  pub stop-size : r ≡ Stop k → Stepped r have t b u c → (0 < k) × (k ≤ bufferSize)
   stop-size e w = read-size (as-stop e w)
 
 -- ---- the reads so far, of n bytes, with the first `have` bytes of the buffer carried over

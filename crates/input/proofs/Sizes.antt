@@ -2,7 +2,7 @@
 use mathlib.Core.Path.{_≡_, refl}
 use mathlib.Core.Bool.{Bool, true, false, _&&_, cond}
 use mathlib.Core.List.{List}
-use Prim.Native.Nat.{ℕ, _≤_}
+use Prim.Native.Nat.{ℕ, _≤_, _<_}
 use native.Mathlib.Omega.{arith}
 use lib.Dec.{eqb, leb}
 use lib.ListN.{length}
@@ -37,18 +37,28 @@ module _ (l : Lent) where
   abbrev pub RightSizes : Type 0
   RightSizes = Sizes (l .tables .names) (l .tables .nums) (l .tables .ticks) × ((length (l .buffer) ≡ bufferSize) × (textMost ≤ length (l .output)))
 
-  sizes-test :
-      Means
-      (isSized (length (l .tables .names)) (length (l .tables .nums)) (length (l .tables .ticks)) && (eqb (length (l .buffer)) bufferSize && leb textMost (length (l .output))))
-      RightSizes
-  sizes-test =
+  abbrev test : Bool
+  test =
+      isSized (length (l .tables .names)) (length (l .tables .nums)) (length (l .tables .ticks))
+      && (eqb (length (l .buffer)) bufferSize && leb textMost (length (l .output)))
+
+  test-means : Means test RightSizes
+  test-means =
       means-and (sizes-mean (l .tables .names) (l .tables .nums) (l .tables .ticks))
       (means-and (means-eq (length (l .buffer)) bufferSize) (means-le textMost (length (l .output))))
 
   pub sizes-right : lentRefusal l ≡ 0 → RightSizes
   unfolding sizeRefusal
-  sizes-right e = sizes-test .holds (passed _ 0 e)
+  sizes-right e = test-means .holds (passed test 0 e)
 
   pub right-sizes : RightSizes → lentRefusal l ≡ 0
   unfolding sizeRefusal
-  right-sizes s = rw (sizes-test .shows s)
+  right-sizes s = rw (test-means .shows s)
+
+  pub only-15 : 0 < lentRefusal l → lentRefusal l ≡ 15
+  unfolding sizeRefusal
+  only-15 = by-test test
+    where
+      by-test : (x : Bool) → 0 < cond {A = ℕ} x 0 15 → cond {A = ℕ} x 0 15 ≡ 15
+      by-test true h = absurd (omega (arith, h))
+      by-test false h = refl

@@ -33,6 +33,7 @@ use Rattle.input.specs.Reads.{Came, BrokeOff, inputRefusal, Taken}
 use Rattle.input.specs.declared.whole.Answer.{Answer}
 use Rattle.input.specs.declared.whole.Answer.the-variants.{Text, Unread, Refused as NotTaken}
 use Rattle.input.specs.Whole.{Lent, lentRefusal, textOf, Told, Answered}
+use Rattle.input.proofs.Sizes.{only-15}
 
 -- ---- `read_all`
 
@@ -100,10 +101,11 @@ told-unique {l = l} v w e =
       (c .0, (c .1, v .output ∙ ap (λ (rs : List (List ℕ)). written (l .output) 0 (textOf rs)) e ∙ sym (w .output))),
     )
 
-pub wrong-sizes-unique : (r : Answer) (l m : Lent) → Answered r l m → 0 < lentRefusal l → (r ≡ NotTaken (lentRefusal l)) × (m ≡ l)
+-- the sizes are wrong: 15, and nothing changed
+pub wrong-sizes-unique : (r : Answer) (l m : Lent) → Answered r l m → 0 < lentRefusal l → (r ≡ NotTaken 15) × (m ≡ l)
 wrong-sizes-unique (Text n bytes) l m w h = absurd (omega (arith, w .number))
 wrong-sizes-unique Unread l m w h = absurd (omega (arith, w .number))
-wrong-sizes-unique (NotTaken n) l m w h = (ap NotTaken (w .number), w .leaves .1)
+wrong-sizes-unique (NotTaken n) l m w h = (ap NotTaken (w .number ∙ only-15 l h), w .leaves .1)
 
 pub wrong-sizes-only : {n : ℕ} (l m : Lent) → Answered (NotTaken n) l m → 0 < lentRefusal l
 wrong-sizes-only l m w = omega (arith, w .number, w .leaves .0)

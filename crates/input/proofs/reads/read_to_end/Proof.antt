@@ -7,7 +7,7 @@ use native.Mathlib.Omega.{arith}
 use borrow.Author.Needs.{needs}
 use lib.ListN.{length, take}
 use Rattle.judge.specs.Feed.{tables}
-use Rattle.input.specs.Reads.{SoFar}
+use Rattle.input.specs.Reads.{bufferSize, SoFar}
 use Rattle.input.proofs.Sizes.{buffer-sized}
 use Rattle.input.proofs.Grown.{more-size, stop-size, none-yet, broke-off, came-all, came-more, came-enough, came-broken, taken-read, taken-failed}
 use Rattle.input.proofs.reads.read_to_end.Statement.{statement}
@@ -38,10 +38,10 @@ read2 c = c .before .before .before .before .before .before .before .before .bef
 abbrev entry : tie.At-loop Inv-loop μ-loop → tie.Start Inv-loop μ-loop
 entry c = c .before .before .before .before .before
 
-size : (c : tie.After-step Inv-loop μ-loop) → let n = c .step .given .0 .0 in (0 < n) × (n ≤ 65536)
+size : (c : tie.After-step Inv-loop μ-loop) → let n = c .step .given .0 .0 in (0 < n) × (n ≤ bufferSize)
 size c = more-size _ _ _ _ _ (c .step .given .1) (read c .one-read .ensures)
 
-size2 : (c : tie.After-step2 Inv-loop μ-loop) → let n = c .step2 .given .0 .0 in (0 < n) × (n ≤ 65536)
+size2 : (c : tie.After-step2 Inv-loop μ-loop) → let n = c .step2 .given .0 .0 in (0 < n) × (n ≤ bufferSize)
 size2 c = stop-size _ _ _ _ _ (c .step2 .given .1) (read2 c .one-read .ensures)
 
 -- the loop's test, far back
