@@ -1,6 +1,6 @@
 -- DEMAND 2 OF THE JUDGE, over the bytes of any trace, in tables of the right sizes, whatever they held.
 -- `demand-2`: the verdict on a trace is 0 exactly if the trace is lawful. `Lawful` (rules/specs/Lawful) has a field for each thing that is asked of the lines
--- and of the list of their events; how the judge decides stands nowhere in it.
+-- and of the list of their events; of tables, and of how the judge decides, it does not speak.
 -- `demand-2-refused`: any other verdict names the first line that breaks this. The lines before it break nothing, with it they do, and the number is the
 -- lowest that applies to it after them: of 1 to 7 from the line in its place, or else of 8 to 14 from its event. Or no line breaks anything: the verdict is
 -- 2 at line 1 for a trace without a line, and 4 at the line after the last for one without a time scale.

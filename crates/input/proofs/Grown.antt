@@ -1,4 +1,4 @@
--- A list of reads that grows at its end by one read a turn: where reading ends, it is the list that the contract asks for.
+-- A list of reads that grows at its end by one read a turn: where reading ends or fails, it is the list that the contract asks for.
 use mathlib.Core.Path.{_≡_, refl, sym, ap, _∙_}
 use mathlib.Core.Bool.{Bool, true, false, cond}
 use mathlib.Core.List.{List, [], _∷_, _++_}
@@ -12,8 +12,9 @@ use Rattle.judge.specs.Feed.{Tables, fedChunk}
 use Rattle.agree.specs.Fed.{joined}
 use Rattle.run.specs.Chunk.{Progress, going, stopped, readOn, atInputEnd}
 use Rattle.input.specs.declared.reads.Step.{Step}
-use Rattle.input.specs.declared.reads.Step.the-variants.{More, Stop, End}
-use Rattle.input.specs.Reads.{ARead, OneMore, Stepped, AllReads, Came}
+use Rattle.input.specs.declared.reads.Step.the-variants.{More, Stop, End, Error}
+use Rattle.input.specs.declared.reads.Input.the-variants.{Read, Failed, Refused}
+use Rattle.input.specs.Reads.{bufferSize, ARead, OneMore, Stepped, AllReads, SoFar, Came, BrokeOff, inputRefusal, Taken}
 
 -- ---- a list of reads that grows at its end
 
@@ -40,12 +41,12 @@ joined-more [] r = omega (arith, length-append r [])
 joined-more (q ∷ rs) r = omega (arith, joined-more rs r, length-append q (joined (rs ++ r ∷ [])), length-append q (joined rs))
 
 reads-more : {have : ℕ} (rs : List (List ℕ)) (r : List ℕ) → AllReads rs → ARead have r → AllReads (rs ++ r ∷ [])
-reads-more [] r s a = let m = a .room in (record { some = a .some; room = omega arith; bytes = a .bytes }, tt)
+reads-more [] r s a = let m = a .room in (record { some-bytes = a .some-bytes; room = omega arith; bytes = a .bytes }, tt)
 reads-more (q ∷ rs) r s a = (s .0, reads-more rs r (s .1) a)
 
 -- ---- what a turn came to, by the answer
 
-read-size : {k have : ℕ} {t : Tables} {b : List ℕ} {p : Progress} → OneMore k have t b p → (0 < k) × (k ≤ 65536)
+read-size : {k have : ℕ} {t : Tables} {b : List ℕ} {p : Progress} → OneMore k have t b p → (0 < k) × (k ≤ bufferSize)
 read-size m = let a = m .each in let e = m .counted in (omega arith, omega arith)
 
 module _ (have : ℕ) (t : Tables) (b : List ℕ) (u : Tables) (c : List ℕ) {r : Step} {k : ℕ} where
@@ -55,26 +56,23 @@ module _ (have : ℕ) (t : Tables) (b : List ℕ) (u : Tables) (c : List ℕ) {r
   as-stop : r ≡ Stop k → Stepped r have t b u c → OneMore k have t b (stopped u)
   as-stop e w = rw e at w
 
-  pub more-size : {left : ℕ} → r ≡ More k left → Stepped r have t b u c → (0 < k) × (k ≤ 65536)
+  pub more-size : {left : ℕ} → r ≡ More k left → Stepped r have t b u c → (0 < k) × (k ≤ bufferSize)
   more-size e w = read-size (as-more e w .1)
 
-  pub stop-size : r ≡ Stop k → Stepped r have t b u c → (0 < k) × (k ≤ 65536)
+  pub stop-size : r ≡ Stop k → Stepped r have t b u c → (0 < k) × (k ≤ bufferSize)
   stop-size e w = read-size (as-stop e w)
 
--- ---- the reads so far
+-- ---- the reads so far, of n bytes, with the first `have` bytes of the buffer carried over
 
--- n bytes came, and lead from the tables t to u, with the first `have` bytes of the buffer carried over
-pub record SoFar (n : ℕ) (t u : Tables) (have : ℕ) (b : List ℕ) : Type 0 where
-  pub reads : List (List ℕ)
-  pub each : AllReads reads
-  pub counted : length (joined reads) ≡ n
-  pub goes-on : readOn t [] reads ≡ going u (take have b)
-
-pub none-yet : (t : Tables) (b : List ℕ) → SoFar 0 t t 0 b
+pub none-yet : (t : Tables) → SoFar 0 t t []
 unfolding readOn
-none-yet t b = record { reads = []; each = tt; counted = refl; goes-on = refl }
+none-yet t = record { reads = []; each = tt; counted = refl; goes-on = refl }
 
-module _ {n : ℕ} {t u : Tables} {have : ℕ} {b : List ℕ} (s : SoFar n t u have b) (v : Tables) (c : List ℕ) where
+-- where reading breaks off
+pub broke-off : {n : ℕ} {t u : Tables} {rest : List ℕ} → SoFar n t u rest → BrokeOff t u
+broke-off {n} {rest = rest} s = record { bytes = n; rest = rest; before = s }
+
+module _ {n : ℕ} {t u : Tables} (have : ℕ) (b : List ℕ) (s : SoFar n t u (take have b)) (v : Tables) (c : List ℕ) where
   -- and one more, of k bytes
   module _ {k : ℕ} {p : Progress} (m : OneMore k have u b p) where
     abbrev more : List (List ℕ)
@@ -89,7 +87,7 @@ module _ {n : ℕ} {t u : Tables} {have : ℕ} {b : List ℕ} (s : SoFar n t u h
     more-come : readOn t [] more ≡ p
     more-come = read-append (s .reads) (m .read ∷ []) t [] (s .goes-on) ∙ m .comes-to
 
-  pub came-more : {r : Step} {k left : ℕ} → r ≡ More k left → Stepped r have u b v c → (left ≤ 1024) × SoFar (n + k) t v left c
+  pub came-more : {r : Step} {k left : ℕ} → r ≡ More k left → Stepped r have u b v c → (left ≤ 1024) × SoFar (n + k) t v (take left c)
   came-more e w =
       let m = as-more have u b v c e w in
       (m .0, record { reads = more (m .1); each = more-each (m .1); counted = more-counted (m .1); goes-on = more-come (m .1) })
@@ -103,3 +101,18 @@ module _ {n : ℕ} {t u : Tables} {have : ℕ} {b : List ℕ} (s : SoFar n t u h
   came-all e w =
       let l : v ≡ atInputEnd (going u (take have b)) = rw e at w in
       record { reads = s .reads; each = s .each; counted = s .counted; left = l ∙ ap atInputEnd (sym (s .goes-on)) }
+
+  pub came-broken : {r : Step} → r ≡ Error → Stepped r have u b v c → BrokeOff t v
+  came-broken e w = let l : v ≡ u = rw e at w in rw l (broke-off s)
+
+-- ---- the answer
+
+module _ {t : Tables} {b : List ℕ} {u : Tables} {c : List ℕ} where
+  pub taken-read : {n : ℕ} → inputRefusal t b ≡ 0 → Came n t u → Taken (Read n) t b u c
+  taken-read e w = record { number = sym e; leaves = w }
+
+  pub taken-failed : inputRefusal t b ≡ 0 → BrokeOff t u → Taken Failed t b u c
+  taken-failed e w = record { number = e; leaves = w }
+
+pub taken-refused : {n : ℕ} {t : Tables} {b : List ℕ} → n ≡ inputRefusal t b → (n ≡ 0 → ⊥) → Taken (Refused n) t b t b
+taken-refused e h = record { number = e; leaves = (omega arith, (refl, refl)) }

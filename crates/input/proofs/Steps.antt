@@ -12,7 +12,7 @@ use Rattle.run.proofs.Behind.{backed}
 use Rattle.run.proofs.Buffered.{goesOn, turn-step, turn-end}
 use Rattle.input.specs.declared.reads.Got.{Got}
 use Rattle.input.specs.declared.reads.Got.the-variants.{Bytes, End}
-use Rattle.input.specs.Reads.{Filled, OneFill, ARead, OneMore}
+use Rattle.input.specs.Reads.{bufferSize, Filled, OneFill, ARead, OneMore}
 
 -- ---- a read: the buffer b with m for its bytes from `have` on
 
@@ -46,7 +46,7 @@ module _ (have : ℕ) (b c : List ℕ) {g : Got} where
 pub at-end : {have : ℕ} {b c : List ℕ} (t : Tables) {v : Tables} → Filled 0 have b c → v ≡ lastTaken t c have → v ≡ atInputEnd (going t (take have b))
 at-end {have} {b} {c} t f w = rw (← (f .kept)) (w ∙ turn-end t c have (omega (arith, f .room)))
 
-module _ {n have : ℕ} {b c : List ℕ} (f : Filled n have b c) (some : 0 < n) (small : length c ≤ 65536) (bytes : (i : ℕ) → getD c i 0 < 256) where
+module _ {n have : ℕ} {b c : List ℕ} (f : Filled n have b c) (some : 0 < n) (small : length c ≤ bufferSize) (bytes : (i : ℕ) → getD c i 0 < 256) where
   abbrev read : List ℕ
   read = take n (drop have c)
 
@@ -55,7 +55,7 @@ module _ {n have : ℕ} {b c : List ℕ} (f : Filled n have b c) (some : 0 < n) 
 
   a-read : ARead have read
   a-read = record {
-    some = omega (arith, length-read);
+    some-bytes = omega (arith, length-read);
     room = omega (arith, length-read, f .room);
     bytes = λ i h. let l : i < n = omega (arith, length-read) in rw (getD-take n (drop have c) i 0 l, getD-drop have c i 0) (bytes (have + i));
   }

@@ -1,5 +1,5 @@
 -- The text of what came in reads is at the front of the output, and it always fits.
-use mathlib.Core.Path.{_≡_, sym, ap, _∙_}
+use mathlib.Core.Path.{_≡_, refl, sym, ap, subst, _∙_}
 use mathlib.Core.List.{List, []}
 use Prim.Native.Nat.{ℕ, _≤_}
 use native.Mathlib.Omega.{arith}
@@ -9,78 +9,113 @@ use Rattle.text.specs.Put.{written}
 use Rattle.text.proofs.Writes.{length-written}
 use Rattle.walk.specs.Lines.{linesOf}
 use Rattle.tables.specs.Fresh.{Cleared, clearedOf}
-use Rattle.tables.proofs.Valid.{sizes-mean}
+use Rattle.tables.proofs.Valid.{Sizes, sizes-mean}
 use Rattle.judge.specs.Feed.{Tables, tables, freshTables}
 use Rattle.agree.specs.Fed.{joined}
 use Rattle.sheet.specs.declared.sheet.Printed.{Printed}
 use Rattle.sheet.specs.declared.sheet.Printed.the-variants.{Done, NotPrinted}
 use Rattle.sheet.specs.Sheet.{Sheeted, sheeted}
 use Rattle.run.specs.Chunk.{readOn, atInputEnd}
-use Rattle.run.specs.Report.{reportWritten, traceText, textMost}
+use Rattle.run.specs.Report.{reportWritten, textMost}
 use Rattle.run.proofs.Reading.{written-right}
 use Rattle.run.proofs.Buffered.{front}
 use Rattle.run.proofs.Fits.{text-fits}
 use Rattle.input.specs.declared.reads.Input.{Input}
-use Rattle.input.specs.declared.reads.Input.the-variants.{Read}
-use Rattle.input.specs.Reads.{Came, Taken}
+use Rattle.input.specs.declared.reads.Input.the-variants.{Read, Failed, Refused}
+use Rattle.input.specs.Reads.{bufferSize, Came, BrokeOff, Taken}
 use Rattle.input.specs.declared.whole.Answer.{Answer}
-use Rattle.input.specs.declared.whole.Answer.the-variants.{Text}
-use Rattle.input.specs.Whole.{Lent, Told, Answered}
+use Rattle.input.specs.declared.whole.Answer.the-variants.{Text, Unread, Refused as NotTaken}
+use Rattle.input.specs.Whole.{Lent, lent, lentRefusal, textOf, Told, Answered, IsText}
+use Rattle.input.proofs.Sizes.{fresh-taken, RightSizes, right-sizes}
 
 -- ---- the start: tables of the right sizes are fresh
 
 abbrev left : Cleared → Tables
 left x = tables (x .names) (x .nums) (x .ticks)
 
-cleared-fresh : {names nums ticks buf out : List ℕ} → Lent names nums ticks buf out → left (clearedOf names nums ticks) ≡ freshTables
+pub fresh-start : {names nums ticks : List ℕ} {x : Cleared} → Sizes names nums ticks → x ≡ clearedOf names nums ticks → left x ≡ freshTables
 unfolding clearedOf
-cleared-fresh {names} {nums} {ticks} l =
-    rw (sizes-mean names nums ticks .shows (record { names-size = l .names-size; nums-size = l .nums-size; ticks-size = l .ticks-size }))
+fresh-start {names} {nums} {ticks} s e = ap left e ∙ rw (sizes-mean names nums ticks .shows s)
 
-pub fresh-start : {names nums ticks buf out : List ℕ} {x : Cleared} → Lent names nums ticks buf out → x ≡ clearedOf names nums ticks → left x ≡ freshTables
-fresh-start l e = ap left e ∙ cleared-fresh l
+-- ---- what came of reading from there, by its answer
 
--- ---- all reads went well
+module _ {t : Tables} (b : List ℕ) (u : Tables) (c : List ℕ) (start : t ≡ freshTables) {i : Input} (w : Taken i t b u c) where
+  from-fresh : Taken i freshTables b u c
+  from-fresh = subst (λ (x : Tables). Taken i x b u c) start w
 
-pub all-came : (t u : Tables) {i : Input} {n : ℕ} → i ≡ Read n → Taken i t u → Came n t u
-all-came t u e w = rw e at w
+  pub all-came : {n : ℕ} → i ≡ Read n → Came n freshTables u
+  all-came e = rw e at (from-fresh .leaves)
+
+  pub some-came : i ≡ Failed → BrokeOff freshTables u
+  some-came e = rw e at (from-fresh .leaves)
+
+  -- never: fresh tables are in range, and the buffer has its size
+  pub none-refused : {n : ℕ} → length b ≡ bufferSize → i ≡ Refused n → ⊥
+  none-refused {n} h e =
+      let number : n ≡ 0 = (rw e at (from-fresh .number)) ∙ fresh-taken b h in
+      omega (arith, (rw e at (from-fresh .leaves)) .0)
 
 -- ---- the text
 
-module _ {n : ℕ} {t : Tables} {names nums ticks : List ℕ} (start : t ≡ freshTables) (came : Came n t (tables names nums ticks)) (out : List ℕ)
-    (room : textMost ≤ length out) {r : Printed} {m : List ℕ} (e : sheeted r m ≡ reportWritten names nums ticks out) where
+module _ {bytes : ℕ} {names nums ticks : List ℕ} (came : Came bytes freshTables (tables names nums ticks)) (out : List ℕ) (room : textMost ≤ length out)
+    {r : Printed} {m : List ℕ} (e : sheeted r m ≡ reportWritten names nums ticks out) where
   abbrev text : List ℕ
-  text = traceText (linesOf (joined (came .reads)))
-
-  short : length text ≤ length out
-  short = omega (arith, text-fits (linesOf (joined (came .reads))))
-
-  from-fresh : tables names nums ticks ≡ atInputEnd (readOn freshTables [] (came .reads))
-  from-fresh = came .left ∙ ap (λ (u : Tables). atInputEnd (readOn u [] (came .reads))) start
+  text = textOf (came .reads)
 
   all-written : sheeted r m ≡ sheeted (Done (length text)) (written out 0 text)
   all-written =
+      let fits : length text ≤ length out = omega (arith, text-fits (linesOf (joined (came .reads)))) in
       e
-      ∙ ap (λ (u : Tables). reportWritten (u .names) (u .nums) (u .ticks) out) from-fresh
-      ∙ (rw (le-leb (length text) (length out) short) at (written-right (came .reads) out))
+      ∙ ap (λ (u : Tables). reportWritten (u .names) (u .nums) (u .ticks) out) (came .left)
+      ∙ (rw (le-leb (length text) (length out) fits) at (written-right (came .reads) out))
 
-  pub told : {k : ℕ} → r ≡ Done k → Told k m
-  told {k} q =
-      let size : k ≡ length text = let p : Done k ≡ Done (length text) = sym q ∙ ap (λ (x : Sheeted). x .answer) all-written in cc in
-      let w : m ≡ written out 0 text = ap (λ (x : Sheeted). x .output) all-written in
+  pub told : {n : ℕ} {l : Lent} {b : List ℕ} → l .output ≡ out → r ≡ Done n → Told n bytes l (lent names nums ticks b m)
+  told {n} q p =
+      let same : Done n ≡ Done (length text) = sym p ∙ ap (λ (x : Sheeted). x .answer) all-written in
       record {
-        reads = came .reads;
-        each = came .each;
-        text = rw (size, w) (front out text short);
-        fits = rw (size, w) (omega (arith, short, length-written out 0 text));
+        came = came;
+        size = cc;
+        output = ap (λ (x : Sheeted). x .output) all-written ∙ ap (λ (o : List ℕ). written o 0 text) (sym q);
       }
 
   -- never "too short"
-  pub always-fits : {k : ℕ} → r ≡ NotPrinted k → Told 0 m
-  always-fits {k} q =
-      let p : NotPrinted k ≡ Done (length text) = sym q ∙ ap (λ (x : Sheeted). x .answer) all-written in
-      absurd (let z : _≡_ {A = ℕ} 0 1 = cc in omega arith)
+  pub always-fits : {n : ℕ} → r ≡ NotPrinted n → ⊥
+  always-fits {n} q =
+      let p : NotPrinted n ≡ Done (length text) = sym q ∙ ap (λ (x : Sheeted). x .answer) all-written in
+      let z : _≡_ {A = ℕ} 0 1 = cc in
+      omega arith
 
--- by the answer
-pub text-told : (out : List ℕ) {a : Answer} {n : ℕ} → a ≡ Text n → Answered a out → Told n out
-text-told out e w = rw e at w
+-- ---- the answer
+
+module _ {l m : Lent} (right : lentRefusal l ≡ 0) where
+  pub answered-text : {n bytes : ℕ} → Told n bytes l m → Answered (Text n bytes) l m
+  answered-text w = record { number = sym right; leaves = w }
+
+  pub answered-unread : BrokeOff freshTables (m .tables) → m .output ≡ l .output → Answered Unread l m
+  answered-unread w q = record { number = right; leaves = (w, q) }
+
+pub answered-refused : {n : ℕ} {l : Lent} → n ≡ lentRefusal l → (n ≡ 0 → ⊥) → Answered (NotTaken n) l l
+answered-refused e h = record { number = e; leaves = (omega arith, refl) }
+
+-- ---- what may be written
+
+told-text : {n bytes : ℕ} {l m : Lent} → textMost ≤ length (l .output) → Told n bytes l m → IsText n (m .output)
+told-text {l = l} room w =
+    let text = textOf (w .came .reads) in
+    let short : length text ≤ length (l .output) = omega (arith, text-fits (linesOf (joined (w .came .reads)))) in
+    record {
+      reads = w .came .reads;
+      each = w .came .each;
+      text = rw (w .size, w .output) (front (l .output) text short);
+      fits = rw (w .size, w .output) (omega (arith, short, length-written (l .output) 0 text));
+    }
+
+-- by the answer, where what was lent has the right sizes
+module _ (l m : Lent) (sizes : RightSizes l) {a : Answer} (w : Answered a l m) where
+  pub text-told : {n bytes : ℕ} → a ≡ Text n bytes → IsText n (m .output)
+  text-told e = told-text (sizes .1 .1) (rw e at (w .leaves))
+
+  pub sizes-taken : {n : ℕ} → a ≡ NotTaken n → ⊥
+  sizes-taken {n} e =
+      let number : n ≡ 0 = (rw e at (w .number)) ∙ right-sizes l sizes in
+      omega (arith, (rw e at (w .leaves)) .0)

@@ -1,13 +1,15 @@
--- How tight the contracts are: for the reads that came there is one answer, and wrong answers that no reads at all lead to.
-use mathlib.Core.Path.{_≡_, refl, sym, ap, _∙_}
+-- How tight the contracts are: for the reads that came there is one answer, where something is refused there is one, and wrong answers that no reads
+-- at all lead to.
+use mathlib.Core.Path.{_≡_, refl, sym, ap, subst, _∙_}
 use mathlib.Core.Bool.{Bool, true, false, cond}
 use mathlib.Core.Logic.{⊎-elim}
 use mathlib.Core.List.{List, [], _∷_, _++_}
 use Prim.Native.Nat.{ℕ, zero, suc, _+_, _<_}
 use native.Mathlib.Omega.{arith}
 use lib.Dec.{eqb}
-use lib.ListN.{length, take, length-append, length-take}
+use lib.ListN.{length, length-append}
 use Rattle.text.specs.Bytes.{toByte}
+use Rattle.text.specs.Put.{written}
 use Rattle.text.proofs.Bools.{lt-or-ge}
 use Rattle.walk.specs.Lines.{lastLine, linesOf}
 use Rattle.walk.proofs.Cuts.{cut-whole, none-whole, none-rest}
@@ -20,13 +22,18 @@ use Rattle.judge.specs.Feed.{Tables, placeIn, freshTables}
 use Rattle.agree.specs.Fed.{refusalOn, joined}
 use Rattle.agree.proofs.Judged.{after-lines, shows-taken}
 use Rattle.sheet.specs.Text.{sheetText}
-use Rattle.run.specs.Chunk.{readOn, stopped, atInputEnd}
+use Rattle.run.specs.Chunk.{going, stopped, readOn, atInputEnd}
 use Rattle.run.specs.Report.{acceptedText, refusedText, traceText}
 use Rattle.run.proofs.Printed.{printed}
 use Rattle.run.proofs.Texts.{length-accepted, length-refused}
 use Rattle.run.proofs.Reading.{all-read, printed-right, stopped-right}
-use Rattle.input.specs.Reads.{Came}
-use Rattle.input.specs.Whole.{Told}
+use Rattle.input.specs.declared.reads.Input.{Input}
+use Rattle.input.specs.declared.reads.Input.the-variants.{Read, Failed, Refused}
+use Rattle.input.specs.Reads.{Came, BrokeOff, inputRefusal, Taken}
+use Rattle.input.specs.declared.whole.Answer.{Answer}
+use Rattle.input.specs.declared.whole.Answer.the-variants.{Text, Unread, Refused as NotTaken}
+use Rattle.input.specs.Whole.{Lent, lentRefusal, textOf, Told, Answered}
+use Rattle.input.proofs.Sizes.{only-15}
 
 -- ---- `read_all`
 
@@ -35,6 +42,22 @@ came-unique {t = t} x y e = (
   sym (x .counted) ∙ ap (λ (rs : List (List ℕ)). length (joined rs)) e ∙ y .counted,
   x .left ∙ ap (λ (rs : List (List ℕ)). atInputEnd (readOn t [] rs)) e ∙ sym (y .left),
 )
+
+pub broke-unique : {t u v : Tables} (x : BrokeOff t u) (y : BrokeOff t v) → x .before .reads ≡ y .before .reads → u ≡ v
+broke-unique {t} {u} {v} x y e =
+    let p : going u (x .rest) ≡ going v (y .rest) = sym (x .before .goes-on) ∙ ap (λ (rs : List (List ℕ)). readOn t [] rs) e ∙ y .before .goes-on in
+    cc
+
+-- where something is refused, no reads are asked for: that number, and nothing changed
+pub refused-unique : (r : Input) (t : Tables) (b : List ℕ) (u : Tables) (c : List ℕ) → Taken r t b u c → 0 < inputRefusal t b →
+    (r ≡ Refused (inputRefusal t b)) × ((u ≡ t) × (c ≡ b))
+refused-unique (Read n) t b u c w h = absurd (omega (arith, w .number))
+refused-unique Failed t b u c w h = absurd (omega (arith, w .number))
+refused-unique (Refused n) t b u c w h = (ap Refused (w .number), w .leaves .1)
+
+-- and only there: a function that refuses everything is shut out
+pub refused-only : {n : ℕ} (t : Tables) (b : List ℕ) (u : Tables) (c : List ℕ) → Taken (Refused n) t b u c → 0 < inputRefusal t b
+refused-only t b u c w = omega (arith, w .number, w .leaves .0)
 
 -- a trace of some bytes has a line
 one-line : (s : List ℕ) → length (lastLine s) ≡ 0 → length s ≡ 0
@@ -70,8 +93,26 @@ nothing-dropped {n} c =
 
 -- ---- `text_of_input`
 
-pub told-unique : {m n : ℕ} {out end : List ℕ} (x : Told m out) (y : Told n end) → x .reads ≡ y .reads → take m out ≡ take n end
-told-unique x y e = x .text ∙ ap (λ (rs : List (List ℕ)). traceText (linesOf (joined rs))) e ∙ sym (y .text)
+pub told-unique : {m n x y : ℕ} {l a b : Lent} (v : Told m x l a) (w : Told n y l b) → v .came .reads ≡ w .came .reads →
+    (m ≡ n) × ((x ≡ y) × ((a .tables ≡ b .tables) × (a .output ≡ b .output)))
+told-unique {l = l} v w e =
+    let c = came-unique (v .came) (w .came) e in (
+      v .size ∙ ap (λ (rs : List (List ℕ)). length (textOf rs)) e ∙ sym (w .size),
+      (c .0, (c .1, v .output ∙ ap (λ (rs : List (List ℕ)). written (l .output) 0 (textOf rs)) e ∙ sym (w .output))),
+    )
+
+-- the sizes are wrong: 15, and nothing changed
+pub wrong-sizes-unique : (r : Answer) (l m : Lent) → Answered r l m → 0 < lentRefusal l → (r ≡ NotTaken 15) × (m ≡ l)
+wrong-sizes-unique (Text n bytes) l m w h = absurd (omega (arith, w .number))
+wrong-sizes-unique Unread l m w h = absurd (omega (arith, w .number))
+wrong-sizes-unique (NotTaken n) l m w h = (ap NotTaken (w .number ∙ only-15 l h), w .leaves .1)
+
+pub wrong-sizes-only : {n : ℕ} (l m : Lent) → Answered (NotTaken n) l m → 0 < lentRefusal l
+wrong-sizes-only l m w = omega (arith, w .number, w .leaves .0)
+
+-- a fresh start after reading is shut out wherever bytes came
+pub told-not-fresh : {n bytes : ℕ} {l m : Lent} → Told n bytes l m → m .tables ≡ freshTables → bytes ≡ 0
+told-not-fresh {bytes = bytes} w e = nothing-dropped (subst (λ (t : Tables). Came bytes freshTables t) e (w .came))
 
 -- there is always a text
 text-some : (ls : List (List ℕ)) → 0 < length (traceText ls)
@@ -85,11 +126,14 @@ text-some ls =
     by-number true scale span s n l = omega (arith, length-append (acceptedText scale span) s, length-accepted scale span)
     by-number false scale span s n l = omega (arith, length-refused n l)
 
-pub told-some : {n : ℕ} {out : List ℕ} → Told n out → 0 < n
-told-some {n} {out} w = omega (arith, text-some (linesOf (joined (w .reads))), ap length (w .text), length-take n out)
+pub told-some : {n bytes : ℕ} {l m : Lent} → Told n bytes l m → 0 < n
+told-some w = omega (arith, text-some (linesOf (joined (w .came .reads))), w .size)
 
 -- where reading stops before the end of input, it is the text of every trace that begins so
-pub told-further : {n : ℕ} {out : List ℕ} (w : Told n out) (t : Tables) → readOn freshTables [] (w .reads) ≡ stopped t → (more : List ℕ) →
-    take n out ≡ traceText (linesOf (joined (w .reads) ++ more))
-told-further w t e more =
-    w .text ∙ sym (printed-right (w .reads)) ∙ ap (λ p. printed (atInputEnd p)) e ∙ stopped-right (w .reads) t e more
+pub told-further : {n bytes : ℕ} {l m : Lent} (w : Told n bytes l m) (t : Tables) → readOn freshTables [] (w .came .reads) ≡ stopped t → (more : List ℕ) →
+    m .output ≡ written (l .output) 0 (traceText (linesOf (joined (w .came .reads) ++ more)))
+told-further {l = l} w t e more =
+    let rs = w .came .reads in
+    let same : textOf rs ≡ traceText (linesOf (joined rs ++ more)) =
+    sym (printed-right rs) ∙ ap (λ p. printed (atInputEnd p)) e ∙ stopped-right rs t e more in
+    w .output ∙ ap (λ (s : List ℕ). written (l .output) 0 s) same

@@ -3,11 +3,12 @@ ghost use mathlib.Core.Path.{_≡_};
 ghost use Prim.Native.Nat.{_≤_, _<_};
 ghost use lib.ListN.{length};
 ghost use Rattle.judge.specs.Feed.{tables};
-ghost use Rattle.input.specs.Reads.{OneFill, Stepped, Taken};
+ghost use Rattle.input.specs.Reads.{bufferSize, OneFill, Stepped, inputRefusal, Taken};
 use libc::STDIN_FILENO;
 use run::chunk::Turn;
 use run::chunk::take_chunk;
 use run::chunk::take_last;
+use tables::table_answer;
 
 // What one read came to: how many bytes, never 0; the end of input; or an error.
 enum Got {
@@ -24,13 +25,16 @@ enum Step {
     Error,
 }
 
-// What all reads came to: how many bytes they gave together, or that one failed.
+// What all reads came to: how many bytes they gave together; that one failed; or a refusal of what was lent, 15 or 16, and nothing was read.
 pub enum Input {
     Read(u64),
     Failed,
+    Refused(u32),
 }
 
-// No input is longer.
+pub const BUFFER_SIZE: usize = 65536;
+
+// An input of so many bytes counts as one that failed.
 const MOST: u64 = 9223372036854775808;
 
 // One read behind the first `have` bytes of the buffer, which stay.
@@ -57,7 +61,7 @@ fn one_read(
     buf: &mut [u8],
     have: usize,
 ) -> Step
-    requires { ⌜ (have ≤ 1024) × (length (now buf) ≡ 65536) ⌝ }
+    requires { ⌜ (have ≤ 1024) × (length (now buf) ≡ bufferSize) ⌝ }
     ensures { λ r. ⌜ Stepped r have (tables (now (names .entry)) (now (nums .entry)) (now (ticks .entry))) (now (buf .entry)) (tables (now (names .exit)) (now (nums .exit)) (now (ticks .exit))) (now (buf .exit)) ⌝ }
 {
     let got = fill(buf, have);
@@ -77,9 +81,9 @@ fn one_read(
 }
 
 // Reads until the input ends, a line is refused or a read fails.
-pub fn read_all(names: &mut [u8], nums: &mut [u32], ticks: &mut [u64], buf: &mut [u8]) -> Input
-    requires { ⌜ length (now buf) ≡ 65536 ⌝ }
-    ensures { λ r. ⌜ Taken r (tables (now (names .entry)) (now (nums .entry)) (now (ticks .entry))) (tables (now (names .exit)) (now (nums .exit)) (now (ticks .exit))) ⌝ }
+fn read_to_end(names: &mut [u8], nums: &mut [u32], ticks: &mut [u64], buf: &mut [u8]) -> Input
+    requires { ⌜ inputRefusal (tables (now names) (now nums) (now ticks)) (now buf) ≡ 0 ⌝ }
+    ensures { λ r. ⌜ Taken r (tables (now (names .entry)) (now (nums .entry)) (now (ticks .entry))) (now (buf .entry)) (tables (now (names .exit)) (now (nums .exit)) (now (ticks .exit))) (now (buf .exit)) ⌝ }
 {
     let mut have: usize = 0;
     let mut total: u64 = 0;
@@ -102,4 +106,25 @@ pub fn read_all(names: &mut [u8], nums: &mut [u32], ticks: &mut [u64], buf: &mut
         }
     }
     Input::Failed
+}
+
+// 15 for a buffer or table of the wrong size, 16 for a table with an entry out of its range, or 0.
+fn input_refusal(names: &[u8], nums: &[u32], ticks: &[u64], buf: &[u8]) -> u32
+    ensures { λ r. ⌜ r ≡ inputRefusal (tables (now (names .entry)) (now (nums .entry)) (now (ticks .entry))) (now (buf .entry)) ⌝ }
+{
+    if buf.len() != BUFFER_SIZE {
+        return 15;
+    }
+    table_answer(names, nums, ticks)
+}
+
+// All of standard input into the tables as they are, over a buffer of 64 KiB.
+pub fn read_all(names: &mut [u8], nums: &mut [u32], ticks: &mut [u64], buf: &mut [u8]) -> Input
+    ensures { λ r. ⌜ Taken r (tables (now (names .entry)) (now (nums .entry)) (now (ticks .entry))) (now (buf .entry)) (tables (now (names .exit)) (now (nums .exit)) (now (ticks .exit))) (now (buf .exit)) ⌝ }
+{
+    let n = input_refusal(names, nums, ticks, buf);
+    if n != 0 {
+        return Input::Refused(n);
+    }
+    read_to_end(names, nums, ticks, buf)
 }

@@ -1,7 +1,7 @@
 -- How tight the contracts of the judge are: wrong answers that they shut out. A function that never answers 0, or always, is shut out whatever else it
 -- does. That there is no second answer is among the laws of `agree`.
 use mathlib.Core.Path.{_≡_, refl, ap, _∙_}
-use mathlib.Core.List.{List, []}
+use mathlib.Core.List.{List, [], _∷_, _++_}
 use Prim.Native.Nat.{ℕ}
 use native.Mathlib.Omega.{arith}
 use lib.Dec.{eqb}
@@ -10,14 +10,15 @@ use Rattle.text.specs.Literal.{bytes}
 use Rattle.text.specs.Bytes.{sameBytes, startsWith}
 use Rattle.text.specs.Pieces.{pieces, ended, closed}
 use Rattle.text.proofs.Tight.{ShutsOut, shut-out}
-use Rattle.walk.specs.Lines.{usedUp}
+use Rattle.walk.specs.Lines.{lineText, wholeLines, usedUp}
 use Rattle.line.specs.Parameter.{isVersion, isVersionLine, isComment, parameterReading}
 use Rattle.line.specs.Reading.{hasBreak, isEventLine, readLine}
 use Rattle.rules.specs.Trace.{placed}
+use Rattle.tables.specs.Entry.{lineCount}
 use Rattle.tables.specs.Range.{isSized, tableAnswer}
 use Rattle.tables.proofs.Zeros.{fresh-answer}
 use Rattle.judge.specs.declared.feed.Verdict.{Verdict}
-use Rattle.judge.specs.Feed.{Tables, tables, After, placeIn, placedLine, lined, fedLine, AfterChunk, fedChunk, verdictIn, verdictOf, freshTables}
+use Rattle.judge.specs.Feed.{Tables, tables, After, placeIn, counted, placedLine, lined, fedLine, allLined, AfterChunk, fedChunk, verdictIn, verdictOf, freshTables}
 
 -- ---- `feed`
 
@@ -54,10 +55,21 @@ pub chunk-not-used-up : ShutsOut feedsChunk (λ (t, c). record { fed = record { 
 unfolding fedChunk usedUp closed ended pieces
 chunk-not-used-up = shut-out (λ x. eqb (x .fed .used) 0) (freshTables, bytes "#version") (rw fresh-answer) refl
 
--- it feeds nothing and says 0
-pub chunk-not-idle : ShutsOut feedsChunk (λ (t, c). record { fed = record { answer = 0; used = usedUp c }; left = t })
-unfolding fedChunk tableAnswer isSized
-chunk-not-idle = shut-out (λ x. eqb (x .fed .answer) 15) (tables [] [] [], []) refl refl
+-- a whole line, the version, is counted
+abbrev oneLine : List ℕ
+oneLine = bytes "#version 2.2.0" ++ 10 ∷ []
+
+line-counted : lineCount (fedChunk freshTables oneLine .left .nums) ≡ 1
+unfolding fedChunk allLined wholeLines lineText ended pieces lined placedLine placeIn placed counted readLine hasBreak isEventLine parameterReading isVersion sameBytes
+line-counted = rw fresh-answer
+
+-- it feeds nothing: the fresh tables are left as they were, whatever it says
+pub chunk-not-idle : (g : Tables × List ℕ → AfterChunk) → g (freshTables, oneLine) .left ≡ freshTables → ShutsOut feedsChunk g
+chunk-not-idle g h =
+    record {
+      input = (freshTables, oneLine);
+      breaks = λ e. omega (arith, ap (λ (t : Tables). lineCount (t .nums)) h, ap (λ (x : AfterChunk). lineCount (x .left .nums)) e, line-counted);
+    }
 
 -- ---- `verdict_now`
 

@@ -1,5 +1,5 @@
--- What demand 2 asks of a trace, clause by clause, over its lines and the list of their events alone: nothing here is looked up, tested event by event or
--- answered. Lists have THE NEWEST FIRST.
+-- What demand 2 asks of a trace, clause by clause: of its lines, that each is well formed and in its place; of the list of their events, what holds of the
+-- list as a whole, where nothing is looked up, tested event by event or answered. Lists have THE NEWEST FIRST.
 use mathlib.Core.Path.{_≡_}
 use mathlib.Core.Bool.{Bool, true, _&&_, _||_}
 use mathlib.Core.Option.{some}
@@ -74,8 +74,9 @@ FixedCount e = e .kind ≡ semaphore → fixed (e .word) (e .count) ≡ true
 pub record Orderly (es : List Event) : Type 0 where
   -- "time never falls"
   pub time : Chain (λ d e. d .time ≤ e .time) es
-  -- "names and instances fit", and each name is of one kind
+  -- each name is of one of the five kinds
   pub kinds : OneKind es
+  -- "names and instances fit"
   pub room : Fits es
   -- "each process, runnable, semaphore .. follows its chart": its words run through it from some state ("An entity starts in any state")
   pub charts : (x : Instance) → (s : ℕ) × (n : ℕ) × Run (chartOf (x .kind)) s (wordsOf x es) n
@@ -83,8 +84,9 @@ pub record Orderly (es : List Event) : Type 0 where
   pub numbered : (k : ℕ) (n : List ℕ) → Chain NumberAfter (only (numbers k n) es)
   -- ".. and core": its events run from unknown by the core rule ("Cores (house: one process instance at a time)")
   pub on-cores : (c : List ℕ) → (k : Core) × CoreRun c es k
-  -- "Counts": of each semaphore
+  -- "Counts": of each semaphore, from line to line
   pub counted : (n : List ℕ) → Chain CountAfter (only (counts n) es)
+  -- and by itself
   pub fixed-counts : Each FixedCount es
 
 -- ---- the lines of a trace

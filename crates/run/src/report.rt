@@ -8,6 +8,9 @@ use judge::feed::verdict_now;
 use sheet::sheet::Printed;
 use sheet::sheet::sheet;
 
+// No text is longer: `text-fits`.
+pub const TEXT_MOST: usize = 65655;
+
 // The text at the front of the output. The sheet is written first, behind the room for the verdict: if it does not fit, nothing was written.
 pub fn report(names: &[u8], nums: &[u32], ticks: &[u64], out: &mut [u8]) -> Printed
     ensures { λ r. ⌜ sheeted r (now (out .exit)) ≡ reportWritten (now (names .entry)) (now (nums .entry)) (now (ticks .entry)) (now (out .entry)) ⌝ }

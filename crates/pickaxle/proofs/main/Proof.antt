@@ -1,14 +1,17 @@
--- `pickaxle::main` meets its contract: what it lends has the sizes that are asked for, and what it writes is the text that it was told.
+-- `pickaxle::main` meets its contract: what it lends has the right sizes, so it is not refused, and what it writes is the text that it was told.
 -- Assumes nothing.
 use borrow.Author.Needs.{needs}
-use Rattle.input.proofs.Texts.{text-told}
+use Rattle.input.proofs.Texts.{text-told, sizes-taken}
 use Rattle.pickaxle.proofs.main.Statement.{statement}
 use Rattle.pickaxle.proofs.main.Tie as tie
 
 print-requires : tie.Need-print-requires
 print-requires c κs =
     let a = c .before .before in
-    text-told _ (a .answer .given .1) (a .before .before .before .before .before .before .before .text-of-input .ensures)
+    text-told _ _ (search needs) (a .before .before .before .before .before .before .before .text-of-input .ensures) (a .answer .given .1)
+
+wrong-sizes-requires : tie.Need-wrong-sizes-requires
+wrong-sizes-requires c κs = sizes-taken _ _ (search needs) (c .before .before .before .before .before .before .before .text-of-input .ensures) (c .enum-told2 .given .1)
 
 pub main-spec : {M : Type 1} → statement M
 main-spec =
@@ -26,5 +29,8 @@ main-spec =
     (λ c. search needs)
     (λ c. search needs)
     (λ c κs. search needs)
+    (λ c. search needs)
+    wrong-sizes-requires
+    (λ c. search needs)
     (λ c. search needs)
     (λ c. search needs))

@@ -5,7 +5,7 @@ use native.Mathlib.Omega.{arith}
 use borrow.Author.Needs.{needs}
 use lib.ListN.{length, getD}
 use Rattle.run.proofs.Carried.{more-short}
-use Rattle.input.specs.Reads.{Filled}
+use Rattle.input.specs.Reads.{bufferSize, Filled}
 use Rattle.input.proofs.Steps.{some-read, none-read, at-end, one-more, one-last}
 use Rattle.input.proofs.reads.one_read.Statement.{statement}
 use Rattle.input.proofs.reads.one_read.Tie as tie
@@ -28,7 +28,7 @@ some : (c : tie.After-got) →
     (0 < n) × Filled n (a .have) (a .buf .now) (filled c .fill .last .0)
 some c = some-read _ _ _ (c .got .given .1) (filled c .fill .ensures)
 
-small : (c : tie.After-got) → length (filled c .fill .last .0) ≤ 65536
+small : (c : tie.After-got) → length (filled c .fill .last .0) ≤ bufferSize
 small c = let f = filled c in omega (arith, f .fill .kept .0, entry f .pre)
 
 bytes : (c : tie.After-got) (i : ℕ) → getD (filled c .fill .last .0) i 0 < 256

@@ -1,0 +1,18 @@
+-- `input::reads::input_refusal` meets its contract: its test is the definition's.
+-- Assumes nothing.
+use borrow.Author.Needs.{needs}
+use borrow.Author.Tests.{eq-eqb, ne-eqb}
+use Rattle.input.specs.Reads.{inputRefusal}
+use Rattle.input.proofs.reads.input_refusal.Statement.{statement}
+use Rattle.input.proofs.reads.input_refusal.Tie as tie
+
+returns : tie.Need-returns
+unfolding inputRefusal
+returns c = rw (ne-eqb _ _ (c .if1 .taken))
+
+returns-2 : tie.Need-returns-2
+unfolding inputRefusal
+returns-2 c = rw (eq-eqb _ _ (c .before .if1 .left)) (c .table-answer .ensures)
+
+pub input-refusal-spec : {M : Type 1} → statement M
+input-refusal-spec = tie.close (tie.spec returns (λ c κs. search needs) returns-2)
