@@ -1,4 +1,3 @@
-// Many traces in one input: each is taken as the program takes it, and the short ones again in other reads, which must change nothing.
+// Many traces in one input: each is judged as a whole, and its text printed.
 pub mod container;
-pub mod reads;
 pub mod say;

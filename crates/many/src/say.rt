@@ -1,69 +1,47 @@
-// What is printed of one trace: its label, its text, and a line for each other way to take it that gives another text.
-use crate::reads::text_in_reads;
-use crate::reads::text_of_whole;
+// What is printed of one trace, taken as a whole: its label and its text.
+ghost use Prim.Native.Nat.{_≤_};
+ghost use lib.ListN.{length};
+use judge::feed::judge;
 use libc::STDOUT_FILENO;
-use text::bytes::same;
-
-// A read as large as the buffer.
-const READ_MOST: usize = 65536;
-
-// A longer trace is taken in one way only, since one of n bytes is taken n times.
-const CUT_MOST: usize = 400;
+use run::report::TEXT_MOST;
+use run::report::report;
+use sheet::sheet::Printed;
+use tables::entry::NAMES_SIZE;
+use tables::entry::NUMS_SIZE;
+use tables::entry::TICKS_SIZE;
 
 pub(crate) fn say(s: &[u8]) {
     io::write_all(STDOUT_FILENO, s);
 }
 
-// Where a trace that is cut there has another text.
-fn say_cut(alike: bool, cut: usize) {
-    if alike {
-        return;
+fn least(a: usize, b: usize) -> usize
+    ensures { λ r. ⌜ (r ≤ a) × (r ≤ b) ⌝ }
+{
+    if a < b {
+        return a;
     }
-    say(b"differs at ");
-    io::print_decimal(STDOUT_FILENO, cut as u64);
-    say(b"\n");
+    b
 }
 
-// The trace in two reads, cut at every byte.
-fn say_cuts(trace: &[u8], text: &[u8], out: &mut [u8]) {
-    let mut cut = 1;
-    while cut < trace.len() {
-        let n = text_in_reads(trace, cut, READ_MOST, out);
-        say_cut(same(&out[0..n], text), cut);
-        cut += 1;
-    }
+// The text of a trace at the front of the output; how long it is. A text that does not come counts as an empty one.
+fn put_text(trace: &[u8], out: &mut [u8]) -> usize
+    ensures { λ r. ⌜ r ≤ length (now (out .exit)) ⌝ }
+{
+    let mut names = [0u8; NAMES_SIZE];
+    let mut nums = [0u32; NUMS_SIZE];
+    let mut ticks = [0u64; TICKS_SIZE];
+    judge(&mut names, &mut nums, &mut ticks, trace);
+    let Printed::Done(n) = report(&names, &nums, &ticks, out) else {
+        return 0;
+    };
+    least(n, out.len())
 }
 
-// The trace in reads of one byte each.
-fn say_bytes(trace: &[u8], text: &[u8], out: &mut [u8]) {
-    let n = text_in_reads(trace, 1, 1, out);
-    if !same(&out[0..n], text) {
-        say(b"differs byte by byte\n");
-    }
-}
-
-// The trace as a whole.
-fn say_whole(trace: &[u8], text: &[u8], out: &mut [u8]) {
-    let n = text_of_whole(trace, out);
-    if !same(&out[0..n], text) {
-        say(b"differs as a whole\n");
-    }
-}
-
-// One trace in reads as large as they can be, and a short one in every other way too. The outputs hold the longest text.
 pub(crate) fn say_trace(label: &[u8], trace: &[u8]) {
-    let mut out = [0u8; 40960];
-    let mut again = [0u8; 40960];
+    let mut out = [0u8; TEXT_MOST];
     say(b"trace ");
     say(label);
     say(b"\n");
-    let n = text_in_reads(trace, READ_MOST, READ_MOST, &mut out);
-    let text = &out[0..n];
-    say(text);
-    if CUT_MOST < trace.len() {
-        return;
-    }
-    say_cuts(trace, text, &mut again);
-    say_bytes(trace, text, &mut again);
-    say_whole(trace, text, &mut again);
+    let n = put_text(trace, &mut out);
+    say(&out[0..n]);
 }

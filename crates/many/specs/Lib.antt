@@ -1,0 +1,2 @@
+-- A container of traces.
+pub mod Container
