@@ -16,6 +16,9 @@ use judge::feed::verdict_now;
 use judge::fresh::fresh;
 use libc::STDIN_FILENO;
 use libc::STDOUT_FILENO;
+use tables::entry::NAMES_SIZE;
+use tables::entry::NUMS_SIZE;
+use tables::entry::TICKS_SIZE;
 use text::bytes::find;
 use text::bytes::same;
 use text::number::Number;
@@ -23,6 +26,13 @@ use text::number::read_number;
 use text::put::put_bytes;
 ghost use mathlib.Core.Path.{_≡_};
 ghost use Rattle.text.specs.Bytes.{sameBytes};
+
+// The buffers have room for one entry more than a table.
+const NAMES_ROOM: usize = NAMES_SIZE + 1;
+
+const NUMS_ROOM: usize = NUMS_SIZE + 1;
+
+const TICKS_ROOM: usize = TICKS_SIZE + 1;
 
 // How many entries of each table are lent.
 struct Sizes {
@@ -307,9 +317,9 @@ fn same_ticks(s: &[u64], t: &[u64]) -> bool
 
 // Runs a call, and compares the buffers with a copy of them before it, the entries that were not lent too: none of those may change either.
 fn run_call(
-    names: &mut [u8; 16385],
-    nums: &mut [u32; 4363],
-    ticks: &mut [u64; 1027],
+    names: &mut [u8; NAMES_ROOM],
+    nums: &mut [u32; NUMS_ROOM],
+    ticks: &mut [u64; TICKS_ROOM],
     lent: Sizes,
     call: Call,
     rest: &[u8],
@@ -327,9 +337,9 @@ fn run_call(
 
 // Runs a step, and returns the sizes that are lent from then on.
 fn run_step(
-    names: &mut [u8; 16385],
-    nums: &mut [u32; 4363],
-    ticks: &mut [u64; 1027],
+    names: &mut [u8; NAMES_ROOM],
+    nums: &mut [u32; NUMS_ROOM],
+    ticks: &mut [u64; TICKS_ROOM],
     lent: Sizes,
     step: &[u8],
 ) -> Sizes {
@@ -353,13 +363,13 @@ fn run_step(
 
 // Runs every step of a script, on tables that begin as zeros.
 fn run_script(s: &[u8]) {
-    let mut names = [0u8; 16385];
-    let mut nums = [0u32; 4363];
-    let mut ticks = [0u64; 1027];
+    let mut names = [0u8; NAMES_ROOM];
+    let mut nums = [0u32; NUMS_ROOM];
+    let mut ticks = [0u64; TICKS_ROOM];
     let mut lent = Sizes {
-        names: 16384,
-        nums: 4362,
-        ticks: 1026,
+        names: NAMES_SIZE,
+        nums: NUMS_SIZE,
+        ticks: TICKS_SIZE,
     };
     let mut at = 0;
     while at < s.len() {
