@@ -1,7 +1,7 @@
 // Every example of document 01, every settled reading, every slip and the limits, in one container: what is printed of each is held to
 // the file stdout.
+use bundle::container::say_all;
 use libc::STDIN_FILENO;
-use many::container::say_all;
 
 fn main() {
     let mut input = [0u8; 1048576];

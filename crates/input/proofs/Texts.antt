@@ -11,7 +11,7 @@ use Rattle.walk.specs.Lines.{linesOf}
 use Rattle.tables.specs.Fresh.{Cleared, clearedOf}
 use Rattle.tables.proofs.Valid.{Sizes, sizes-mean}
 use Rattle.judge.specs.Feed.{Tables, tables, freshTables}
-use Rattle.agree.specs.Fed.{joined}
+use Rattle.promises.specs.Fed.{joined}
 use Rattle.sheet.specs.declared.sheet.Printed.{Printed}
 use Rattle.sheet.specs.declared.sheet.Printed.the-variants.{Done, NotPrinted}
 use Rattle.sheet.specs.Sheet.{Sheeted, sheeted}

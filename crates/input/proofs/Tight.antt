@@ -19,8 +19,8 @@ use Rattle.rules.specs.Sheet.{sheet, span}
 use Rattle.rules.specs.Lines.{eventsOf}
 use Rattle.rules.specs.Trace.{placeOf, answerAt, takenLines, verdictOn}
 use Rattle.judge.specs.Feed.{Tables, placeIn, freshTables}
-use Rattle.agree.specs.Fed.{refusalOn, joined}
-use Rattle.agree.proofs.Judged.{after-lines, shows-taken}
+use Rattle.promises.specs.Fed.{refusalOn, joined}
+use Rattle.promises.proofs.Judged.{after-lines, shows-taken}
 use Rattle.sheet.specs.Text.{sheetText}
 use Rattle.run.specs.Chunk.{going, stopped, readOn, atInputEnd}
 use Rattle.run.specs.Report.{acceptedText, refusedText, traceText}

@@ -10,7 +10,7 @@ use Rattle.text.specs.Put.{written}
 use Rattle.walk.specs.Lines.{linesOf}
 use Rattle.tables.specs.Range.{isSized}
 use Rattle.judge.specs.Feed.{Tables, tables, freshTables}
-use Rattle.agree.specs.Fed.{joined}
+use Rattle.promises.specs.Fed.{joined}
 use Rattle.run.specs.Report.{traceText, textMost}
 use Rattle.input.specs.Reads.{bufferSize, AllReads, Came, BrokeOff, Numbered}
 use Rattle.input.specs.declared.whole.Answer.{Answer}

@@ -1,5 +1,5 @@
 -- How tight the contracts of the judge are: wrong answers that they shut out. A function that never answers 0, or always, is shut out whatever else it
--- does. That there is no second answer is among the laws of `agree`.
+-- does. That there is no second answer is among the laws of `promises`.
 use mathlib.Core.Path.{_≡_, refl, ap, _∙_}
 use mathlib.Core.List.{List, [], _∷_, _++_}
 use Prim.Native.Nat.{ℕ}

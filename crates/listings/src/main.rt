@@ -1,6 +1,6 @@
 // The listings of document 000 as traces, in one container: what is printed of each is held to the file stdout.
+use bundle::container::say_all;
 use libc::STDIN_FILENO;
-use many::container::say_all;
 
 fn main() {
     let mut input = [0u8; 8192];

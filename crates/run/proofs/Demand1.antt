@@ -30,9 +30,9 @@ use Rattle.tables.proofs.Zeros.{clear-answers, clear-kept}
 use Rattle.decide.specs.Decide.{planAnswer, decided}
 use Rattle.decide.proofs.Decided.{ruled, plan-answer, decided-answer, plan-refuses}
 use Rattle.judge.specs.Feed.{Tables, After, after, lined, allLined, fedLine, AfterChunk, fedChunk, verdict, verdictIn, verdictOf, AfterTrace, freshTables, judgedTrace}
-use Rattle.agree.proofs.Numbers.{lowest-has, lined-numbered, lines-most}
-use Rattle.agree.proofs.Refused.{OnlyVerdict, refused-spares, StopsAfter, lines-spare}
-use Rattle.agree.proofs.Judged.{never-16}
+use Rattle.promises.proofs.Numbers.{lowest-has, lined-numbered, lines-most}
+use Rattle.promises.proofs.Refused.{OnlyVerdict, refused-spares, StopsAfter, lines-spare}
+use Rattle.promises.proofs.Judged.{never-16}
 use Rattle.sheet.specs.declared.sheet.Printed.the-variants.{Done, NotPrinted}
 use Rattle.sheet.specs.Text.{sheetText}
 use Rattle.sheet.specs.Sheet.{Sheeted, sheeted, sheetIn, sheetWritten, printedAnswer}

@@ -10,7 +10,7 @@ use Rattle.tables.specs.Entry.{verdictNumber, verdictLine, lineCount, scaleEntr
 use Rattle.tables.proofs.Valid.{Valid, valid}
 use Rattle.judge.specs.declared.feed.Verdict.{Verdict}
 use Rattle.judge.specs.Feed.{verdict, verdictIn}
-use Rattle.agree.proofs.Judged.{never-16}
+use Rattle.promises.proofs.Judged.{never-16}
 use Rattle.sheet.specs.declared.section.Section.the-variants.{Cores, Processes}
 use Rattle.sheet.specs.Text.{sheetText}
 use Rattle.sheet.specs.Sheet.{sheetIn}

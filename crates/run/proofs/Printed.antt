@@ -11,8 +11,8 @@ use Rattle.rules.specs.Lines.{eventsOf}
 use Rattle.rules.specs.Trace.{placeOf}
 use Rattle.judge.specs.declared.feed.Verdict.{Verdict}
 use Rattle.judge.specs.Feed.{Tables, verdictIn}
-use Rattle.agree.proofs.Verdicts.{Tells}
-use Rattle.agree.proofs.Judged.{after-lines, never-16, lines-tell}
+use Rattle.promises.proofs.Verdicts.{Tells}
+use Rattle.promises.proofs.Judged.{after-lines, never-16, lines-tell}
 use Rattle.sheet.specs.declared.sheet.Printed.the-variants.{Done, NotPrinted}
 use Rattle.sheet.specs.Text.{sheetText}
 use Rattle.sheet.specs.Sheet.{sheeted, sheetIn}

@@ -26,9 +26,9 @@ use Rattle.rules.specs.Trace.{tooMuch, placeTests, answerInPlace, answerAt}
 use Rattle.tables.specs.Entry.{verdictNumber}
 use Rattle.judge.specs.Feed.{Tables, After, placedLine, lined, allLined, fedLine, fedChunk, freshTables}
 use Rattle.judge.proofs.Feeds.{allLined-append, lined-fed, lined-chunk}
-use Rattle.agree.specs.Fed.{refusalOn, joined}
-use Rattle.agree.proofs.Traces.{further}
-use Rattle.agree.proofs.Judged.{after-lines, shows-taken, never-16}
+use Rattle.promises.specs.Fed.{refusalOn, joined}
+use Rattle.promises.proofs.Traces.{further}
+use Rattle.promises.proofs.Judged.{after-lines, shows-taken, never-16}
 use Rattle.sheet.specs.declared.sheet.Printed.the-variants.{Done, NotPrinted}
 use Rattle.sheet.specs.Sheet.{sheeted}
 use Rattle.run.specs.Report.{reportWritten, traceText}

@@ -1,6 +1,6 @@
 // The fixed sample of the second reader, in one container: what is printed of each trace is held to the second reader's answers.
+use bundle::container::say_all;
 use libc::STDIN_FILENO;
-use many::container::say_all;
 
 fn main() {
     let mut input = [0u8; 131072];

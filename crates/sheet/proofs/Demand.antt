@@ -18,8 +18,8 @@ use Rattle.rules.specs.Trace.{takenLines}
 use Rattle.rules.proofs.Sums.{Once}
 use Rattle.rules.proofs.Tracked.{names-once}
 use Rattle.rules.proofs.Traces.{taken-sound}
-use Rattle.agree.proofs.Events.{all-met}
-use Rattle.agree.proofs.Judged.{after-lines, shows-taken, never-16}
+use Rattle.promises.proofs.Events.{all-met}
+use Rattle.promises.proofs.Judged.{after-lines, shows-taken, never-16}
 use Rattle.sheet.specs.declared.sheet.Printed.the-variants.{Done, NotPrinted}
 use Rattle.sheet.specs.Text.{sheetText}
 use Rattle.sheet.specs.Sheet.{sheeted, sheetIn, sheetWritten}

@@ -27,12 +27,12 @@ use Rattle.rules.proofs.Totals.{core-total}
 use Rattle.rules.proofs.Charges.{charge-at-most}
 use Rattle.tables.specs.Entry.{kindAt, markAt, ownerAt, heldAt, unknownAt}
 use Rattle.judge.specs.Feed.{Tables}
-use Rattle.agree.specs.Places.{place, rowOf, instanceRowOf}
-use Rattle.agree.specs.Shown.{Shown, CoreTicks, coreMark, openTicks, openCharge}
-use Rattle.agree.proofs.Places.{place-bound, place-one, Distinct, at-place}
-use Rattle.agree.proofs.Grown.{AllMet, names-distinct, instance-kind, core-unknown}
-use Rattle.agree.proofs.Holders.{holder-listed}
-use Rattle.agree.proofs.Bounds.{span-most}
+use Rattle.promises.specs.Places.{place, rowOf, instanceRowOf}
+use Rattle.promises.specs.Shown.{Shown, CoreTicks, coreMark, openTicks, openCharge}
+use Rattle.promises.proofs.Places.{place-bound, place-one, Distinct, at-place}
+use Rattle.promises.proofs.Grown.{AllMet, names-distinct, instance-kind, core-unknown}
+use Rattle.promises.proofs.Holders.{holder-listed}
+use Rattle.promises.proofs.Bounds.{span-most}
 use Rattle.sheet.specs.Figure.{openAt, heldIn, idleIn, holds, chargeTo, chargeIn}
 
 -- ---- the rows of a list, one after the other

@@ -18,9 +18,9 @@ use Rattle.rules.specs.Verdict.{Accepted}
 use Rattle.rules.specs.Sheet.{Row, coreRows, processRows, span, sheet}
 use Rattle.tables.specs.Entry.{kindAt, firstTime, lastTime}
 use Rattle.judge.specs.Feed.{Tables}
-use Rattle.agree.specs.Places.{rowOf}
-use Rattle.agree.specs.Shown.{Shown, firstOf, lastOf}
-use Rattle.agree.proofs.Grown.{AllMet, names-distinct}
+use Rattle.promises.specs.Places.{rowOf}
+use Rattle.promises.specs.Shown.{Shown, firstOf, lastOf}
+use Rattle.promises.proofs.Grown.{AllMet, names-distinct}
 use Rattle.sheet.specs.declared.section.Section.{Section}
 use Rattle.sheet.specs.declared.section.Section.the-variants.{Cores, Processes}
 use Rattle.sheet.specs.Sheet.{belongs, rowIn, rowsTo, rowsIn, sheetIn}

@@ -35,7 +35,7 @@ use Rattle.rules.specs.Sheet.{ticks, Row, Sheet, sheet}
 use Rattle.rules.specs.Lines.{kindNumber, wordNumber, eventOfLine, eventsOf}
 use Rattle.rules.specs.Trace.{scaleNumber, placeOf, tooMuch, versionWrong, parameterWrong, unscaled, placeTests, answerInPlace, answerAt, takenLines}
 use Rattle.tables.specs.Range.{tableAnswer}
-use Rattle.agree.proofs.Judged.{after-lines, never-16}
+use Rattle.promises.proofs.Judged.{after-lines, never-16}
 use Rattle.sheet.specs.declared.sheet.Printed.the-variants.{Done, NotPrinted}
 use Rattle.sheet.specs.Text.{figuresText, rowText, rowsText, sectionText, sheetText}
 use Rattle.sheet.specs.Sheet.{Sheeted, sheeted, sheetIn, sheetWritten}

@@ -1,0 +1,125 @@
+-- The answer from tables that show a history is the answer of the history: each rule says the same of what the tables have and of what the history
+-- has. Where 9 is broken, what the rules after it say does not matter.
+use mathlib.Core.Path.{_≡_, refl, ap}
+use mathlib.Core.Bool.{Bool, true, false, _&&_, _||_, cond}
+use mathlib.Core.Option.{none, some}
+use mathlib.Core.List.{List, [], _∷_}
+use Prim.Native.Nat.{ℕ, _+_}
+use native.Mathlib.Omega.{arith}
+use lib.Dec.{eqb}
+use lib.ListN.{length}
+use Rattle.text.specs.Bytes.{sameBytes}
+use Rattle.rules.specs.Words.{core}
+use Rattle.rules.specs.Event.{Event}
+use Rattle.rules.specs.Core.{onCore}
+use Rattle.rules.specs.History.{isTracked, names, cores, instances, kindOf, lastTime as timeBefore}
+use Rattle.rules.specs.Refusals.{
+  Known,
+  look,
+  less,
+  differs,
+  timeFalls,
+  sourceClash,
+  targetClash,
+  secondKind,
+  noRoom,
+  offChart,
+  notNext,
+  coreBroken,
+  countBroken,
+  Rule,
+  rule,
+  rules,
+  firstBroken,
+  answerTo,
+}
+use Rattle.rules.specs.Rows.{opened}
+use Rattle.rules.specs.Verdict.{answer, Accepted}
+use Rattle.tables.specs.Entry.{startedEntry, nameCount, coreCount, instanceCount, lastTime}
+use Rattle.decide.specs.declared.sight.Sight.{Sight}
+use Rattle.decide.specs.Sight.{sightOf}
+use Rattle.decide.specs.Known.{kindIn, newCore, newName, newInstance, knownBy}
+use Rattle.judge.specs.Feed.{Tables}
+use Rattle.promises.specs.Shown.{Shown, HeadShown, startedOf, lastOf}
+use Rattle.promises.specs.Taken.{sightIn}
+use Rattle.promises.proofs.Grown.{AllMet, names-length, cores-length, instances-length}
+use Rattle.promises.proofs.Lookups.{sight-source, sight-target, sight-shown, new-core, new-name, new-instance}
+use Rattle.promises.proofs.Told.{kind-told}
+use Rattle.promises.proofs.Later.{source-asked, target-asked, chart-agrees, number-agrees, core-agrees, count-agrees}
+
+-- the time of the event line before
+time-told : (h : List Event) (nums ticks : List ℕ) → startedEntry nums ≡ startedOf h → lastTime ticks ≡ lastOf h → cond (eqb (startedEntry nums) 0) none (some (lastTime ticks)) ≡ timeBefore h
+time-told [] nums ticks p q = rw p
+time-told (e ∷ h) nums ticks p q = rw (p, q)
+
+-- the rules after 9
+abbrev rest : List Rule
+rest = rule 10 noRoom ∷ rule 11 offChart ∷ rule 12 notNext ∷ rule 13 coreBroken ∷ rule 14 countBroken ∷ []
+
+module _ (h : List Event) (a : Accepted h) (met : AllMet h) (t : Tables) (s : Shown h t) (e : Event) where
+  -- what the tables have for the event, by the rows that were looked up
+  abbrev known : Sight → Known
+  known v = knownBy (t .nums) (t .ticks) v e
+
+  -- ---- 8
+
+  time-agrees : (v : Sight) → timeFalls (known v) e ≡ timeFalls (look h e) e
+  unfolding timeFalls knownBy
+  time-agrees v = ap (less (e .time)) (time-told h (t .nums) (t .ticks) (s .head .started) (s .head .last))
+
+  -- ---- 9: the source is looked up where the event is on a core, and only there is it asked for
+
+  source-agrees : (v : Sight) → v .source ≡ sightIn h e .source → sourceClash (known v) e ≡ sourceClash (look h e) e
+  unfolding sourceClash knownBy
+  source-agrees v q = by-test (onCore e) refl
+    where
+      by-test : (b : Bool) → onCore e ≡ b →
+          b && (differs (opened (kindIn (t .nums) (v .source))) core || sameBytes (e .source) (e .target)) ≡ b && (differs (kindOf (e .source) h) core || sameBytes (e .source) (e .target))
+      by-test true o = rw (q, source-asked h e o, kind-told h a t s (e .source))
+      by-test false o = refl
+
+  target-agrees : (v : Sight) → v .target ≡ sightIn h e .target → targetClash (known v) e ≡ targetClash (look h e) e
+  unfolding targetClash knownBy
+  target-agrees v q = by-test (isTracked (e .kind)) refl
+    where
+      by-test : (b : Bool) → isTracked (e .kind) ≡ b → b && differs (opened (kindIn (t .nums) (v .target))) (e .kind) ≡ b && differs (kindOf (e .target) h) (e .kind)
+      by-test true k = rw (q, target-asked h e k, kind-told h a t s (e .target))
+      by-test false k = refl
+
+  module _ (f : secondKind (look h e) e ≡ false) where
+    -- ---- 10
+
+    room-agrees : noRoom (known (sightIn h e)) e ≡ noRoom (look h e) e
+    unfolding noRoom knownBy
+    room-agrees = rw (names-more, cores-more, instances-more)
+      where
+        counted : HeadShown h (t .nums) (t .ticks)
+        counted = s .head
+
+        names-more : nameCount (t .nums) + newCore (sightIn h e) + newName (sightIn h e) (e .kind) ≡ length (names (e ∷ h))
+        names-more = omega (arith, counted .names-counted, new-core h e, new-name h e, names-length h e f)
+
+        cores-more : coreCount (t .nums) + newCore (sightIn h e) ≡ length (cores (e ∷ h))
+        cores-more = omega (arith, counted .cores-counted, new-core h e, cores-length h e f)
+
+        instances-more : instanceCount (t .nums) + newInstance (sightIn h e) (e .kind) ≡ length (instances (e ∷ h))
+        instances-more = omega (arith, counted .instances-counted, new-instance h e, instances-length h e)
+
+    rest-agrees : (v : Sight) → v ≡ sightIn h e → firstBroken rest (known v) e ≡ firstBroken rest (look h e) e
+    rest-agrees v q =
+        rw (q, room-agrees, chart-agrees h a met t s e f, number-agrees h a met t s e f, core-agrees h a met t s e f, count-agrees h a met t s e f)
+
+  -- ---- the answer
+
+  pub answers-agree : answerTo (knownBy (t .nums) (t .ticks) (sightOf (t .names) (t .nums) e) e) e ≡ answer h e
+  unfolding answerTo rules secondKind
+  answers-agree =
+      let v = sightOf (t .names) (t .nums) e in
+      rw (time-agrees v, source-agrees v (sight-source h a met t s e), target-agrees v (sight-target h a met t s e))
+      (by-nine (timeFalls (look h e) e) (secondKind (look h e) e) refl)
+    where
+      by-nine : (b d : Bool) → secondKind (look h e) e ≡ d →
+          cond b 8 (cond d 9 (firstBroken rest (known (sightOf (t .names) (t .nums) e)) e)) ≡ cond b 8 (cond d 9 (firstBroken rest (look h e) e))
+      by-nine true d q = refl
+      by-nine false true q = refl
+      by-nine false false q = rest-agrees q (sightOf (t .names) (t .nums) e) (sight-shown h a met t s e q)

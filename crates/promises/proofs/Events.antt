@@ -1,0 +1,133 @@
+-- An event line against tables that show a history: it is decided as the history says, and the tables after one that is taken show it too.
+use mathlib.Core.Path.{_≡_, refl, sym}
+use mathlib.Core.List.{List, [], _∷_}
+use Prim.Native.Nat.{ℕ, zero, suc, _<_}
+use native.Mathlib.Omega.{arith}
+use lib.ListN.{length, getD}
+use Rattle.line.specs.declared.event.Event.{Event as ReadEvent}
+use Rattle.line.specs.declared.reading.Reading.{Reading}
+use Rattle.line.specs.declared.reading.Reading.the-variants.{Version, Comment, TimeScale, Creator, CreationDate, EventLine, Refused}
+use Rattle.line.specs.Part.{fieldOf}
+use Rattle.line.specs.Reading.{readLine}
+use Rattle.rules.specs.Lists.{ifZero}
+use Rattle.rules.specs.Event.{Event}
+use Rattle.rules.specs.History.{names}
+use Rattle.rules.specs.Verdict.{answer, Accepted}
+use Rattle.rules.specs.Lines.{eventFrom, eventIn, eventOfLine, withEvent, eventsOf}
+use Rattle.rules.proofs.Answers.{passed}
+use Rattle.rules.proofs.Meets.{Met, line-meets}
+use Rattle.rules.proofs.Traces.{Kept}
+use Rattle.decide.specs.declared.happening.Happening.{Happening}
+use Rattle.decide.specs.declared.sight.Sight.{Sight}
+use Rattle.decide.specs.declared.plan.Plan.{Plan}
+use Rattle.decide.specs.declared.plan.Plan.the-variants.{Refuse, Take}
+use Rattle.decide.specs.Happening.{happeningOf, asEvent}
+use Rattle.decide.specs.Sight.{sightOf}
+use Rattle.decide.specs.Decide.{enters, planBy, planOf}
+use Rattle.judge.specs.Feed.{Tables, carried, eventLined}
+use Rattle.promises.specs.Shown.{Shown, Shows}
+use Rattle.promises.specs.Taken.{sightIn, takenBy}
+use Rattle.promises.proofs.Grown.{AllMet}
+use Rattle.promises.proofs.Lookups.{sight-shown}
+use Rattle.promises.proofs.Later.{enters-shown}
+use Rattle.promises.proofs.Answers.{answers-agree}
+use Rattle.promises.proofs.Entries.{lines-taken, verdict-number-kept, verdict-line-kept, scale-kept, creator-kept, date-kept}
+use Rattle.promises.proofs.Names.{each-name-next}
+use Rattle.promises.proofs.Instances.{each-instance-next}
+use Rattle.promises.proofs.Sums.{each-ticks-next}
+use Rattle.promises.proofs.Sizes.{names-size-next, nums-size-next, ticks-size-next, head-next}
+use Rattle.promises.proofs.Lines.{EventOutcome}
+
+-- the events of lines that were read are as lines give them
+pub all-met : (h : List (List ℕ)) → AllMet (eventsOf h)
+unfolding eventsOf eventOfLine
+all-met [] = tt
+all-met (l ∷ h) = by-reading (readLine l) refl (all-met h)
+  where
+    by-reading : (r : Reading) → readLine l ≡ r → AllMet (eventsOf h) → AllMet (withEvent (eventIn r l) (eventsOf h))
+    by-reading Version q m = m
+    by-reading Comment q m = m
+    by-reading (TimeScale s) q m = m
+    by-reading Creator q m = m
+    by-reading CreationDate q m = m
+    by-reading (EventLine e count) q m = (line-meets l e count q, m)
+    by-reading (Refused n) q m = m
+
+-- ---- a line taken
+
+module _ (h : List Event) (a : Accepted h) (met : AllMet h) (t : Tables) (s : Shown h t) (w : Happening) (source target : List ℕ) where
+  abbrev event : Event
+  event = asEvent w source target
+
+  abbrev state : ℕ
+  state = enters (t .nums) (sightIn h event) event
+
+  -- the tables after it
+  abbrev next : Tables
+  next = takenBy t (sightIn h event) state w source target
+
+  taken-shown : answer h event ≡ 0 → Met event → Shown (event ∷ h) next
+  taken-shown q m =
+      let f = passed h event q in
+      let l = enters-shown h a met t s event (f .kinds) (f .chart) in
+      record {
+        names-size = names-size-next h t s w source target state;
+        nums-size = nums-size-next h t s w source target state;
+        ticks-size = ticks-size-next h t s w source target state;
+        head = head-next h t s w source target state f;
+        each-name = each-name-next h met t s w source target f m state l;
+        each-instance = each-instance-next h a t s w source target f state l;
+        each-ticks = each-ticks-next h a t s w source target f m state;
+      }
+
+  -- the line level's entries but for the count of lines
+  level : (j : ℕ) → j < 6 → (j ≡ 2 → ⊥) → getD (next .nums) j 0 ≡ getD (t .nums) j 0
+  level zero l n = verdict-number-kept (t .nums) (s .nums-size) (sightIn h event) state w (length source) (length target)
+  level (suc zero) l n = verdict-line-kept (t .nums) (s .nums-size) (sightIn h event) state w (length source) (length target)
+  level (suc (suc zero)) l n = absurd (n refl)
+  level (suc (suc (suc zero))) l n = scale-kept (t .nums) (s .nums-size) (sightIn h event) state w (length source) (length target)
+  level (suc (suc (suc (suc zero)))) l n = creator-kept (t .nums) (s .nums-size) (sightIn h event) state w (length source) (length target)
+  level (suc (suc (suc (suc (suc zero))))) l n = date-kept (t .nums) (s .nums-size) (sightIn h event) state w (length source) (length target)
+  level (suc (suc (suc (suc (suc (suc j)))))) l n = absurd (omega (arith, l))
+
+  -- ---- the decision
+
+  -- from the rows that were looked up
+  planned : (v : Sight) → Plan
+  planned v = ifZero (answer h event) (Take v (enters (t .nums) v event)) (Refuse (answer h event))
+
+  plan-shown : planOf (t .names) (t .nums) (t .ticks) event ≡ planned (sightOf (t .names) (t .nums) event)
+  unfolding planOf planBy planned
+  plan-shown = rw (answers-agree h a met t s event)
+
+  outcome : Met event → EventOutcome h t event (carried (planOf (t .names) (t .nums) (t .ticks) event) t w source target)
+  unfolding planned
+  outcome m = rw plan-shown (by-answer (answer h event) refl)
+    where
+      by-answer : (n : ℕ) → answer h event ≡ n →
+          let v = sightOf (t .names) (t .nums) event in
+          EventOutcome h t event (carried (ifZero n (Take v (enters (t .nums) v event)) (Refuse n)) t w source target)
+      by-answer zero q =
+          rw (sight-shown h a met t s event (passed h event q .kinds))
+          (record {
+            answered = sym q;
+            shown = λ z. taken-shown q m;
+            line-counted = λ z. lines-taken (t .nums) (s .nums-size) (sightIn h event) state w (length source) (length target);
+            level-kept = λ z. level;
+            remembers = λ z. absurd (z q);
+          })
+      by-answer (suc n) q = record {
+        answered = sym q;
+        shown = λ z. absurd (omega (arith, q, z));
+        line-counted = λ z. absurd (omega (arith, q, z));
+        level-kept = λ z. absurd (omega (arith, q, z));
+        remembers = λ z. rw q;
+      }
+
+-- ---- in a history of lines
+
+pub event-outcome : (h : List (List ℕ)) → Kept h → (t : Tables) → Shows h t → (l : List ℕ) (e : ReadEvent) (count : ℕ) → readLine l ≡ EventLine e count →
+    EventOutcome (eventsOf h) t (eventFrom e (fieldOf l 2) (fieldOf l 5) count) (eventLined t l e count)
+unfolding eventLined
+event-outcome h k t s l e count q =
+    outcome (eventsOf h) (k .accepted) (all-met h) t (s .events) (happeningOf e count) (fieldOf l 2) (fieldOf l 5) (line-meets l e count q)

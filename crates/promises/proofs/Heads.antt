@@ -1,0 +1,61 @@
+-- The line level. Tables that agree from the event level's entries on show the same events; and a line that is well formed and in its place, but for
+-- an event line, changes only the line level's entries, as the place after it says.
+use mathlib.Core.Path.{_≡_, sym, ap, _∙_}
+use mathlib.Core.Option.{some}
+use mathlib.Core.List.{List}
+use Prim.Native.Nat.{ℕ, _+_, _*_, _≤_}
+use native.Mathlib.Omega.{arith}
+use lib.ListN.{length, getD, take, drop}
+use Rattle.rules.specs.Event.{Event, Instance}
+use Rattle.rules.specs.Rows.{opened}
+use Rattle.tables.specs.Entry.{nameRoom, startedIndex, namesIndex, coresIndex, instancesIndex}
+use Rattle.tables.specs.Entry.{kindColumn, lengthColumn, markColumn, numberColumn, numberedColumn, ownerColumn, instanceColumn, stateColumn}
+use Rattle.judge.specs.Feed.{tables}
+use Rattle.promises.specs.Shown.{HeadShown, NameShown, InstanceShown, Shown}
+
+-- ---- the event level
+
+abbrev pub AgreeFrom : ℕ → List ℕ → List ℕ → Type 0
+AgreeFrom i nums nums' = (j : ℕ) → i ≤ j → getD nums' j 0 ≡ getD nums j 0
+
+module _ (h : List Event) (names nums nums' ticks : List ℕ) (g : AgreeFrom 6 nums nums') where
+  head-later : HeadShown h nums ticks → HeadShown h nums' ticks
+  head-later s = record {
+    started = g startedIndex (omega arith) ∙ s .started;
+    names-counted = g namesIndex (omega arith) ∙ s .names-counted;
+    cores-counted = g coresIndex (omega arith) ∙ s .cores-counted;
+    instances-counted = g instancesIndex (omega arith) ∙ s .instances-counted;
+    first = s .first;
+    last = s .last;
+  }
+
+  name-later : (i : ℕ) (n : List ℕ) → NameShown h names nums i n → NameShown h names nums' i n
+  name-later i n s =
+      let k = g (kindColumn .base + i) (omega arith) in
+      let d = g (numberedColumn .base + i) (omega arith) in
+      record {
+        name = ap (λ m. take m (drop (nameRoom * i) names)) (g (lengthColumn .base + i) (omega arith)) ∙ s .name;
+        size = g (lengthColumn .base + i) (omega arith) ∙ s .size;
+        kind = s .kind ∙ ap some (sym k);
+        mark = rw (k, g (markColumn .base + i) (omega arith)) (s .mark);
+        numbered = rw d (s .numbered);
+        number = rw (d, g (numberColumn .base + i) (omega arith), k) (s .number);
+      }
+
+  instance-later : (j : ℕ) (x : Instance) → InstanceShown h nums j x → InstanceShown h nums' j x
+  instance-later j x s = record {
+    owner = g (ownerColumn .base + j) (omega arith) ∙ s .owner;
+    number = g (instanceColumn .base + j) (omega arith) ∙ s .number;
+    state = ap opened (g (stateColumn .base + j) (omega arith)) ∙ s .state;
+  }
+
+  pub shown-later : length nums' ≡ length nums → Shown h (tables names nums ticks) → Shown h (tables names nums' ticks)
+  shown-later z s = record {
+    names-size = s .names-size;
+    nums-size = z ∙ s .nums-size;
+    ticks-size = s .ticks-size;
+    head = head-later (s .head);
+    each-name = λ n m. name-later _ n (s .each-name n m);
+    each-instance = λ x m. instance-later _ x (s .each-instance x m);
+    each-ticks = s .each-ticks;
+  }

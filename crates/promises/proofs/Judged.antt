@@ -1,0 +1,108 @@
+-- The laws of the judge from a fresh start, for all lines. 1: the verdict on a whole trace is 0 exactly if the trace is sound, and otherwise names the
+-- first line that breaks this, stated over the list of lines alone. 2: the tables show the lines taken. 4: no line ever leads to 16.
+-- 5: line by line, by chunks cut at line ends, and the whole trace at once end in the same tables and verdict.
+use mathlib.Core.Path.{_≡_, refl, sym, ap, _∙_}
+use mathlib.Core.Logic.{_↔_}
+use mathlib.Core.Bool.{true}
+use mathlib.Core.List.{List, [], _∷_, _++_, reverse, append-assoc, append-nil}
+use Prim.Native.Nat.{ℕ}
+use lib.ListN.{length}
+use Rattle.text.specs.Pieces.{pieces, ended}
+use Rattle.walk.specs.Lines.{wholeLines, linesOf}
+use Rattle.walk.proofs.Chunks.{whole-anew}
+use Rattle.rules.specs.Trace.{takenLines, verdictOn, Sound}
+use Rattle.rules.proofs.Traces.{nothing-kept, number-sound, Names, verdict-names-first, taken-sound}
+use Rattle.tables.specs.Range.{isSized, tableAnswer}
+use Rattle.judge.specs.Feed.{Tables, After, lined, fedLine, allLined, fedChunk, verdictIn, verdictOf, freshTables, judgedTrace}
+use Rattle.judge.proofs.Feeds.{allLined-append}
+use Rattle.promises.specs.Fed.{refusalOn, allFed, chunksFed, joined, AtLineEnds}
+use Rattle.promises.proofs.Traces.{Followed, followed}
+use Rattle.promises.proofs.Limits.{refusal-small, shows-valid}
+use Rattle.promises.proofs.Fresh.{fresh-shows}
+use Rattle.promises.proofs.Verdicts.{verdict-by-refusal, Tells, now-tells}
+
+-- the tables after lines from a fresh start
+abbrev pub after-lines : List (List ℕ) → Tables
+after-lines ls = allLined freshTables ls
+
+-- ---- 2: what the tables show
+
+pub shows-taken : (ls : List (List ℕ)) → Followed [] ls (after-lines ls)
+shows-taken ls = followed ls [] nothing-kept freshTables fresh-shows refl refl
+
+-- ---- 4: never 16
+
+pub never-16 : (ls : List (List ℕ)) → tableAnswer (after-lines ls .names) (after-lines ls .nums) (after-lines ls .ticks) ≡ 0
+never-16 ls =
+    let b = shows-taken ls in
+    let r = refusal-small ls [] nothing-kept in
+    shows-valid (takenLines [] ls) (taken-sound ls .kept) (after-lines ls) (b .shows)
+    (rw (ap (λ (p : ℕ × ℕ). p .0) (b .remembers)) (r .0))
+    (rw (ap (λ (p : ℕ × ℕ). p .1) (b .remembers)) (r .1))
+
+-- ---- 1: demand 2, exactly
+
+pub lines-tell : (ls : List (List ℕ)) → Tells (verdictIn (after-lines ls .nums) (after-lines ls .ticks)) (verdictOn [] ls) (takenLines [] ls)
+lines-tell ls = rw (verdict-by-refusal ls []) (now-tells (takenLines [] ls) (taken-sound ls .kept) (after-lines ls) (refusalOn [] ls) (shows-taken ls))
+
+-- a whole trace judged in tables of the right sizes, whatever they held
+module _ (t : Tables) (fits : isSized (length (t .names)) (length (t .nums)) (length (t .ticks)) ≡ true) (trace : List ℕ) where
+  judged-so : judgedTrace t trace ≡ record { judged = verdictIn (after-lines (linesOf trace) .nums) (after-lines (linesOf trace) .ticks); left = after-lines (linesOf trace) }
+  unfolding judgedTrace
+  judged-so = rw fits
+
+  pub judged-tells : Tells (judgedTrace t trace .judged) (verdictOn [] (linesOf trace)) (takenLines [] (linesOf trace))
+  judged-tells = rw judged-so (lines-tell (linesOf trace))
+
+  pub judge-sound : (judgedTrace t trace .judged .number ≡ 0) ↔ Sound (reverse (linesOf trace))
+  judge-sound = rw (ap (λ (p : ℕ × ℕ). p .0) (judged-tells .verdict)) (number-sound (linesOf trace))
+
+  pub judge-names-first : Names [] (linesOf trace) 1 (judgedTrace t trace .judged .number, judgedTrace t trace .judged .line) (takenLines [] (linesOf trace))
+  judge-names-first = rw (judged-tells .verdict) (verdict-names-first (linesOf trace))
+
+-- ---- 5: however the lines come
+
+-- line by line, the tables tested at each
+fed-lined : (t : Tables) (l : List ℕ) → tableAnswer (t .names) (t .nums) (t .ticks) ≡ 0 → fedLine t l ≡ lined t l
+unfolding fedLine
+fed-lined t l q = rw q
+
+from-fed : (ls ks : List (List ℕ)) → allFed (after-lines ks) ls ≡ after-lines (ks ++ ls)
+unfolding allFed allLined
+from-fed [] ks = ap after-lines (sym (append-nil ks))
+from-fed (l ∷ ls) ks =
+    ap (λ (x : After). allFed (x .left) ls) (fed-lined (after-lines ks) l (never-16 ks))
+    ∙ ap (λ (u : Tables). allFed u ls) (sym (allLined-append freshTables ks (l ∷ [])))
+    ∙ from-fed ls (ks ++ (l ∷ []))
+    ∙ ap after-lines (append-assoc ks (l ∷ []) ls)
+
+pub line-by-line : (ls : List (List ℕ)) → allFed freshTables ls ≡ after-lines ls
+unfolding allLined
+line-by-line ls = from-fed ls []
+
+-- chunk by chunk
+fed-chunk : (t : Tables) (c : List ℕ) → tableAnswer (t .names) (t .nums) (t .ticks) ≡ 0 → fedChunk t c .left ≡ allLined t (wholeLines c)
+unfolding fedChunk
+fed-chunk t c q = rw q
+
+nothing-whole : wholeLines [] ≡ []
+unfolding wholeLines ended pieces
+nothing-whole = refl
+
+from-chunks : (cs ks : List (List ℕ)) → AtLineEnds cs → chunksFed (after-lines ks) cs ≡ after-lines (ks ++ wholeLines (joined cs))
+unfolding chunksFed
+from-chunks [] ks a = ap after-lines (sym (append-nil ks) ∙ ap (λ (ls : List (List ℕ)). ks ++ ls) (sym nothing-whole))
+from-chunks (c ∷ cs) ks a =
+    ap (λ (u : Tables). chunksFed u cs) (fed-chunk (after-lines ks) c (never-16 ks) ∙ sym (allLined-append freshTables ks (wholeLines c)))
+    ∙ from-chunks cs (ks ++ wholeLines c) (a .1)
+    ∙ ap after-lines (append-assoc ks (wholeLines c) (wholeLines (joined cs)) ∙ ap (λ (ls : List (List ℕ)). ks ++ ls) (sym (whole-anew c (joined cs) (a .0))))
+
+pub chunk-by-chunk : (cs : List (List ℕ)) → AtLineEnds cs → chunksFed freshTables cs ≡ after-lines (wholeLines (joined cs))
+unfolding allLined
+chunk-by-chunk cs a = from-chunks cs [] a
+
+-- and the whole trace at once: the same tables, and the verdict that is then asked for
+pub all-at-once : (t : Tables) → isSized (length (t .names)) (length (t .nums)) (length (t .ticks)) ≡ true → (trace : List ℕ) →
+    let u = allFed freshTables (linesOf trace) in judgedTrace t trace ≡ record { judged = verdictOf u; left = u }
+unfolding verdictOf
+all-at-once t fits trace = judged-so t fits trace ∙ rw (line-by-line (linesOf trace), never-16 (linesOf trace))

@@ -1,0 +1,320 @@
+-- A line that is taken keeps the rows by name: after it each tracked name has its row, and the row has what the longer history says of the name.
+use mathlib.Core.Path.{_≡_, refl, sym, ap, subst, _∙_}
+use mathlib.Core.Bool.{Bool, true, false, not, _&&_, cond}
+use mathlib.Core.Option.{Option, none, some}
+use mathlib.Core.List.{List, _∷_}
+use Prim.Native.Nat.{ℕ, _+_, _≤_, _<_}
+use native.Mathlib.Omega.{arith}
+use lib.Dec.{eqb}
+use lib.ListN.{length}
+use borrow.Author.Tests.{eq-eqb, eqb-true, not-true}
+use Rattle.text.specs.Bytes.{sameBytes}
+use Rattle.text.proofs.Bools.{is-false}
+use Rattle.text.proofs.Names.{name-length}
+use Rattle.text.proofs.Words.{same-eq, eq-same}
+use Rattle.rules.specs.Lists.{any, oneIf, when, orElse}
+use Rattle.rules.specs.Words.{core, semaphore}
+use Rattle.rules.specs.Event.{Event, Instance, sameInstance, instanceOf, stateOf}
+use Rattle.rules.specs.Core.{Core, unknown, idle, held, becomes, gives, onCore, on, coreAt}
+use Rattle.rules.specs.History.{isTracked, names, kindOf, activates, lastNumber, lastCount}
+use Rattle.rules.specs.Rows.{opened}
+use Rattle.rules.proofs.Tests.{both, and-true, clash, instance-true}
+use Rattle.rules.proofs.Changes.{state-other, core-other, core-own}
+use Rattle.rules.proofs.Answers.{Passed}
+use Rattle.rules.proofs.Tracked.{target-kind, two-names, source-kind, kind-stays, kind-named}
+use Rattle.rules.proofs.Meets.{Met}
+use Rattle.tables.specs.Entry.{nameCount, nameAt, lengthAt, kindAt, markAt, numberAt, numberedAt}
+use Rattle.decide.specs.declared.happening.Happening.{Happening}
+use Rattle.decide.specs.Happening.{asEvent}
+use Rattle.store.specs.Store.{targetRow}
+use Rattle.judge.specs.Feed.{Tables}
+use Rattle.promises.specs.Places.{rowOf, instanceRowOf}
+use Rattle.promises.specs.Shown.{coreMark, theSemaphore, MarkShown, numberOf, NameShown, Shown}
+use Rattle.promises.specs.Taken.{sightIn, takenBy}
+use Rattle.promises.proofs.Grown.{newSource, newTarget, instances-tracked, tracked-range, NameFrom, name-from, row-stays, source-row-new, instance-row-stays, AllMet, name-size}
+use Rattle.promises.proofs.Grown.NameFrom.{before, as-source, as-target}
+use Rattle.promises.proofs.Lookups.{new-core, new-name, target-row}
+use Rattle.promises.proofs.Untold.{semaphore-tracked, activates-instances, no-number, no-count}
+use Rattle.promises.proofs.Holders.{holder-listed}
+use Rattle.promises.proofs.Entries.{name-kept, name-of-core, name-of-target}
+use Rattle.promises.proofs.Rows.{row-bound, at-new-core, at-new-target, orOld, kind-at, mark-at, number-at, numbered-at}
+
+-- ---- what is new, and what is not
+
+module _ (h : List Event) (e : Event) (n : List ℕ) where
+  not-new : any (sameBytes n) (names h) ≡ true → (b : Bool) (k : List ℕ) → (b && not (any (sameBytes k) (names h))) && sameBytes n k ≡ false
+  not-new q b k =
+      is-false _
+      (λ p. let r = both (b && not (any (sameBytes k) (names h))) (sameBytes n k) p in
+      clash (any (sameBytes k) (names h)) (subst (λ (z : List ℕ). any (sameBytes z) (names h) ≡ true) (same-eq n k (r .1)) q) (not-true _ (both b _ (r .0) .1)))
+
+  old-same : any (sameBytes n) (names h) ≡ true → (u v old : ℕ) → orOld h e n u v old ≡ old
+  old-same q u v old = rw (not-new q (isTracked (e .kind)) (e .target), not-new q (onCore e) (e .source))
+
+  new-source : sameBytes (e .source) (e .target) ≡ false → newSource h e ≡ true → n ≡ e .source → (u v old : ℕ) → orOld h e n u v old ≡ v
+  new-source d w p u v old =
+      let x : sameBytes n (e .target) ≡ false = rw p d in
+      rw (x, w, eq-same n (e .source) p) (by-test (newTarget h e))
+    where
+      by-test : (b : Bool) → cond (b && false) u v ≡ v
+      by-test true = refl
+      by-test false = refl
+
+  new-target : newTarget h e ≡ true → n ≡ e .target → (u v old : ℕ) → orOld h e n u v old ≡ u
+  new-target w p u v old = rw (w, eq-same n (e .target) p)
+
+  -- a name was there, or it is new and has nothing yet
+  data Age : Type 0 where
+    old : any (sameBytes n) (names h) ≡ true → Age
+    new : any (sameBytes n) (names h) ≡ false → ((v : ℕ) → orOld h e n 0 0 v ≡ 0) → Age
+
+  age : (onCore e ≡ true → sameBytes (e .source) (e .target) ≡ false) → NameFrom h e n → Age
+  age d (before p) = old p
+  age d (as-source u p) = let b = both (onCore e) _ u in new (rw p (not-true _ (b .1))) (new-source (d (b .0)) u p 0 0)
+  age d (as-target u p) = new (rw p (not-true _ (both (isTracked (e .kind)) _ u .1))) (new-target u p 0 0)
+
+-- ---- the number of a name
+
+-- the number that two entries show
+abbrev shownNumber : ℕ → ℕ → Option ℕ
+shownNumber d v = cond (eqb d 0) none (some v)
+
+given-shown : (a b : Bool) (c d x y : ℕ) → shownNumber (cond a 1 (cond b 1 x)) (cond a c (cond b d y)) ≡ cond a (some c) (cond b (some d) (shownNumber x y))
+given-shown true b c d x y = refl
+given-shown false true c d x y = refl
+given-shown false false c d x y = refl
+
+one-at-most : (a b : Bool) (x : ℕ) → x ≤ 1 → cond a 1 (cond b 1 x) ≤ 1
+one-at-most true b x h = omega arith
+one-at-most false true x h = omega arith
+one-at-most false false x h = h
+
+-- a name that is not listed has none
+none-told : (h : List Event) (n : List ℕ) (k : ℕ) → any (sameBytes n) (names h) ≡ false → none ≡ numberOf h n k
+none-told h n k q = let z = kind-named h n q in rw (no-count n h z, no-number k n h z) (by-test (eqb k semaphore))
+  where
+    by-test : (b : Bool) → _≡_ {A = Option ℕ} none (cond b none none)
+    by-test true = refl
+    by-test false = refl
+
+-- an event gives a number of its kind
+number-grows : (h : List Event) (e : Event) (n : List ℕ) (k : ℕ) → (isTracked (e .kind) ≡ true → sameBytes n (e .target) ≡ true → k ≡ e .kind) →
+    numberOf (e ∷ h) n k
+    ≡ cond (eqb (e .kind) semaphore && sameBytes n (e .target)) (some (e .count))
+    (cond (activates (e .kind) (e .word) && sameBytes n (e .target)) (some (e .targetInstance)) (numberOf h n k))
+unfolding lastNumber lastCount
+number-grows h e n k q =
+    by-test (sameBytes n (e .target)) (eqb (e .kind) semaphore) (activates (e .kind) (e .word)) (eqb k semaphore) (eqb k (e .kind))
+    (λ c x. rw (q (semaphore-tracked (e .kind) c) x) c)
+    (λ c b x. let z = q (instances-tracked (e .kind) (activates-instances (e .kind) (e .word) b)) x in (eq-eqb k (e .kind) z, rw z c))
+  where
+    by-test : (x c b j i : Bool) → (c ≡ true → x ≡ true → j ≡ true) → (c ≡ false → b ≡ true → x ≡ true → (i ≡ true) × (j ≡ false)) →
+        cond j (orElse (when (c && x) (e .count)) (lastCount n h)) (orElse (when (b && (i && x)) (e .targetInstance)) (lastNumber k n h))
+        ≡ cond (c && x) (some (e .count)) (cond (b && x) (some (e .targetInstance)) (cond j (lastCount n h) (lastNumber k n h)))
+    by-test true true b true i y z = refl
+    by-test true true b false i y z = absurd (clash false (y refl refl) refl)
+    by-test true false true true i y z = absurd (clash true refl (z refl refl refl .1))
+    by-test true false true false true y z = refl
+    by-test true false true false false y z = absurd (clash false (z refl refl refl .0) refl)
+    by-test true false false j i y z = refl
+    by-test false true true j true y z = refl
+    by-test false true true j false y z = refl
+    by-test false true false j i y z = refl
+    by-test false false true j true y z = refl
+    by-test false false true j false y z = refl
+    by-test false false false j i y z = refl
+
+module _ (h : List Event) (m : AllMet h) (t : Tables) (s : Shown h t) (w : Happening) (source target : List ℕ)
+    (f : Passed h (asEvent w source target)) (o : Met (asEvent w source target)) (state : ℕ)
+    (l : opened state ≡ stateOf (instanceOf (asEvent w source target)) (asEvent w source target ∷ h)) where
+  abbrev e : Event
+  e = asEvent w source target
+
+  abbrev after : Tables
+  after = takenBy t (sightIn h e) state w source target
+
+  module _ (n : List ℕ) (q : any (sameBytes n) (names (e ∷ h)) ≡ true) where
+    abbrev row : ℕ
+    row = rowOf (e ∷ h) n
+
+    kind-next : kindOf n (e ∷ h) ≡ some (kindAt (after .nums) row)
+    kind-next = by-origin (name-from h e n q) ∙ ap some (sym (kind-at h t s w source target f state n q))
+      where
+        by-origin : NameFrom h e n → kindOf n (e ∷ h) ≡ some (orOld h e n (w .kind) core (kindAt (t .nums) row))
+        by-origin (before p) =
+            kind-stays h e (f .kinds) n _ (s .each-name n p .kind)
+            ∙ ap some (ap (kindAt (t .nums)) (sym (row-stays h e (f .kinds) n p)) ∙ sym (old-same h e n p (w .kind) core _))
+        by-origin (as-source u p) =
+            let c = both (onCore e) _ u .0 in
+            rw p (source-kind h e (f .kinds) c) ∙ ap some (sym (new-source h e n (two-names h e (f .kinds) c) u p (w .kind) core _))
+        by-origin (as-target u p) =
+            rw p (target-kind h e (both (isTracked (w .kind)) _ u .0)) ∙ ap some (sym (new-target h e n u p (w .kind) core _))
+
+    kind-old : any (sameBytes n) (names h) ≡ true → kindAt (after .nums) row ≡ kindAt (t .nums) (rowOf h n)
+    kind-old p = kind-at h t s w source target f state n q ∙ old-same h e n p (w .kind) core _ ∙ ap (kindAt (t .nums)) (row-stays h e (f .kinds) n p)
+
+    target-kinded : isTracked (w .kind) ≡ true → sameBytes n target ≡ true → kindAt (after .nums) row ≡ w .kind
+    target-kinded i x =
+        let z : some (kindAt (after .nums) row) ≡ some (w .kind) = sym kind-next ∙ rw (same-eq n target x) (target-kind h e i) in
+        cc
+
+    source-kinded : on n e ≡ true → kindAt (after .nums) row ≡ core
+    source-kinded x =
+        let p = both (onCore e) (sameBytes n source) x in
+        let z : some (kindAt (after .nums) row) ≡ some core = sym kind-next ∙ rw (same-eq n source (p .1)) (source-kind h e (f .kinds) (p .0)) in
+        cc
+
+    -- ---- its name
+
+    named-next : (nameAt (after .names) (after .nums) row ≡ n) × (lengthAt (after .nums) row ≡ length n)
+    named-next = by-origin (name-from h e n q)
+      where
+        inside : row < 256
+        inside = row-bound h t s e f n q
+
+        source-size : length source ≤ 64
+        source-size = name-length source (o .source-name) .1
+
+        target-size : length target ≤ 64
+        target-size = name-length target (o .target-name) .1
+
+        by-origin : NameFrom h e n → (nameAt (after .names) (after .nums) row ≡ n) × (lengthAt (after .nums) row ≡ length n)
+        by-origin (before p) =
+            let stays = row-stays h e (f .kinds) n p in
+            let shown = s .each-name n p in
+            name-kept (t .names) (t .nums) (s .names-size) (s .nums-size) (sightIn h e) state w source target source-size target-size row n inside
+            (at-new-target h t s e f n q ∙ not-new h e n p (isTracked (w .kind)) target)
+            (at-new-core h t s e f n q ∙ not-new h e n p (onCore e) source)
+            (name-size h m n p .1)
+            (rw stays (shown .name))
+            (rw stays (shown .size))
+        by-origin (as-source u p) =
+            let at : row ≡ nameCount (t .nums) = ap (rowOf (e ∷ h)) p ∙ source-row-new h e (f .kinds) u ∙ sym (s .head .names-counted) in
+            rw (at, p)
+            (name-of-core (t .names) (t .nums) (s .names-size) (s .nums-size) (sightIn h e) state w source target source-size target-size
+            (new-core h e ∙ ap oneIf u)
+            (rw (← at) inside))
+        by-origin (as-target u p) =
+            let at : row ≡ targetRow (t .nums) (sightIn h e) = ap (rowOf (e ∷ h)) p ∙ sym (target-row h t s e (f .kinds) (both (isTracked (w .kind)) _ u .0)) in
+            rw (at, p)
+            (name-of-target (t .names) (t .nums) (s .names-size) (s .nums-size) (sightIn h e) state w source target source-size target-size
+            (new-name h e ∙ ap oneIf u)
+            (rw (← at) inside))
+
+    -- ---- its number
+
+    number-next : shownNumber (numberedAt (after .nums) row) (numberAt (after .nums) row) ≡ numberOf (e ∷ h) n (kindAt (after .nums) row)
+    number-next =
+        rw (numbered-at h t s w source target f state n q, number-at h t s w source target f state n q)
+        (given-shown (eqb (w .kind) semaphore && sameBytes n target) (activates (w .kind) (w .word) && sameBytes n target) (w .count) (w .number) _ _
+        ∙ ap
+        (λ (r : Option ℕ). cond (eqb (w .kind) semaphore && sameBytes n target) (some (w .count))
+        (cond (activates (w .kind) (w .word) && sameBytes n target) (some (w .number)) r))
+        (by-age (age h e n (two-names h e (f .kinds)) (name-from h e n q)))
+        ∙ sym (number-grows h e n (kindAt (after .nums) row) target-kinded))
+      where
+        by-age : Age h e n →
+            shownNumber (orOld h e n 0 0 (numberedAt (t .nums) row)) (orOld h e n 0 0 (numberAt (t .nums) row)) ≡ numberOf h n (kindAt (after .nums) row)
+        by-age (old p) =
+            rw (kind-old p, old-same h e n p 0 0 (numberedAt (t .nums) row), old-same h e n p 0 0 (numberAt (t .nums) row), row-stays h e (f .kinds) n p)
+            (s .each-name n p .number)
+        by-age (new p z) = rw (z (numberedAt (t .nums) row)) (none-told h n (kindAt (after .nums) row) p)
+
+    numbered-next : numberedAt (after .nums) row ≤ 1
+    numbered-next =
+        rw (numbered-at h t s w source target f state n q)
+        (one-at-most (eqb (w .kind) semaphore && sameBytes n target) (activates (w .kind) (w .word) && sameBytes n target) _
+        (by-age (age h e n (two-names h e (f .kinds)) (name-from h e n q))))
+      where
+        by-age : Age h e n → orOld h e n 0 0 (numberedAt (t .nums) row) ≤ 1
+        by-age (old p) = rw (old-same h e n p 0 0 (numberedAt (t .nums) row), row-stays h e (f .kinds) n p) (s .each-name n p .numbered)
+        by-age (new p z) = rw (z (numberedAt (t .nums) row)) (omega arith)
+
+    -- ---- its state
+
+    -- a holder keeps its row
+    core-mark-stays : (c : Core) → coreAt n h ≡ c → coreMark h c ≡ coreMark (e ∷ h) c
+    core-mark-stays unknown p = refl
+    core-mark-stays idle p = refl
+    core-mark-stays (held x) p = rw (instance-row-stays h e x (holder-listed n h x p))
+
+    -- the event is one on the core
+    mark-of-core : on n e ≡ true → MarkShown (e ∷ h) n (kindAt (after .nums) row) (cond (gives (w .word)) 1 (instanceRowOf (e ∷ h) (instanceOf e) + 2))
+    mark-of-core x =
+        let p = both (onCore e) (sameBytes n source) x in
+        let k = source-kinded x in
+        let z : coreAt n (e ∷ h) ≡ becomes (gives (w .word)) (instanceOf e) = rw (same-eq n source (p .1)) (core-own e h (p .0)) in
+        record {
+          of-core = λ c. by-word (gives (w .word)) ∙ ap (coreMark (e ∷ h)) (sym z);
+          of-semaphore = λ c. absurd (omega (arith, eqb-true (kindAt (after .nums) row) semaphore c));
+          of-other = λ c d. absurd (clash _ (eq-eqb (kindAt (after .nums) row) core k) c);
+        }
+      where
+        by-word : (g : Bool) → cond g 1 (instanceRowOf (e ∷ h) (instanceOf e) + 2) ≡ coreMark (e ∷ h) (becomes g (instanceOf e))
+        by-word true = refl
+        by-word false = refl
+
+    -- the event is one of the semaphore
+    mark-of-semaphore : eqb (w .kind) semaphore && sameBytes n target ≡ true → MarkShown (e ∷ h) n (kindAt (after .nums) row) state
+    mark-of-semaphore y =
+        let p = both (eqb (w .kind) semaphore) (sameBytes n target) y in
+        let k : kindAt (after .nums) row ≡ semaphore = target-kinded (semaphore-tracked (w .kind) (p .0)) (p .1) ∙ eqb-true (w .kind) semaphore (p .0) in
+        record {
+          of-core = λ c. absurd (omega (arith, eqb-true (kindAt (after .nums) row) core c));
+          of-semaphore = λ c. l ∙ ap (λ (x : Instance). stateOf x (e ∷ h)) (own (p .0) (p .1));
+          of-other = λ c d. absurd (clash _ (eq-eqb (kindAt (after .nums) row) semaphore k) d);
+        }
+      where
+        own : eqb (w .kind) semaphore ≡ true → sameBytes n target ≡ true → instanceOf e ≡ theSemaphore n
+        own c x = λ i. record { kind = eqb-true (w .kind) semaphore c i; name = sym (same-eq n target x) i; number = ap (λ (b : Bool). cond b 0 (w .number)) c i }
+
+    -- the event is of another name
+    module _ (x : on n e ≡ false) (y : eqb (w .kind) semaphore && sameBytes n target ≡ false) where
+      mark-of-old : any (sameBytes n) (names h) ≡ true → MarkShown (e ∷ h) n (kindAt (t .nums) (rowOf h n)) (markAt (t .nums) (rowOf h n))
+      mark-of-old p =
+          let k = s .each-name n p .mark in
+          record {
+            of-core = λ c. k .of-core c ∙ core-mark-stays (coreAt n h) refl ∙ ap (coreMark (e ∷ h)) (sym (core-other n e h x));
+            of-semaphore = λ c. k .of-semaphore c ∙ sym (state-other (theSemaphore n) e h (is-false _ other));
+            of-other = k .of-other;
+          }
+        where
+          other : sameInstance (theSemaphore n) (instanceOf e) ≡ true → ⊥
+          other b =
+              let z = instance-true (theSemaphore n) (instanceOf e) b in
+              clash _ (and-true _ _ (eq-eqb (w .kind) semaphore (ap (λ (i : Instance). i .kind) (sym z))) (eq-same n target (ap (λ (i : Instance). i .name) z))) y
+
+      mark-of-new : newTarget h e ≡ true → n ≡ target → MarkShown (e ∷ h) n (kindAt (after .nums) row) 0
+      mark-of-new u p =
+          let i = both (isTracked (w .kind)) _ u .0 in
+          let k = target-kinded i (eq-same n target p) in
+          record {
+            of-core = λ c. absurd (omega (arith, eqb-true (kindAt (after .nums) row) core c, k, tracked-range (w .kind) i));
+            of-semaphore = λ c. absurd (clash _ (and-true _ _ (ap (λ (j : ℕ). eqb j semaphore) (sym k) ∙ c) (eq-same n target p)) y);
+            of-other = λ c d. refl;
+          }
+
+    mark-next : MarkShown (e ∷ h) n (kindAt (after .nums) row) (markAt (after .nums) row)
+    mark-next =
+        rw (mark-at h t s w source target f state n q)
+        (by-tests (on n e) refl (eqb (w .kind) semaphore && sameBytes n target) refl (name-from h e n q))
+      where
+        by-tests : (x : Bool) → on n e ≡ x → (y : Bool) → eqb (w .kind) semaphore && sameBytes n target ≡ y → NameFrom h e n →
+            MarkShown (e ∷ h) n (kindAt (after .nums) row)
+            (cond x (cond (gives (w .word)) 1 (instanceRowOf (e ∷ h) (instanceOf e) + 2)) (cond y state (orOld h e n 0 0 (markAt (t .nums) row))))
+        by-tests true x y v r = mark-of-core x
+        by-tests false x true v r = mark-of-semaphore v
+        by-tests false x false v (before p) = rw (kind-old p, old-same h e n p 0 0 (markAt (t .nums) row), row-stays h e (f .kinds) n p) (mark-of-old x v p)
+        by-tests false x false v (as-source u p) = absurd (clash _ (and-true _ _ (both (onCore e) _ u .0) (eq-same n source p)) x)
+        by-tests false x false v (as-target u p) = rw (new-target h e n u p 0 0 (markAt (t .nums) row)) (mark-of-new x v u p)
+
+    pub each-name-next : NameShown (e ∷ h) (after .names) (after .nums) row n
+    each-name-next =
+        record {
+          name = named-next .0;
+          size = named-next .1;
+          kind = kind-next;
+          mark = mark-next;
+          numbered = numbered-next;
+          number = number-next;
+        }

@@ -1,0 +1,62 @@
+-- A line that is taken keeps the sizes of the tables, and their single entries: how many names, cores and instances there are, and the two times.
+use mathlib.Core.Path.{_≡_, _∙_}
+use mathlib.Core.Bool.{cond}
+use mathlib.Core.List.{List, [], _∷_}
+use Prim.Native.Nat.{ℕ}
+use native.Mathlib.Omega.{arith}
+use lib.Dec.{eqb}
+use lib.ListN.{length}
+use Rattle.rules.specs.Event.{Event}
+use Rattle.rules.proofs.Answers.{Passed}
+use Rattle.tables.specs.Entry.{namesSize, numsSize, ticksSize}
+use Rattle.decide.specs.declared.happening.Happening.{Happening}
+use Rattle.decide.specs.Happening.{asEvent}
+use Rattle.store.proofs.Stores.{length-takenNames, length-takenNums, length-takenTicks}
+use Rattle.judge.specs.Feed.{Tables}
+use Rattle.promises.specs.Shown.{firstOf, startedOf, HeadShown, Shown}
+use Rattle.promises.specs.Taken.{sightIn, takenBy}
+use Rattle.promises.proofs.Grown.{names-length, cores-length, instances-length}
+use Rattle.promises.proofs.Lookups.{new-core, new-name, new-instance}
+use Rattle.promises.proofs.Entries.{started-taken, names-taken, cores-taken, instances-taken}
+use Rattle.promises.proofs.TickEntries.{first-taken, last-taken}
+use Rattle.promises.proofs.Rows.{room}
+
+-- the first time is that of the first event: of this one, where none was before
+first-time : (h : List Event) (e : Event) (started first : ℕ) → started ≡ startedOf h → first ≡ firstOf h → cond (eqb started 0) (e .time) first ≡ firstOf (e ∷ h)
+first-time [] e started first p q = rw p
+first-time (d ∷ h) e started first p q = rw p q
+
+module _ (h : List Event) (t : Tables) (s : Shown h t) (w : Happening) (source target : List ℕ) (state : ℕ) where
+  abbrev e : Event
+  e = asEvent w source target
+
+  abbrev after : Tables
+  after = takenBy t (sightIn h e) state w source target
+
+  pub names-size-next : length (after .names) ≡ namesSize
+  names-size-next = length-takenNames (t .names) (t .nums) (sightIn h e) e ∙ s .names-size
+
+  pub nums-size-next : length (after .nums) ≡ numsSize
+  nums-size-next = length-takenNums (t .nums) (sightIn h e) state w (length source) (length target) ∙ s .nums-size
+
+  pub ticks-size-next : length (after .ticks) ≡ ticksSize
+  ticks-size-next = length-takenTicks (t .ticks) (t .nums) (sightIn h e) (w .kind) (w .time) ∙ s .ticks-size
+
+  pub head-next : Passed h e → HeadShown (e ∷ h) (after .nums) (after .ticks)
+  head-next f =
+      let fit = room h e f in
+      let old = s .head in
+      record {
+        started = started-taken (t .nums) (s .nums-size) (sightIn h e) state w (length source) (length target);
+        names-counted =
+            names-taken (t .nums) (s .nums-size) (sightIn h e) state w (length source) (length target)
+            ∙ rw (new-core h e, new-name h e) (omega (arith, old .names-counted, names-length h e (f .kinds), fit .names-fit));
+        cores-counted =
+            cores-taken (t .nums) (s .nums-size) (sightIn h e) state w (length source) (length target)
+            ∙ rw (new-core h e) (omega (arith, old .cores-counted, cores-length h e (f .kinds), fit .cores-fit));
+        instances-counted =
+            instances-taken (t .nums) (s .nums-size) (sightIn h e) state w (length source) (length target)
+            ∙ rw (new-instance h e) (omega (arith, old .instances-counted, instances-length h e, fit .instances-fit));
+        first = first-taken (t .ticks) (t .nums) (s .ticks-size) (sightIn h e) (w .kind) (w .time) ∙ first-time h e _ _ (old .started) (old .first);
+        last = last-taken (t .ticks) (t .nums) (s .ticks-size) (sightIn h e) (w .kind) (w .time);
+      }

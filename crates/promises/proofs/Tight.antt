@@ -1,0 +1,87 @@
+-- Judges of a whole trace that the contract of `judge` shuts out, whatever else they do: one that refuses everything, one that accepts everything, and one
+-- that follows the charts on the first event line only. The right verdict on three small traces is computed from the definitions of lines and rules.
+use mathlib.Core.Path.{_≡_, refl, ap, _∙_}
+use mathlib.Core.Bool.{true}
+use mathlib.Core.List.{List, [], _∷_, _++_}
+use Prim.Native.Nat.{ℕ}
+use native.Mathlib.Omega.{arith}
+use lib.ListN.{length}
+use Rattle.text.specs.Literal.{bytes}
+use Rattle.text.specs.Bytes.{sameBytes, startsWith}
+use Rattle.text.specs.Pieces.{pieces, ended, unended}
+use Rattle.text.specs.Name.{isNameByte, allNameBytes, isName}
+use Rattle.text.specs.Number.{numberOf}
+use Rattle.text.proofs.Tight.{ShutsOut}
+use Rattle.walk.specs.Lines.{lineText, wholeLines, restOf, linesOf}
+use Rattle.words.specs.Named.{pick}
+use Rattle.words.specs.Scale.{scaleWord, scaleOf}
+use Rattle.words.specs.Kind.{kindWord, kindOf}
+use Rattle.words.specs.Action.{wordOf, actionCode, actionsOf, actionOf, among}
+use Rattle.words.specs.Pair.{namedBy}
+use Rattle.line.specs.Part.{partsOf, fieldOf}
+use Rattle.line.specs.Note.{noteOf}
+use Rattle.line.specs.Rule.{isProcess as isProcessLine, zeroSource, zeroTarget, isOwn, sourceBroken, targetBroken, ownBroken, presence, noteBroken, ruleBroken}
+use Rattle.line.specs.Parameter.{isVersion, isVersionLine, isComment, timeScale, isCreator, isCreationDate, otherReading, parameterReading}
+use Rattle.line.specs.Event.{numbersOf, hasNames, knownReading, fieldsReading, eventReading}
+use Rattle.line.specs.Reading.{hasBreak, isEventLine, readLine}
+use Rattle.line.specs.Condition.{refuses1, refuses3, countWrong, numberWrong, nameWrong, noteWrong, refuses5, refuses6, refuses7}
+use Rattle.rules.specs.Charts.{chartOf, processChart, isProcess}
+use Rattle.rules.specs.Core.{takes, gives, keeps, onCore}
+use Rattle.rules.specs.History.{hasInstances, isTracked, named, kindIn, activates, lastNumber, lastCount, names, instances}
+use Rattle.rules.specs.Refusals.{timeFalls, secondKind, sourceClash, targetClash, noRoom, offChart, notNext, coreBroken, countFollows, fixed, countBroken, rules, answerTo}
+use Rattle.rules.specs.Lines.{kindNumber, wordNumber, eventOfLine, eventsOf}
+use Rattle.rules.specs.Trace.{scaleNumber, placeOf, tooMuch, versionWrong, parameterWrong, unscaled, placeTests, answerInPlace, answerAt, atEnd, verdictOn}
+use Rattle.tables.specs.Range.{isSized}
+use Rattle.tables.proofs.Valid.{sizes-mean}
+use Rattle.tables.proofs.Zeros.{fresh-valid}
+use Rattle.judge.specs.Feed.{Tables, freshTables, AfterTrace, judgedTrace}
+use Rattle.promises.proofs.Judged.{judged-tells}
+
+-- ---- the verdict on a trace, by its lines
+
+fresh-sized : isSized (length (freshTables .names)) (length (freshTables .nums)) (length (freshTables .ticks)) ≡ true
+fresh-sized = sizes-mean (freshTables .names) (freshTables .nums) (freshTables .ticks) .shows (fresh-valid .sizes)
+
+number-told : (s : List ℕ) → judgedTrace freshTables s .judged .number ≡ verdictOn [] (linesOf s) .0
+number-told s = ap (λ (p : ℕ × ℕ). p .0) (judged-tells freshTables fresh-sized s .verdict)
+
+-- ---- three traces
+
+-- the version and the time scale, and nothing more
+abbrev prelude : List ℕ
+prelude = bytes "#version 2.2.0" ++ 10 ∷ bytes "#timeScale ns" ++ 10 ∷ []
+
+-- and a task that is started twice on one core
+abbrev startedTwice : List ℕ
+startedTwice = prelude ++ bytes "1,C,0,T,A,0,start" ++ 10 ∷ bytes "2,C,0,T,A,0,start"
+
+prelude-taken : verdictOn [] (linesOf prelude) .0 ≡ 0
+unfolding linesOf wholeLines restOf lineText ended unended pieces verdictOn atEnd answerAt answerInPlace placeTests tooMuch versionWrong parameterWrong unscaled placeOf scaleNumber eventOfLine eventsOf refuses1 refuses3 refuses5 refuses6 refuses7 readLine hasBreak isEventLine isVersion isVersionLine isComment timeScale isCreator isCreationDate otherReading parameterReading sameBytes startsWith pick scaleWord scaleOf
+prelude-taken = refl
+
+nothing-refused : verdictOn [] (linesOf []) .0 ≡ 2
+unfolding linesOf wholeLines restOf ended unended pieces verdictOn atEnd
+nothing-refused = refl
+
+second-refused : verdictOn [] (linesOf startedTwice) .0 ≡ 11
+unfolding linesOf wholeLines restOf lineText ended unended pieces verdictOn atEnd answerAt answerInPlace placeTests tooMuch versionWrong parameterWrong unscaled placeOf scaleNumber eventOfLine eventsOf kindNumber wordNumber refuses1 refuses3 refuses5 refuses6 refuses7 countWrong numberWrong nameWrong noteWrong readLine hasBreak isEventLine eventReading fieldsReading hasNames numbersOf knownReading partsOf fieldOf noteOf isProcessLine zeroSource zeroTarget isOwn sourceBroken targetBroken ownBroken presence noteBroken ruleBroken isVersion isVersionLine isComment timeScale isCreator isCreationDate otherReading parameterReading sameBytes startsWith isNameByte allNameBytes isName numberOf pick scaleWord scaleOf kindWord kindOf wordOf actionCode actionsOf actionOf among namedBy answerTo rules timeFalls secondKind sourceClash targetClash noRoom offChart notNext coreBroken countBroken names instances chartOf processChart isProcess takes gives keeps onCore hasInstances isTracked named kindIn activates lastNumber lastCount fixed countFollows
+second-refused = refl
+
+-- ---- judges that are shut out
+
+abbrev judges : Tables × List ℕ → AfterTrace
+judges (t, s) = judgedTrace t s
+
+-- one that answers otherwise than n to a trace whose number is n
+other-number : (g : Tables × List ℕ → AfterTrace) (s : List ℕ) (n : ℕ) → verdictOn [] (linesOf s) .0 ≡ n → (g (freshTables, s) .judged .number ≡ n → ⊥) → ShutsOut judges g
+other-number g s n q h = record { input = (freshTables, s); breaks = λ e. h (ap (λ (x : AfterTrace). x .judged .number) e ∙ number-told s ∙ q) }
+
+pub judge-not-refusing : (g : Tables × List ℕ → AfterTrace) → ((x : Tables × List ℕ) → g x .judged .number ≡ 0 → ⊥) → ShutsOut judges g
+judge-not-refusing g h = other-number g prelude 0 prelude-taken (h (freshTables, prelude))
+
+pub judge-not-accepting : (g : Tables × List ℕ → AfterTrace) → ((x : Tables × List ℕ) → g x .judged .number ≡ 0) → ShutsOut judges g
+judge-not-accepting g h = other-number g [] 2 nothing-refused (λ e. omega (arith, h (freshTables, [])))
+
+-- a judge that follows the charts on the first event line and later only moves the time takes the second start
+pub judge-not-first-only : (g : Tables × List ℕ → AfterTrace) → g (freshTables, startedTwice) .judged .number ≡ 0 → ShutsOut judges g
+judge-not-first-only g h = other-number g startedTwice 11 second-refused (λ e. omega arith)

@@ -1,0 +1,116 @@
+-- What the tables that show a history say of a name or an instance that they are asked for: its kind, its state, its last number or count. Where
+-- there is no row of it, the history tells nothing of it either.
+use mathlib.Core.Path.{_≡_, refl, sym, ap, _∙_}
+use mathlib.Core.Bool.{Bool, true, false, not, cond}
+use mathlib.Core.Option.{Option, none, some}
+use mathlib.Core.List.{List, [], _∷_}
+use Prim.Native.Nat.{ℕ, zero, suc, _+_, _≤_}
+use native.Mathlib.Omega.{arith}
+use lib.Dec.{eqb}
+use lib.ListN.{length, getD}
+use borrow.Author.Tests.{eq-eqb, lt-ltb}
+use Rattle.text.specs.Bytes.{sameBytes}
+use Rattle.rules.specs.Lists.{any}
+use Rattle.rules.specs.Words.{core, semaphore}
+use Rattle.rules.specs.Event.{Event, Instance, sameInstance, stateOf}
+use Rattle.rules.specs.Core.{coreAt}
+use Rattle.rules.specs.History.{hasInstances, names, instances, kindOf, lastNumber, lastCount}
+use Rattle.rules.specs.Rows.{opened}
+use Rattle.rules.specs.Verdict.{Accepted}
+use Rattle.rules.proofs.Answers.{all-fit}
+use Rattle.rules.proofs.CoreRuns.{unseen-none}
+use Rattle.rules.proofs.Seen.{Worded, first-seen}
+use Rattle.rules.proofs.Tests.{clash}
+use Rattle.rules.proofs.Tracked.{kind-named, named-kind}
+use Rattle.tables.specs.Entry.{Column, column, entryAt, nameRows, kindColumn, markColumn, numberColumn, numberedColumn, stateColumn, kindAt}
+use Rattle.decide.specs.Known.{entryOf, kindIn, markIn, numberKnown}
+use Rattle.judge.specs.Feed.{Tables}
+use Rattle.promises.specs.Places.{place, seek, rowOf}
+use Rattle.promises.specs.Shown.{Shown, coreMark, theSemaphore, numberOf}
+use Rattle.promises.proofs.Places.{place-bound}
+use Rattle.promises.proofs.Grown.{AllMet, name-kind, core-unknown}
+use Rattle.promises.proofs.Untold.{semaphore-tracked, no-number, no-count, no-state}
+
+-- ---- an entry of the row that was found
+
+module _ {A : Type 0} (f : A → Bool) (xs : List A) (nums : List ℕ) (c : Column) where
+  entry-there : length xs ≤ c .rows → any f xs ≡ true → entryOf c nums (seek f xs) ≡ entryAt c nums (place f xs)
+  unfolding seek entryOf
+  entry-there l q = let b = place-bound f xs q in rw (q, lt-ltb (place f xs) (c .rows) (omega arith))
+
+  entry-absent : any f xs ≡ false → entryOf c nums (seek f xs) ≡ 0
+  unfolding seek entryOf
+  entry-absent q = rw q
+
+-- ---- what may be missing
+
+opened-some : (n : ℕ) → 1 ≤ n → opened n ≡ some n
+opened-some zero l = absurd (omega arith)
+opened-some (suc n) l = refl
+
+pub all-worded : (h : List Event) → AllMet h → Worded h
+all-worded [] m = tt
+all-worded (e ∷ h) m = (m .0 .worded, all-worded h (m .1))
+
+-- what 9 leaves: a name that has a kind has this one
+abbrev pub Only : Option ℕ → ℕ → Type 0
+Only o k = (j : ℕ) → o ≡ some j → j ≡ k
+
+module _ (h : List Event) (a : Accepted h) (t : Tables) (s : Shown h t) where
+  -- ---- names
+
+  module _ (n : List ℕ) where
+    in-row : (base : ℕ) → let c = column base nameRows in any (sameBytes n) (names h) ≡ true → entryOf c (t .nums) (seek (sameBytes n) (names h)) ≡ entryAt c (t .nums) (rowOf h n)
+    in-row base q = entry-there (sameBytes n) (names h) (t .nums) (column base nameRows) (all-fit h a .names-fit) q
+
+    in-none : (c : Column) → any (sameBytes n) (names h) ≡ false → entryOf c (t .nums) (seek (sameBytes n) (names h)) ≡ 0
+    in-none c q = entry-absent (sameBytes n) (names h) (t .nums) c q
+
+    pub kind-told : opened (kindIn (t .nums) (seek (sameBytes n) (names h))) ≡ kindOf n h
+    kind-told = by-test (any (sameBytes n) (names h)) refl
+      where
+        by-test : (b : Bool) → any (sameBytes n) (names h) ≡ b → opened (kindIn (t .nums) (seek (sameBytes n) (names h))) ≡ kindOf n h
+        by-test true q =
+            let k = name-kind h n q in
+            let z : k .0 ≡ kindAt (t .nums) (rowOf h n) = cc (k .1, s .each-name n q .kind) in
+            ap opened (in-row (kindColumn .base) q) ∙ opened-some (kindAt (t .nums) (rowOf h n)) (omega (arith, k .2)) ∙ sym (s .each-name n q .kind)
+        by-test false q = ap opened (in-none kindColumn q) ∙ sym (kind-named h n q)
+
+    -- a row of the name has the kind that 9 leaves
+    kind-there : (k : ℕ) → Only (kindOf n h) k → any (sameBytes n) (names h) ≡ true → kindAt (t .nums) (rowOf h n) ≡ k
+    kind-there k o q = o (kindAt (t .nums) (rowOf h n)) (s .each-name n q .kind)
+
+    pub core-told : Only (kindOf n h) core → markIn (t .nums) (seek (sameBytes n) (names h)) ≡ coreMark h (coreAt n h)
+    core-told d = by-test (any (sameBytes n) (names h)) refl
+      where
+        by-test : (b : Bool) → any (sameBytes n) (names h) ≡ b → markIn (t .nums) (seek (sameBytes n) (names h)) ≡ coreMark h (coreAt n h)
+        by-test true q = in-row (markColumn .base) q ∙ s .each-name n q .mark .of-core (eq-eqb _ core (kind-there core d q))
+        by-test false q = in-none markColumn q ∙ sym (ap (coreMark h) (core-unknown n h a (λ p. clash _ (named-kind h n core p _ refl) q)))
+
+    pub semaphore-told : Only (kindOf n h) semaphore → opened (markIn (t .nums) (seek (sameBytes n) (names h))) ≡ stateOf (theSemaphore n) h
+    semaphore-told d = by-test (any (sameBytes n) (names h)) refl
+      where
+        by-test : (b : Bool) → any (sameBytes n) (names h) ≡ b → opened (markIn (t .nums) (seek (sameBytes n) (names h))) ≡ stateOf (theSemaphore n) h
+        by-test true q = ap opened (in-row (markColumn .base) q) ∙ s .each-name n q .mark .of-semaphore (eq-eqb _ semaphore (kind-there semaphore d q))
+        by-test false q = ap opened (in-none markColumn q) ∙ sym (no-state (theSemaphore n) (semaphore-tracked semaphore refl) h (kind-named h n q))
+
+    pub number-told : (k : ℕ) → Only (kindOf n h) k → numberKnown (t .nums) (seek (sameBytes n) (names h)) ≡ numberOf h n k
+    number-told k d = by-test (any (sameBytes n) (names h)) refl
+      where
+        no-entry : kindOf n h ≡ none → (b : Bool) → cond b (lastCount n h) (lastNumber k n h) ≡ none
+        no-entry q true = no-count n h q
+        no-entry q false = no-number k n h q
+
+        by-test : (b : Bool) → any (sameBytes n) (names h) ≡ b → numberKnown (t .nums) (seek (sameBytes n) (names h)) ≡ numberOf h n k
+        by-test true q = rw (in-row (numberedColumn .base) q, in-row (numberColumn .base) q) (s .each-name n q .number ∙ ap (numberOf h n) (kind-there k d q))
+        by-test false q = rw (in-none numberedColumn q) (sym (no-entry (kind-named h n q) (eqb k semaphore)))
+
+  -- ---- instances
+
+  pub state-told : Worded h → (x : Instance) → hasInstances (x .kind) ≡ true → opened (entryOf stateColumn (t .nums) (seek (sameInstance x) (instances h))) ≡ stateOf x h
+  state-told w x k = by-test (any (sameInstance x) (instances h)) refl
+    where
+      by-test : (b : Bool) → any (sameInstance x) (instances h) ≡ b → opened (entryOf stateColumn (t .nums) (seek (sameInstance x) (instances h))) ≡ stateOf x h
+      by-test true q = ap opened (entry-there (sameInstance x) (instances h) (t .nums) stateColumn (all-fit h a .instances-fit) q) ∙ s .each-instance x q .state
+      by-test false q =
+          ap opened (entry-absent (sameInstance x) (instances h) (t .nums) stateColumn q) ∙ sym (unseen-none (stateOf x h) (first-seen h w x k ∙ ap not q))

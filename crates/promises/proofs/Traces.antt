@@ -1,0 +1,93 @@
+-- Many lines from tables that show a history: the tables show the lines taken, and remember the first refusal and its line.
+use mathlib.Core.Path.{_≡_, refl, sym, ap, _∙_}
+use mathlib.Core.List.{List, [], _∷_}
+use Prim.Native.Nat.{ℕ, zero, suc, _+_, _%_, _^_, _≤_}
+use native.Mathlib.Omega.{arith}
+use lib.ListN.{length, set, length-set}
+use Rattle.rules.specs.declared.place.Place.{Place}
+use Rattle.rules.specs.Lists.{ifZero}
+use Rattle.rules.specs.Lines.{eventsOf}
+use Rattle.rules.specs.Trace.{placeOf, InPlace, answerAt, takenLines}
+use Rattle.rules.proofs.Traces.{Kept, kept-next}
+use Rattle.tables.specs.Entry.{numsSize, verdictNumber, verdictLine, lineCount}
+use Rattle.tables.proofs.Stores.{same, other}
+use Rattle.judge.specs.Feed.{Tables, tables, After, placeIn, remembered, lined, allLined}
+use Rattle.judge.proofs.Feeds.{length-remembered, verdict-again}
+use Rattle.promises.specs.Shown.{Shows}
+use Rattle.promises.specs.Fed.{refusalOn, rememberedIn}
+use Rattle.promises.proofs.Heads.{AgreeFrom, shown-later}
+use Rattle.promises.proofs.Lines.{few-short, LineOutcome, line-outcome}
+use Rattle.promises.proofs.Events.{event-outcome}
+
+-- ---- at most 1,000,000,000 lines are taken
+
+pub lines-fit : (h : List (List ℕ)) → InPlace h → length h ≤ 1000000000
+unfolding placeOf
+lines-fit [] p = omega arith
+lines-fit (l ∷ h) p = let k = few-short (placeOf h) l (p .0) .0 in omega arith
+
+-- ---- a refusal remembered
+
+module _ (nums : List ℕ) (n : ℕ) where
+  pub remembered-later : AgreeFrom 2 nums (remembered nums n)
+  unfolding remembered
+  remembered-later j h = other (set nums 0 n) 1 j _ (λ e. omega arith) ∙ other nums 0 j n (λ e. omega arith)
+
+  pub remembered-number : length nums ≡ numsSize → verdictNumber (remembered nums n) ≡ n
+  unfolding remembered
+  remembered-number z = other (set nums 0 n) 1 0 _ (λ e. omega arith) ∙ same nums 0 n (omega arith)
+
+  remembered-line : length nums ≡ numsSize → verdictLine (remembered nums n) ≡ (lineCount nums + 1) % 2 ^ 32
+  unfolding remembered
+  remembered-line z = same (set nums 0 n) 1 _ (omega (arith, length-set nums 0 n))
+
+pub shows-remembered : (h : List (List ℕ)) (t : Tables) (n : ℕ) → Shows h t → Shows h (tables (t .names) (remembered (t .nums) n) (t .ticks))
+unfolding placeIn
+shows-remembered h t n s =
+    let g = remembered-later (t .nums) n in
+    record {
+      place = rw (g 2 (omega arith), g 3 (omega arith), g 4 (omega arith), g 5 (omega arith), g 6 (omega arith)) (s .place);
+      creator = rw (g 4 (omega arith)) (s .creator);
+      date = rw (g 5 (omega arith)) (s .date);
+      events =
+          shown-later (eventsOf h) (t .names) (t .nums) (remembered (t .nums) n) (t .ticks) (λ j k. g j (omega arith)) (length-remembered (t .nums) n) (s .events);
+    }
+
+-- "Further lines get that verdict again."
+pub further : (t : Tables) → (verdictNumber (t .nums) ≡ 0 → ⊥) → (ls : List (List ℕ)) → allLined t ls ≡ t
+unfolding allLined
+further t v [] = refl
+further t v (l ∷ ls) = ap (λ (x : After). allLined (x .left) ls) (sym (verdict-again t l v)) ∙ further t v ls
+
+-- ---- many lines
+
+-- tables that show a history and remember a refusal
+pub record Both (h : List (List ℕ)) (v : ℕ × ℕ) (t : Tables) : Type 0 where
+  pub shows : Shows h t
+  pub remembers : rememberedIn t ≡ v
+
+abbrev pub Followed : List (List ℕ) → List (List ℕ) → Tables → Type 0
+Followed h ls = Both (takenLines h ls) (refusalOn h ls)
+
+refused-here : (h : List (List ℕ)) → Kept h → (t : Tables) → Shows h t → (n : ℕ) → (n ≡ 0 → ⊥) → (ls : List (List ℕ)) (u : Tables) →
+    u ≡ tables (t .names) (remembered (t .nums) n) (t .ticks) → Both h (n, length h + 1) (allLined u ls)
+unfolding placeIn placeOf
+refused-here h k t s n some ls u e =
+    let z = s .events .nums-size in
+    let v = remembered-number (t .nums) n z in
+    let m : (lineCount (t .nums) + 1) % 2 ^ 32 ≡ length h + 1 = omega (arith, lines-fit h (k .in-place), ap (λ (p : Place). p .lines) (s .place)) in
+    let f : allLined u ls ≡ u = further u (rw e (λ q. some (sym v ∙ q))) ls in
+    rw (f, e) (record { shows = shows-remembered h t n s; remembers = rw (v, remembered-line (t .nums) n z, m) })
+
+pub followed : (ls h : List (List ℕ)) → Kept h → (t : Tables) → Shows h t → verdictNumber (t .nums) ≡ 0 → verdictLine (t .nums) ≡ 0 → Followed h ls (allLined t ls)
+unfolding allLined takenLines refusalOn
+followed [] h k t s v w = record { shows = s; remembers = rw (v, w) }
+followed (l ∷ ls) h k t s v w =
+    let o = line-outcome h t s l (event-outcome h k t s l) v in
+    by-answer (answerAt h l) refl o
+    (λ q. followed ls (l ∷ h) (kept-next h l k q) (lined t l .left) (o .shows q) (o .verdict-kept q .0 ∙ v) (o .verdict-kept q .1 ∙ w))
+  where
+    by-answer : (n : ℕ) → answerAt h l ≡ n → LineOutcome h t l (lined t l) → (answerAt h l ≡ 0 → Followed (l ∷ h) ls (allLined (lined t l .left) ls)) →
+        Both (ifZero n (takenLines (l ∷ h) ls) h) (ifZero n (refusalOn (l ∷ h) ls) (n, length h + 1)) (allLined (lined t l .left) ls)
+    by-answer zero q o f = f q
+    by-answer (suc n) q o f = refused-here h k t s (suc n) (λ e. omega arith) ls (lined t l .left) (o .remembers (λ e. omega (arith, q)) ∙ rw q)

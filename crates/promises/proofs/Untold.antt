@@ -1,0 +1,101 @@
+-- A name without a kind: no line told anything of it, so there is no number, no count and no state of it.
+use mathlib.Core.Path.{_≡_, refl, subst, _∙_}
+use mathlib.Core.Bool.{Bool, true, false, _&&_, _||_}
+use mathlib.Core.Option.{Option, none, some}
+use mathlib.Core.List.{List, [], _∷_}
+use Prim.Native.Nat.{ℕ}
+use lib.Dec.{eqb}
+use Rattle.text.specs.Bytes.{sameBytes}
+use Rattle.text.proofs.Words.{same-refl}
+use Rattle.rules.specs.Lists.{member, when, orElse, latest}
+use Rattle.rules.specs.Words.{core, runnable, semaphore, activate, mtalimitexceeded, start}
+use Rattle.rules.specs.Charts.{isProcess}
+use Rattle.rules.specs.Event.{Event, Instance, sameInstance, instanceOf, stateOf}
+use Rattle.rules.specs.Core.{on}
+use Rattle.rules.specs.History.{hasInstances, isTracked, kindIn, kindOf, activates, lastNumber, lastCount}
+use Rattle.rules.proofs.Tests.{both, and-true, clash, instance-true}
+use Rattle.rules.proofs.Changes.{state-other}
+use Rattle.promises.proofs.Grown.{instances-tracked}
+
+-- ---- events that speak of tracked names
+
+pub process-instances : (k : ℕ) → isProcess k ≡ true → hasInstances k ≡ true
+unfolding hasInstances
+process-instances k q = rw q
+
+pub semaphore-tracked : (k : ℕ) → eqb k semaphore ≡ true → isTracked k ≡ true
+unfolding isTracked
+semaphore-tracked k q = rw q (by-test (hasInstances k))
+  where
+    by-test : (b : Bool) → b || true ≡ true
+    by-test true = refl
+    by-test false = refl
+
+pub activates-instances : (k a : ℕ) → activates k a ≡ true → hasInstances k ≡ true
+unfolding activates hasInstances
+activates-instances k a = by-test (isProcess k) (member a (activate ∷ mtalimitexceeded ∷ [])) (eqb k runnable) (eqb a start)
+  where
+    by-test : (p m r s : Bool) → (p && m) || (r && s) ≡ true → p || r ≡ true
+    by-test true m r s q = refl
+    by-test false m true s q = refl
+    by-test false m false s q = q
+
+-- ---- nothing was told
+
+neither-some : {A : Type 0} (o p : Option A) → orElse o p ≡ none → (o ≡ none) × (p ≡ none)
+neither-some none p q = (refl, q)
+neither-some (some x) p q = (q, cc)
+
+-- the event is of the name n
+abbrev of : List ℕ → Event → Bool
+of n e = isTracked (e .kind) && sameBytes n (e .target)
+
+not-of : (n : List ℕ) (e : Event) → kindIn n e ≡ none → of n e ≡ false
+unfolding kindIn
+not-of n e = by-test (of n e)
+  where
+    by-test : (b : Bool) → orElse (when b (e .kind)) (when (on n e) core) ≡ none → b ≡ false
+    by-test true q = cc
+    by-test false q = refl
+
+untold : {B : Type 0} (n : List ℕ) (f : Event → Option B) → ((e : Event) → of n e ≡ false → f e ≡ none) → (h : List Event) → kindOf n h ≡ none → latest f h ≡ none
+untold n f g [] q = refl
+untold n f g (e ∷ h) q = let p = neither-some (kindIn n e) (kindOf n h) q in rw (g e (not-of n e (p .0))) (untold n f g h (p .1))
+
+-- what is told of the name n is told by its own events
+abbrev implied : Bool → Bool → Type 0
+implied a b = a ≡ true → b ≡ true
+
+unless : {B : Type 0} (a b : Bool) (x : B) → implied a b → b ≡ false → when a x ≡ none
+unless true b x f q = absurd (clash b (f refl) q)
+unless false b x f q = refl
+
+pub no-number : (k : ℕ) (n : List ℕ) (h : List Event) → kindOf n h ≡ none → lastNumber k n h ≡ none
+unfolding lastNumber
+no-number k n =
+    untold n _ (λ e. unless (activates (e .kind) (e .word) && (eqb k (e .kind) && sameBytes n (e .target))) (of n e) (e .targetInstance) (own e))
+  where
+    own : (e : Event) → implied (activates (e .kind) (e .word) && (eqb k (e .kind) && sameBytes n (e .target))) (of n e)
+    own e q =
+        let p = both (activates (e .kind) (e .word)) (eqb k (e .kind) && sameBytes n (e .target)) q in
+        and-true _ _ (instances-tracked (e .kind) (activates-instances (e .kind) (e .word) (p .0))) (both (eqb k (e .kind)) (sameBytes n (e .target)) (p .1) .1)
+
+pub no-count : (n : List ℕ) (h : List Event) → kindOf n h ≡ none → lastCount n h ≡ none
+unfolding lastCount
+no-count n = untold n _ (λ e. unless (eqb (e .kind) semaphore && sameBytes n (e .target)) (of n e) (e .count) (own e))
+  where
+    own : (e : Event) → implied (eqb (e .kind) semaphore && sameBytes n (e .target)) (of n e)
+    own e q = let p = both (eqb (e .kind) semaphore) (sameBytes n (e .target)) q in and-true _ _ (semaphore-tracked (e .kind) (p .0)) (p .1)
+
+pub no-state : (x : Instance) → isTracked (x .kind) ≡ true → (h : List Event) → kindOf (x .name) h ≡ none → stateOf x h ≡ none
+no-state x t [] q = refl
+no-state x t (e ∷ h) q =
+    let p = neither-some (kindIn (x .name) e) (kindOf (x .name) h) q in
+    state-other x e h (by-test (sameInstance x (instanceOf e)) refl (not-of (x .name) e (p .0))) ∙ no-state x t h (p .1)
+  where
+    by-test : (b : Bool) → sameInstance x (instanceOf e) ≡ b → of (x .name) e ≡ false → b ≡ false
+    by-test false u w = refl
+    by-test true u w =
+        let z = instance-true x (instanceOf e) u in
+        absurd (clash (of (x .name) e)
+        (and-true _ _ (subst (λ (y : Instance). isTracked (y .kind) ≡ true) z t) (subst (λ (y : Instance). sameBytes (x .name) (y .name) ≡ true) z (same-refl (x .name)))) w)
