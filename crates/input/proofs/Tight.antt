@@ -13,19 +13,20 @@ use Rattle.text.specs.Put.{written}
 use Rattle.text.proofs.Bools.{lt-or-ge}
 use Rattle.walk.specs.Lines.{lastLine, linesOf}
 use Rattle.walk.proofs.Cuts.{cut-whole, none-whole, none-rest}
+use Rattle.bill.specs.Text.{sheetText}
+use Rattle.bill.specs.Verdict.{acceptedText, refusedText}
+use Rattle.bill.proofs.VerdictLine.{length-accepted, length-refused}
 use Rattle.rules.specs.declared.place.Place.{Place}
 use Rattle.rules.specs.Lists.{ifZero}
 use Rattle.rules.specs.Sheet.{sheet, span}
 use Rattle.rules.specs.Lines.{eventsOf}
 use Rattle.rules.specs.Trace.{placeOf, answerAt, takenLines, verdictOn}
+use Rattle.rules.specs.Text.{traceText}
 use Rattle.judge.specs.Feed.{Tables, placeIn, freshTables}
 use Rattle.promises.specs.Fed.{refusalOn, joined}
 use Rattle.promises.proofs.Judged.{after-lines, shows-taken}
-use Rattle.sheet.specs.Text.{sheetText}
 use Rattle.run.specs.Chunk.{going, stopped, readOn, atInputEnd}
-use Rattle.run.specs.Report.{acceptedText, refusedText, traceText}
 use Rattle.run.proofs.Printed.{printed}
-use Rattle.run.proofs.Texts.{length-accepted, length-refused}
 use Rattle.run.proofs.Reading.{all-read, printed-right, stopped-right}
 use Rattle.input.specs.declared.reads.Input.{Input}
 use Rattle.input.specs.declared.reads.Input.the-variants.{Read, Failed, Refused}

@@ -17,8 +17,10 @@ use Rattle.line.specs.declared.reading.Reading.{Reading}
 use Rattle.line.specs.declared.reading.Reading.the-variants.{Version, Comment, TimeScale, Creator, CreationDate, EventLine, Refused}
 use Rattle.line.specs.Part.{fieldOf}
 use Rattle.line.specs.Reading.{readLine}
+use Rattle.bill.specs.declared.verdict.Verdict.{Verdict}
+use Rattle.bill.specs.Scale.{scaleNumber}
 use Rattle.rules.specs.declared.place.Place.{Place}
-use Rattle.rules.specs.Trace.{scaleNumber, placed}
+use Rattle.rules.specs.Trace.{placed}
 use Rattle.rules.proofs.Tests.{if-some}
 use Rattle.tables.specs.Entry.{namesSize, numsSize, ticksSize, verdictNumber}
 use Rattle.tables.specs.Range.{isSized, tableAnswer}
@@ -33,7 +35,6 @@ use Rattle.decide.specs.Decide.{planOf, decided}
 use Rattle.decide.proofs.Decided.{decided-sized}
 use Rattle.store.specs.Store.{stored}
 use Rattle.store.proofs.Stores.{stored-sized, length-takenNames, length-takenNums, length-takenTicks}
-use Rattle.judge.specs.declared.feed.Verdict.{Verdict}
 use Rattle.judge.specs.Feed.{Tables, tables, After, after, placeIn, remembered, counted, carried, eventLined, readLined, placedLine, lined, fedLine, allLined, chunked, fedChunk, verdict, verdictIn, verdictOf, freshTables, AfterTrace, traced, judgedTrace}
 
 -- ---- sizes

@@ -13,11 +13,11 @@ use Rattle.text.proofs.Tight.{ShutsOut, shut-out}
 use Rattle.walk.specs.Lines.{lineText, wholeLines, usedUp}
 use Rattle.line.specs.Parameter.{isVersion, isVersionLine, isComment, parameterReading}
 use Rattle.line.specs.Reading.{hasBreak, isEventLine, readLine}
+use Rattle.bill.specs.declared.verdict.Verdict.{Verdict}
 use Rattle.rules.specs.Trace.{placed}
 use Rattle.tables.specs.Entry.{lineCount}
 use Rattle.tables.specs.Range.{isSized, tableAnswer}
 use Rattle.tables.proofs.Zeros.{fresh-answer}
-use Rattle.judge.specs.declared.feed.Verdict.{Verdict}
 use Rattle.judge.specs.Feed.{Tables, tables, After, placeIn, counted, placedLine, lined, fedLine, allLined, AfterChunk, fedChunk, verdictIn, verdictOf, freshTables}
 
 -- ---- `feed`

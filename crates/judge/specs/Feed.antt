@@ -10,9 +10,11 @@ use Rattle.line.specs.declared.reading.Reading.{Reading}
 use Rattle.line.specs.declared.reading.Reading.the-variants.{Version, Comment, TimeScale, Creator, CreationDate, EventLine, Refused}
 use Rattle.line.specs.Part.{fieldOf}
 use Rattle.line.specs.Reading.{readLine}
+use Rattle.bill.specs.declared.verdict.Verdict.{Verdict}
+use Rattle.bill.specs.Scale.{scaleNumber}
 use Rattle.rules.specs.declared.place.Place.{Place}
 use Rattle.rules.specs.Lists.{ifZero}
-use Rattle.rules.specs.Trace.{scaleNumber, placed}
+use Rattle.rules.specs.Trace.{placed}
 pub use Rattle.tables.specs.Entry.{Tables, tables}
 use Rattle.tables.specs.Entry.{verdictIndex, verdictLineIndex, linesIndex, scaleIndex, creatorIndex, dateIndex, namesSize, numsSize, ticksSize, verdictNumber, verdictLine, lineCount, scaleEntry, creatorEntry, dateEntry, startedEntry, firstTime, lastTime}
 use Rattle.tables.specs.Range.{isSized, tableAnswer}
@@ -23,7 +25,6 @@ use Rattle.decide.specs.Happening.{happeningOf, asEvent}
 use Rattle.decide.specs.Decide.{planOf}
 use Rattle.store.specs.Store.{takenNames, takenNums, takenTicks}
 use Rattle.judge.specs.declared.feed.Fed.{Fed}
-use Rattle.judge.specs.declared.feed.Verdict.{Verdict}
 
 -- an answer with the three tables afterwards
 pub record After : Type 0 where

@@ -5,6 +5,8 @@ ghost use lib.ListN.{length, set};
 ghost use Rattle.walk.specs.Lines.{wholeLines, usedUp};
 ghost use Rattle.tables.specs.Entry.{firstTime, lastTime, namesSize, numsSize, ticksSize};
 ghost use Rattle.judge.specs.Feed.{tables, after, placeIn, remembered, counted, eventLined, readLined, lined, fedLine, allLined, chunked, fedChunk, verdictIn, verdictOf, traced, judgedTrace};
+use bill::scale::scale_number;
+use bill::verdict::Verdict;
 use decide::happening::to_rules;
 use decide::plan::Plan;
 use decide::plan::decide;
@@ -12,7 +14,6 @@ use line::event::Event;
 use line::reading::Reading;
 use rules::place::Place;
 use rules::place::answer_in_place;
-use rules::place::scale_number;
 use std::num::wrapping_add_u32;
 use store::take::take;
 use tables::clear;
@@ -25,14 +26,6 @@ use walk::reader::line_from;
 pub struct Fed {
     pub answer: u32,
     pub used: usize,
-}
-
-// The verdict, with the time scale's number and the span.
-pub struct Verdict {
-    pub number: u32,
-    pub line: u32,
-    pub scale: u32,
-    pub span: u64,
 }
 
 // What the lines taken say of the next line's place.

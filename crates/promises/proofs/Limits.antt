@@ -13,11 +13,12 @@ use Rattle.line.specs.declared.reading.Reading.{Reading}
 use Rattle.line.specs.declared.reading.Reading.the-variants.{Version, Comment, TimeScale, Creator, CreationDate, EventLine, Refused}
 use Rattle.line.specs.Reading.{readLine}
 use Rattle.line.specs.Condition.{refuses5, refuses6, refuses7}
+use Rattle.bill.specs.Scale.{scaleNumber}
 use Rattle.rules.specs.Lists.{orElse, latest, ifZero}
 use Rattle.rules.specs.Event.{Event}
 use Rattle.rules.specs.Refusals.{Known, look, timeFalls, secondKind, noRoom, offChart, notNext, coreBroken, countBroken, rules, answerTo}
 use Rattle.rules.specs.Lines.{eventOfLine, eventsOf}
-use Rattle.rules.specs.Trace.{scaleNumber, scaleIn, orZero, placeOf, tooMuch, versionWrong, parameterWrong, unscaled, placeTests, answerInPlace, eventAnswer, answerAt}
+use Rattle.rules.specs.Trace.{scaleIn, orZero, placeOf, tooMuch, versionWrong, parameterWrong, unscaled, placeTests, answerInPlace, eventAnswer, answerAt}
 use Rattle.rules.proofs.Traces.{Kept, kept-next}
 use Rattle.rules.specs.declared.place.Place.{Place}
 use Rattle.tables.specs.Entry.{verdictNumber, verdictLine}

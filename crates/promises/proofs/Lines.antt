@@ -16,11 +16,12 @@ use Rattle.line.specs.declared.reading.Reading.the-variants.{Version, Comment, 
 use Rattle.line.specs.Part.{fieldOf}
 use Rattle.line.specs.Reading.{readLine}
 use Rattle.line.specs.Condition.{isScale, refuses1, refuses3}
+use Rattle.bill.specs.Scale.{scaleNumber}
 use Rattle.rules.specs.declared.place.Place.{Place}
 use Rattle.rules.specs.Event.{Event}
 use Rattle.rules.specs.Verdict.{answer}
 use Rattle.rules.specs.Lines.{eventFrom, eventIn, eventOfLine, eventsOf}
-use Rattle.rules.specs.Trace.{scaleNumber, placeOf, tooMuch, parameterWrong, placeTests, answerInPlace, eventAnswer, answerAt, placed}
+use Rattle.rules.specs.Trace.{placeOf, tooMuch, parameterWrong, placeTests, answerInPlace, eventAnswer, answerAt, placed}
 use Rattle.rules.proofs.Tests.{neither, clash}
 use Rattle.rules.proofs.Told.{Told, testsOf, toldBy, told-right}
 use Rattle.rules.proofs.Places.{place-none, placed-right, nextPlace, place-next}

@@ -13,9 +13,10 @@ use Rattle.line.specs.declared.reading.Reading.the-variants.{Version, Comment, 
 use Rattle.line.specs.Part.{fieldOf}
 use Rattle.line.specs.Reading.{readLine}
 use Rattle.line.specs.Answer.{Test, lowest}
+use Rattle.bill.specs.Scale.{scaleNumber}
 use Rattle.rules.specs.declared.place.Place.{Place}
 use Rattle.rules.specs.Event.{Event}
-use Rattle.rules.specs.Trace.{placeTests, answerInPlace, scaleNumber, placed}
+use Rattle.rules.specs.Trace.{placeTests, answerInPlace, placed}
 use Rattle.rules.specs.Lawful.{Each}
 use Rattle.rules.proofs.Places.{placed-right}
 use Rattle.tables.specs.Entry.{numsSize, verdictNumber}

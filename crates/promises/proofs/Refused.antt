@@ -12,6 +12,7 @@ use Rattle.line.specs.declared.reading.Reading.{Reading}
 use Rattle.line.specs.declared.reading.Reading.the-variants.{Version, Comment, TimeScale, Creator, CreationDate, EventLine, Refused}
 use Rattle.line.specs.Part.{fieldOf}
 use Rattle.line.specs.Reading.{readLine}
+use Rattle.bill.specs.declared.verdict.Verdict.{Verdict}
 use Rattle.rules.specs.Lists.{ifZero}
 use Rattle.rules.specs.Trace.{placed}
 use Rattle.tables.specs.Entry.{numsSize, verdictNumber}
@@ -22,7 +23,6 @@ use Rattle.decide.specs.declared.plan.Plan.{Plan}
 use Rattle.decide.specs.declared.plan.Plan.the-variants.{Refuse, Take}
 use Rattle.decide.specs.Happening.{happeningOf, asEvent}
 use Rattle.decide.specs.Decide.{planOf}
-use Rattle.judge.specs.declared.feed.Verdict.{Verdict}
 use Rattle.judge.specs.Feed.{Tables, tables, After, after, placeIn, remembered, carried, eventLined, readLined, placedLine, lined, allLined, fedLine, AfterChunk, fedChunk, verdict, verdictOf, AfterTrace, judgedTrace}
 use Rattle.judge.proofs.Feeds.{lined-alike, verdict-again}
 use Rattle.promises.proofs.Heads.{AgreeFrom}

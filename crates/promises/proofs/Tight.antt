@@ -25,12 +25,13 @@ use Rattle.line.specs.Parameter.{isVersion, isVersionLine, isComment, timeScale
 use Rattle.line.specs.Event.{numbersOf, hasNames, knownReading, fieldsReading, eventReading}
 use Rattle.line.specs.Reading.{hasBreak, isEventLine, readLine}
 use Rattle.line.specs.Condition.{refuses1, refuses3, countWrong, numberWrong, nameWrong, noteWrong, refuses5, refuses6, refuses7}
+use Rattle.bill.specs.Scale.{scaleNumber}
 use Rattle.rules.specs.Charts.{chartOf, processChart, isProcess}
 use Rattle.rules.specs.Core.{takes, gives, keeps, onCore}
 use Rattle.rules.specs.History.{hasInstances, isTracked, named, kindIn, activates, lastNumber, lastCount, names, instances}
 use Rattle.rules.specs.Refusals.{timeFalls, secondKind, sourceClash, targetClash, noRoom, offChart, notNext, coreBroken, countFollows, fixed, countBroken, rules, answerTo}
 use Rattle.rules.specs.Lines.{kindNumber, wordNumber, eventOfLine, eventsOf}
-use Rattle.rules.specs.Trace.{scaleNumber, placeOf, tooMuch, versionWrong, parameterWrong, unscaled, placeTests, answerInPlace, answerAt, atEnd, verdictOn}
+use Rattle.rules.specs.Trace.{placeOf, tooMuch, versionWrong, parameterWrong, unscaled, placeTests, answerInPlace, answerAt, atEnd, verdictOn}
 use Rattle.tables.specs.Range.{isSized}
 use Rattle.tables.proofs.Valid.{sizes-mean}
 use Rattle.tables.proofs.Zeros.{fresh-valid}

@@ -7,6 +7,7 @@ use native.Mathlib.Omega.{arith}
 use lib.Dec.{eqb}
 use lib.ListN.{length}
 use borrow.Author.Tests.{eqb-true, eq-eqb, ne-eqb}
+use Rattle.bill.specs.declared.verdict.Verdict.{Verdict}
 use Rattle.rules.specs.declared.place.Place.{Place}
 use Rattle.rules.specs.Lists.{ifZero}
 use Rattle.rules.specs.Event.{Event}
@@ -15,7 +16,6 @@ use Rattle.rules.specs.Lines.{eventsOf}
 use Rattle.rules.specs.Trace.{placeOf, answerAt, atEnd, takenLines, verdictOn}
 use Rattle.rules.proofs.Traces.{Kept}
 use Rattle.tables.specs.Entry.{verdictNumber, lineCount, scaleEntry, firstTime, lastTime}
-use Rattle.judge.specs.declared.feed.Verdict.{Verdict}
 use Rattle.judge.specs.Feed.{Tables, placeIn, verdict, verdictIn}
 use Rattle.promises.specs.Shown.{HeadShown, Shows}
 use Rattle.promises.specs.Fed.{refusalOn}

@@ -9,6 +9,7 @@ use lib.Dec.{T, eqb}
 use borrow.Author.Tests.{eq-eqb}
 use Rattle.text.specs.Literal.{bytes}
 use Rattle.text.specs.Bytes.{sameBytes}
+use Rattle.bill.specs.Rows.{Row, Sheet}
 use Rattle.rules.specs.Words.{task, interrupt, runnable, semaphore}
 use Rattle.rules.specs.Words.{activate, start, preempt, resume, wait, release, terminate, poll, run, park, poll-parking, release-parking, mtalimitexceeded, suspend}
 use Rattle.rules.specs.Words.{requestsemaphore, queued, assigned, waiting, released, increment, decrement, free, lock, full, overfull, unlock-full, used}
@@ -18,7 +19,7 @@ use Rattle.rules.specs.Core.{takes, gives, keeps, onCore}
 use Rattle.rules.specs.History.{hasInstances, isTracked, named, kindIn, activates, lastNumber, lastCount, names, instances}
 use Rattle.rules.specs.Refusals.{timeFalls, secondKind, sourceClash, targetClash, noRoom, offChart, notNext, coreBroken, countFollows, fixed, countBroken, rules, answerTo}
 use Rattle.rules.specs.Verdict.{answer, taken, verdict}
-use Rattle.rules.specs.Sheet.{ticks, Row, Sheet, sheet}
+use Rattle.rules.specs.Sheet.{ticks, sheet}
 use Rattle.rules.proofs.ManyNames.{line, trigger, many, newName, newCore, name-after, trigger-after, core-after}
 
 -- of a semaphore: time, source, target, event, note

@@ -17,10 +17,11 @@ use Rattle.line.specs.Reading.{readLine, answerOf}
 use Rattle.line.specs.Condition.{refuses1, refuses2, isScale, refuses3, refuses5, refuses6, refuses7}
 use Rattle.line.proofs.Lowest.{holds, lowest-exactly, lowest-none}
 use Rattle.line.proofs.Answers.{answer-lowest}
+use Rattle.bill.specs.Scale.{scaleNumber}
 use Rattle.rules.specs.declared.place.Place.{Place}
 use Rattle.rules.specs.Lists.{any, latest, orElse}
 use Rattle.rules.specs.Lines.{eventIn, eventOfLine}
-use Rattle.rules.specs.Trace.{scaleNumber, scaleIn, orZero, isSome, placeOf, tooMuch, versionWrong, parameterWrong, unscaled, placeTests, answerInPlace, firstAnswer, readAnswer, placed}
+use Rattle.rules.specs.Trace.{scaleIn, orZero, isSome, placeOf, tooMuch, versionWrong, parameterWrong, unscaled, placeTests, answerInPlace, firstAnswer, readAnswer, placed}
 use Rattle.rules.proofs.Tests.{neither}
 use Rattle.rules.proofs.Told.{Told, testsOf, toldBy, told-right}
 

@@ -2,15 +2,13 @@
 use mathlib.Core.Path.{_≡_, refl}
 use mathlib.Core.Bool.{Bool, true, false, cond}
 use mathlib.Core.List.{List}
-use Prim.Native.Nat.{ℕ, _-_}
+use Prim.Native.Nat.{ℕ}
 use lib.Dec.{eqb}
 use Rattle.text.proofs.Tight.{unique, ShutsOut, shut-out}
 use Rattle.words.specs.declared.kind.Kind.{Kind}
 use Rattle.words.specs.declared.kind.Kind.the-variants.{Stimulus}
 use Rattle.words.specs.declared.action.Action.{Action}
 use Rattle.words.specs.declared.action.Action.the-variants.{Start}
-use Rattle.words.specs.declared.scale.Scale.{Scale}
-use Rattle.words.specs.declared.scale.Scale.the-variants.{Nanoseconds}
 use Rattle.words.specs.Action.{actionCode}
 use Rattle.line.specs.declared.reading.Reading.{Reading}
 use Rattle.line.specs.declared.reading.Reading.the-variants.{Comment}
@@ -22,7 +20,7 @@ use Rattle.rules.specs.Chart.{Step}
 use Rattle.rules.specs.Charts.{processChart, runnableChart, semaphoreChart, isProcess, chartOf}
 use Rattle.rules.specs.Rows.{moveBy}
 use Rattle.rules.specs.Lines.{kindNumber, wordNumber}
-use Rattle.rules.specs.Trace.{scaleNumber, placed}
+use Rattle.rules.specs.Trace.{placed}
 
 -- ---- `process_step`, `runnable_step`, `semaphore_step`, `chart_step`: for any chart
 
@@ -55,7 +53,7 @@ pub chart-not-still : ShutsOut {A = ℕ × ℕ × ℕ} (λ (k, a, s). moveBy (ch
 unfolding moveBy chartOf isProcess processChart
 chart-not-still = shut-out isOff (task, start, RUNNING) refl refl
 
--- ---- `kind_number`, `word_number`, `scale_number`
+-- ---- `kind_number`, `word_number`
 
 pub kind-number-unique : (k : Kind) (x y : ℕ) → x ≡ kindNumber k → y ≡ kindNumber k → x ≡ y
 kind-number-unique = unique kindNumber
@@ -71,18 +69,6 @@ word-number-unique = unique wordNumber
 pub word-number-not-its-code : ShutsOut wordNumber actionCode
 unfolding wordNumber actionCode
 word-number-not-its-code = shut-out (eqb start) Start refl refl
-
-pub scale-number-unique : (s : Scale) (x y : ℕ) → x ≡ scaleNumber s → y ≡ scaleNumber s → x ≡ y
-scale-number-unique = unique scaleNumber
-
-pub scale-number-not-from-zero : ShutsOut scaleNumber (λ s. scaleNumber s - 1)
-unfolding scaleNumber
-scale-number-not-from-zero = shut-out (eqb 2) Nanoseconds refl refl
-
--- the longest first
-pub scale-number-not-turned : ShutsOut scaleNumber (λ s. 6 - scaleNumber s)
-unfolding scaleNumber
-scale-number-not-turned = shut-out (eqb 2) Nanoseconds refl refl
 
 -- ---- `answer_in_place`
 

@@ -1,4 +1,4 @@
--- The rules of events: charts, histories, the refusals 8 to 14, the verdict and the figures of the sheet.
+-- The rules of events: charts, histories, the refusals 8 to 14, the verdict, the figures of the sheet and what is printed.
 pub mod Words
 pub mod Lists
 pub mod Chart
@@ -12,4 +12,5 @@ pub mod Sheet
 pub mod Rows
 pub mod Lines
 pub mod Trace
+pub mod Text
 pub mod Lawful

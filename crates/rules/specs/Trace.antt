@@ -7,14 +7,13 @@ use mathlib.Core.List.{List, [], _∷_}
 use Prim.Native.Nat.{ℕ, _+_}
 use lib.Dec.{eqb, leb}
 use lib.ListN.{length}
-use Rattle.words.specs.declared.scale.Scale.{Scale}
-use Rattle.words.specs.declared.scale.Scale.the-variants.{Picoseconds, Nanoseconds, Microseconds, Milliseconds, Seconds}
 use Rattle.line.specs.declared.reading.Reading.{Reading}
 use Rattle.line.specs.declared.reading.Reading.the-variants.{Version, Comment, TimeScale, Creator, CreationDate, EventLine, Refused}
 use Rattle.line.specs.Answer.{Test, test, lowest}
 use Rattle.line.specs.Parameter.{isVersion, isVersionLine, timeScale, isCreator, isCreationDate}
 use Rattle.line.specs.Reading.{isEventLine, readLine}
 use Rattle.line.specs.Condition.{isScale, refuses1, refuses3, refuses5, refuses6, refuses7}
+use Rattle.bill.specs.Scale.{scaleNumber}
 use Rattle.rules.specs.declared.place.Place.{Place}
 use Rattle.rules.specs.Lists.{any, latest, ifZero}
 use Rattle.rules.specs.Event.{Event}
@@ -22,14 +21,6 @@ use Rattle.rules.specs.Lines.{eventOfLine, eventsOf}
 use Rattle.rules.specs.Verdict.{answer, Accepted}
 
 -- ---- what the lines taken say, as the next line needs it
-
--- a time scale's number, from 1
-unfoldable pub scaleNumber : Scale → ℕ
-scaleNumber Picoseconds = 1
-scaleNumber Nanoseconds = 2
-scaleNumber Microseconds = 3
-scaleNumber Milliseconds = 4
-scaleNumber Seconds = 5
 
 abbrev pub scaleIn : Reading → Option ℕ
 scaleIn Version = none

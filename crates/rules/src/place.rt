@@ -2,9 +2,8 @@
 ghost use mathlib.Core.Path.{_≡_};
 ghost use mathlib.Core.Bool.{cond};
 ghost use lib.Dec.{leb};
-ghost use Rattle.rules.specs.Trace.{scaleNumber, seldom, needsScale, firstAnswer, readAnswer, placed};
+ghost use Rattle.rules.specs.Trace.{seldom, needsScale, firstAnswer, readAnswer, placed};
 use line::reading::Reading;
-use words::scale::Scale;
 
 // How many lines were taken, the number of the time scale (0 where there is none yet), and whether a creator, a creation date, an event was
 // given.
@@ -14,19 +13,6 @@ pub struct Place {
     pub creator: bool,
     pub date: bool,
     pub started: bool,
-}
-
-// A time scale's number, from 1.
-pub fn scale_number(scale: Scale) -> u32
-    ensures { λ r. ⌜ r ≡ scaleNumber scale ⌝ }
-{
-    match scale {
-        Scale::Picoseconds => 1,
-        Scale::Nanoseconds => 2,
-        Scale::Microseconds => 3,
-        Scale::Milliseconds => 4,
-        Scale::Seconds => 5,
-    }
 }
 
 // 3 for a parameter that was given before or comes after the first event.

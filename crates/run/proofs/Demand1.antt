@@ -20,6 +20,8 @@ use Rattle.line.specs.Condition.{readerTests}
 use Rattle.line.specs.Writing.{writeLine, writtenAnswer}
 use Rattle.line.proofs.Answers.{answer-lowest}
 use Rattle.line.proofs.Outputs.{refused-keeps, writer-answers}
+use Rattle.bill.specs.Text.{sheetText}
+use Rattle.bill.specs.Verdict.{reportText}
 use Rattle.rules.specs.Lists.{member, ifZero}
 use Rattle.rules.specs.Event.{Event}
 use Rattle.tables.specs.Entry.{verdictNumber}
@@ -34,10 +36,9 @@ use Rattle.promises.proofs.Numbers.{lowest-has, lined-numbered, lines-most}
 use Rattle.promises.proofs.Refused.{OnlyVerdict, refused-spares, StopsAfter, lines-spare}
 use Rattle.promises.proofs.Judged.{never-16}
 use Rattle.sheet.specs.declared.sheet.Printed.the-variants.{Done, NotPrinted}
-use Rattle.sheet.specs.Text.{sheetText}
 use Rattle.sheet.specs.Sheet.{Sheeted, sheeted, sheetIn, sheetWritten, printedAnswer}
 use Rattle.run.specs.Answers.{readAnswers, writeAnswers, decideAnswers, freshAnswers, feedAnswers, judgeAnswers, printAnswers, writeNothing}
-use Rattle.run.specs.Report.{reportText, reportWritten}
+use Rattle.run.specs.Report.{reportWritten}
 use Rattle.run.proofs.Reports.{told-most}
 
 pub record Demand1 : Type 0 where

@@ -6,19 +6,22 @@ use native.Mathlib.Omega.{arith}
 use lib.Dec.{eqb}
 use lib.ListN.{length, length-append}
 use Rattle.text.proofs.Digits.{digits-short}
+use Rattle.bill.specs.declared.section.Section.the-variants.{Cores, Processes}
+use Rattle.bill.specs.declared.verdict.Verdict.{Verdict}
+use Rattle.bill.specs.Text.{sheetText}
+use Rattle.bill.specs.Verdict.{acceptedText, refusedText, verdictText, reportText}
+use Rattle.bill.proofs.Scales.{scale-short}
+use Rattle.bill.proofs.VerdictLine.{length-accepted, length-refused}
+use Rattle.rules.specs.Text.{traceText}
 use Rattle.tables.specs.Entry.{verdictNumber, verdictLine, lineCount, scaleEntry, firstTime, lastTime}
 use Rattle.tables.proofs.Valid.{Valid, valid}
-use Rattle.judge.specs.declared.feed.Verdict.{Verdict}
 use Rattle.judge.specs.Feed.{verdict, verdictIn}
 use Rattle.promises.proofs.Judged.{never-16}
-use Rattle.sheet.specs.declared.section.Section.the-variants.{Cores, Processes}
-use Rattle.sheet.specs.Text.{sheetText}
 use Rattle.sheet.specs.Sheet.{sheetIn}
 use Rattle.sheet.proofs.Short.{section-short}
 use Rattle.sheet.proofs.Written.{sheet-length}
-use Rattle.run.specs.Report.{acceptedText, refusedText, verdictText, reportText, traceText, textMost}
+use Rattle.run.specs.Report.{textMost}
 use Rattle.run.proofs.Printed.{after-text}
-use Rattle.run.proofs.Texts.{scale-short, length-accepted, length-refused}
 
 -- ---- the line that tells the verdict: no number of it needs more than 64 bits
 

@@ -6,18 +6,21 @@ use Prim.Native.Nat.{ℕ}
 use lib.Dec.{eqb, leb}
 use lib.ListN.{length}
 use Rattle.text.specs.Put.{written}
-use Rattle.rules.specs.Sheet.{Sheet, span}
+use Rattle.bill.specs.declared.verdict.Verdict.{Verdict}
+use Rattle.bill.specs.Rows.{Sheet}
+use Rattle.bill.specs.Text.{sheetText}
+use Rattle.bill.specs.Verdict.{acceptedText, refusedText, verdictText, reportText}
+use Rattle.rules.specs.Sheet.{span}
 use Rattle.rules.specs.Lines.{eventsOf}
 use Rattle.rules.specs.Trace.{placeOf}
-use Rattle.judge.specs.declared.feed.Verdict.{Verdict}
+use Rattle.rules.specs.Text.{traceText}
 use Rattle.judge.specs.Feed.{Tables, verdictIn}
 use Rattle.promises.proofs.Verdicts.{Tells}
 use Rattle.promises.proofs.Judged.{after-lines, never-16, lines-tell}
 use Rattle.sheet.specs.declared.sheet.Printed.the-variants.{Done, NotPrinted}
-use Rattle.sheet.specs.Text.{sheetText}
 use Rattle.sheet.specs.Sheet.{sheeted, sheetIn}
 use Rattle.sheet.proofs.Demand.{figures-right}
-use Rattle.run.specs.Report.{acceptedText, refusedText, verdictText, reportText, reportWritten, traceText}
+use Rattle.run.specs.Report.{reportWritten}
 
 -- what is printed if the trace ended with these tables
 abbrev pub printed : Tables → List ℕ

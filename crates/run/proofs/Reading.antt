@@ -23,6 +23,7 @@ use Rattle.line.specs.Reading.{readLine}
 use Rattle.line.specs.Condition.{refuses1}
 use Rattle.rules.specs.Lists.{ifZero}
 use Rattle.rules.specs.Trace.{tooMuch, placeTests, answerInPlace, answerAt}
+use Rattle.rules.specs.Text.{traceText}
 use Rattle.tables.specs.Entry.{verdictNumber}
 use Rattle.judge.specs.Feed.{Tables, After, placedLine, lined, allLined, fedLine, fedChunk, freshTables}
 use Rattle.judge.proofs.Feeds.{allLined-append, lined-fed, lined-chunk}
@@ -31,7 +32,7 @@ use Rattle.promises.proofs.Traces.{further}
 use Rattle.promises.proofs.Judged.{after-lines, shows-taken, never-16}
 use Rattle.sheet.specs.declared.sheet.Printed.the-variants.{Done, NotPrinted}
 use Rattle.sheet.specs.Sheet.{sheeted}
-use Rattle.run.specs.Report.{reportWritten, traceText}
+use Rattle.run.specs.Report.{reportWritten}
 use Rattle.run.specs.Chunk.{Progress, going, stopped, lastTaken, readOn, atInputEnd}
 use Rattle.run.proofs.Printed.{printed, after-text, written-text}
 

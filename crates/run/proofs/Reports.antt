@@ -10,17 +10,18 @@ use lib.ListN.{length, take, drop, length-append, length-drop}
 use borrow.Author.Tests.{eq-eqb, ne-eqb, le-leb, lt-leb, leb-true, leb-false}
 use Rattle.text.specs.Put.{written, Put, after, put}
 use Rattle.text.proofs.Writes.{length-written, put-fits}
+use Rattle.bill.specs.declared.verdict.Verdict.{Verdict}
+use Rattle.bill.specs.Text.{sheetText}
+use Rattle.bill.specs.Verdict.{verdictText, reportText}
 use Rattle.rules.proofs.Tests.{if-some}
 use Rattle.tables.specs.Entry.{verdictNumber, lineCount, scaleEntry}
 use Rattle.tables.specs.Range.{tableAnswer}
 use Rattle.tables.proofs.Valid.{valid, three-answers}
-use Rattle.judge.specs.declared.feed.Verdict.{Verdict}
 use Rattle.judge.specs.Feed.{tables, verdict, verdictIn, verdictOf}
 use Rattle.sheet.specs.declared.sheet.Printed.{Printed}
 use Rattle.sheet.specs.declared.sheet.Printed.the-variants.{Done, NotPrinted}
-use Rattle.sheet.specs.Text.{sheetText}
 use Rattle.sheet.specs.Sheet.{Sheeted, sheeted, sheetIn, sheetWritten}
-use Rattle.run.specs.Report.{verdictText, reportText, reportWritten}
+use Rattle.run.specs.Report.{reportWritten}
 use Rattle.run.proofs.Behind.{backed, part-all, back-same, back-written, front-written}
 
 module _ (names nums ticks : List ℕ) where

@@ -2,8 +2,8 @@
 ghost use mathlib.Core.Path.{_≡_};
 ghost use Rattle.sheet.specs.Sheet.{sheeted};
 ghost use Rattle.run.specs.Report.{reportWritten};
-use crate::verdict::put_verdict;
-use crate::verdict::verdict_length;
+use bill::verdict::put_verdict;
+use bill::verdict::verdict_length;
 use judge::feed::verdict_now;
 use sheet::sheet::Printed;
 use sheet::sheet::sheet;

@@ -9,10 +9,12 @@ use lib.ListN.{length, getD}
 use Rattle.text.specs.Bytes.{sameBytes}
 use Rattle.text.specs.Put.{written}
 use Rattle.text.proofs.Words.{same-eq, same-refl}
+use Rattle.bill.specs.Rows.{Row, Sheet}
+use Rattle.bill.specs.Text.{sheetText}
 use Rattle.rules.specs.Lists.{sumOver}
 use Rattle.rules.specs.Event.{Event}
 use Rattle.rules.specs.History.{names, cores, processes}
-use Rattle.rules.specs.Sheet.{heldTicks, idleTicks, unknownTicks, charge, span, Row, coreRows, processRows, Sheet, sheet}
+use Rattle.rules.specs.Sheet.{heldTicks, idleTicks, unknownTicks, charge, span, coreRows, processRows, sheet}
 use Rattle.rules.specs.Lines.{eventsOf}
 use Rattle.rules.specs.Trace.{takenLines}
 use Rattle.rules.proofs.Sums.{Once}
@@ -21,7 +23,6 @@ use Rattle.rules.proofs.Traces.{taken-sound}
 use Rattle.promises.proofs.Events.{all-met}
 use Rattle.promises.proofs.Judged.{after-lines, shows-taken, never-16}
 use Rattle.sheet.specs.declared.sheet.Printed.the-variants.{Done, NotPrinted}
-use Rattle.sheet.specs.Text.{sheetText}
 use Rattle.sheet.specs.Sheet.{sheeted, sheetIn, sheetWritten}
 use Rattle.sheet.proofs.ShownRows.{sheet-shown}
 

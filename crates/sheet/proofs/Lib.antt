@@ -1,5 +1,5 @@
 -- The laws of the charge sheet.
-pub mod Texts
+pub mod Rooms
 pub mod Written
 pub mod Rows
 pub mod Short

@@ -9,20 +9,21 @@ use lib.ListN.{length}
 use borrow.Author.Tests.{eqb-true, eqb-false, ne-eqb}
 use Rattle.text.specs.Bytes.{sameBytes}
 use Rattle.text.proofs.Words.{same-eq, same-refl}
+use Rattle.bill.specs.declared.section.Section.{Section}
+use Rattle.bill.specs.declared.section.Section.the-variants.{Cores, Processes}
+use Rattle.bill.specs.Rows.{Row}
 use Rattle.rules.specs.Lists.{any, only, keep}
 use Rattle.rules.specs.Words.{core}
 use Rattle.rules.specs.Charts.{isProcess}
 use Rattle.rules.specs.Event.{Event}
 use Rattle.rules.specs.History.{names, kindOf, isKind}
 use Rattle.rules.specs.Verdict.{Accepted}
-use Rattle.rules.specs.Sheet.{Row, coreRows, processRows, span, sheet}
+use Rattle.rules.specs.Sheet.{coreRows, processRows, span, sheet}
 use Rattle.tables.specs.Entry.{kindAt, firstTime, lastTime}
 use Rattle.judge.specs.Feed.{Tables}
 use Rattle.promises.specs.Places.{rowOf}
 use Rattle.promises.specs.Shown.{Shown, firstOf, lastOf}
 use Rattle.promises.proofs.Grown.{AllMet, names-distinct}
-use Rattle.sheet.specs.declared.section.Section.{Section}
-use Rattle.sheet.specs.declared.section.Section.the-variants.{Cores, Processes}
 use Rattle.sheet.specs.Sheet.{belongs, rowIn, rowsTo, rowsIn, sheetIn}
 use Rattle.sheet.proofs.Figures.{by-rows, held-shown, idle-shown, unknown-shown, charge-shown}
 

@@ -26,18 +26,20 @@ use Rattle.line.specs.Parameter.{isVersion, isVersionLine, isComment, timeScale
 use Rattle.line.specs.Event.{numbersOf, hasNames, knownReading, fieldsReading, eventReading}
 use Rattle.line.specs.Reading.{hasBreak, isEventLine, readLine}
 use Rattle.line.specs.Condition.{refuses1, refuses3, countWrong, numberWrong, nameWrong, noteWrong, refuses5, refuses6, refuses7}
+use Rattle.bill.specs.Rows.{Row, Sheet}
+use Rattle.bill.specs.Text.{figuresText, rowText, rowsText, sectionText, sheetText}
+use Rattle.bill.specs.Scale.{scaleNumber}
 use Rattle.rules.specs.Lists.{sumOver, ifZero}
 use Rattle.rules.specs.Charts.{chartOf, processChart, isProcess}
 use Rattle.rules.specs.Core.{takes, gives, keeps, onCore}
 use Rattle.rules.specs.History.{hasInstances, isTracked, named, kindIn, activates, lastNumber, lastCount, names, instances}
 use Rattle.rules.specs.Refusals.{timeFalls, secondKind, sourceClash, targetClash, noRoom, offChart, notNext, coreBroken, countFollows, fixed, countBroken, rules, answerTo}
-use Rattle.rules.specs.Sheet.{ticks, Row, Sheet, sheet}
+use Rattle.rules.specs.Sheet.{ticks, sheet}
 use Rattle.rules.specs.Lines.{kindNumber, wordNumber, eventOfLine, eventsOf}
-use Rattle.rules.specs.Trace.{scaleNumber, placeOf, tooMuch, versionWrong, parameterWrong, unscaled, placeTests, answerInPlace, answerAt, takenLines}
+use Rattle.rules.specs.Trace.{placeOf, tooMuch, versionWrong, parameterWrong, unscaled, placeTests, answerInPlace, answerAt, takenLines}
 use Rattle.tables.specs.Range.{tableAnswer}
 use Rattle.promises.proofs.Judged.{after-lines, never-16}
 use Rattle.sheet.specs.declared.sheet.Printed.the-variants.{Done, NotPrinted}
-use Rattle.sheet.specs.Text.{figuresText, rowText, rowsText, sectionText, sheetText}
 use Rattle.sheet.specs.Sheet.{Sheeted, sheeted, sheetIn, sheetWritten}
 use Rattle.sheet.proofs.Demand.{sheetOf, figures-right, text-right, figure}
 

@@ -1,14 +1,10 @@
-// The two sections of a sheet, in their order.
+// Which names stand in a section of the sheet.
 ghost use mathlib.Core.Path.{_≡_};
 ghost use Rattle.sheet.specs.Sheet.{belongs};
+use bill::section::Section;
 use rules::numbers::CORE;
 use rules::numbers::INTERRUPT;
 use rules::numbers::TASK;
-
-pub enum Section {
-    Cores,
-    Processes,
-}
 
 // Whether a name of the kind stands in the section.
 pub(crate) fn in_section(section: Section, kind: u32) -> bool
