@@ -9,8 +9,8 @@ use lib.ListN.{length, take, length-append}
 use Rattle.walk.specs.Lines.{restOf}
 use Rattle.rules.specs.Lists.{ifZero}
 use Rattle.judge.specs.Feed.{Tables, fedChunk}
-use Rattle.promises.specs.Fed.{joined}
 use Rattle.run.specs.Chunk.{Progress, going, stopped, readOn, atInputEnd}
+use Rattle.promises.specs.Fed.{joined}
 use Rattle.input.specs.declared.reads.Step.{Step}
 use Rattle.input.specs.declared.reads.Step.the-variants.{More, Stop, End, Error}
 use Rattle.input.specs.declared.reads.Input.the-variants.{Read, Failed, Refused}

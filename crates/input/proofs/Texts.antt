@@ -11,15 +11,15 @@ use Rattle.walk.specs.Lines.{linesOf}
 use Rattle.tables.specs.Fresh.{Cleared, clearedOf}
 use Rattle.tables.proofs.Valid.{Sizes, sizes-mean}
 use Rattle.judge.specs.Feed.{Tables, tables, freshTables}
-use Rattle.promises.specs.Fed.{joined}
 use Rattle.sheet.specs.declared.sheet.Printed.{Printed}
 use Rattle.sheet.specs.declared.sheet.Printed.the-variants.{Done, NotPrinted}
 use Rattle.sheet.specs.Sheet.{Sheeted, sheeted}
 use Rattle.run.specs.Chunk.{readOn, atInputEnd}
 use Rattle.run.specs.Report.{reportWritten, textMost}
-use Rattle.run.proofs.Reading.{written-right}
 use Rattle.run.proofs.Buffered.{front}
-use Rattle.run.proofs.Fits.{text-fits}
+use Rattle.promises.specs.Fed.{joined}
+use Rattle.promises.proofs.Reading.{written-right}
+use Rattle.promises.proofs.Printed.{text-fits}
 use Rattle.input.specs.declared.reads.Input.{Input}
 use Rattle.input.specs.declared.reads.Input.the-variants.{Read, Failed, Refused}
 use Rattle.input.specs.Reads.{bufferSize, Came, BrokeOff, Taken}

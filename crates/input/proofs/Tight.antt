@@ -23,11 +23,11 @@ use Rattle.rules.specs.Lines.{eventsOf}
 use Rattle.rules.specs.Trace.{placeOf, answerAt, takenLines, verdictOn}
 use Rattle.rules.specs.Text.{traceText}
 use Rattle.judge.specs.Feed.{Tables, placeIn, freshTables}
+use Rattle.run.specs.Chunk.{going, stopped, readOn, atInputEnd}
 use Rattle.promises.specs.Fed.{refusalOn, joined}
 use Rattle.promises.proofs.Judged.{after-lines, shows-taken}
-use Rattle.run.specs.Chunk.{going, stopped, readOn, atInputEnd}
-use Rattle.run.proofs.Printed.{printed}
-use Rattle.run.proofs.Reading.{all-read, printed-right, stopped-right}
+use Rattle.promises.proofs.Printed.{printed}
+use Rattle.promises.proofs.Reading.{all-read, printed-right, stopped-right}
 use Rattle.input.specs.declared.reads.Input.{Input}
 use Rattle.input.specs.declared.reads.Input.the-variants.{Read, Failed, Refused}
 use Rattle.input.specs.Reads.{Came, BrokeOff, inputRefusal, Taken}

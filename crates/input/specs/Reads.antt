@@ -8,8 +8,8 @@ use lib.Dec.{eqb}
 use lib.ListN.{length, take, getD}
 use Rattle.tables.specs.Range.{tableAnswer}
 use Rattle.judge.specs.Feed.{Tables}
-use Rattle.promises.specs.Fed.{joined}
 use Rattle.run.specs.Chunk.{Progress, going, stopped, readOn, atInputEnd}
+use Rattle.promises.specs.Fed.{joined}
 use Rattle.input.specs.declared.reads.Got.{Got}
 use Rattle.input.specs.declared.reads.Got.the-variants.{Bytes, End, Error}
 use Rattle.input.specs.declared.reads.Step.{Step}

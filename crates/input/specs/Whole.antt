@@ -11,8 +11,8 @@ use Rattle.walk.specs.Lines.{linesOf}
 use Rattle.rules.specs.Text.{traceText}
 use Rattle.tables.specs.Range.{isSized}
 use Rattle.judge.specs.Feed.{Tables, tables, freshTables}
-use Rattle.promises.specs.Fed.{joined}
 use Rattle.run.specs.Report.{textMost}
+use Rattle.promises.specs.Fed.{joined}
 use Rattle.input.specs.Reads.{bufferSize, AllReads, Came, BrokeOff, Numbered}
 use Rattle.input.specs.declared.whole.Answer.{Answer}
 use Rattle.input.specs.declared.whole.Answer.the-variants.{Text, Unread, Refused}

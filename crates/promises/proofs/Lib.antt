@@ -1,4 +1,4 @@
--- The laws that tie the judge's tables to the history of the lines taken.
+-- The promises, `Demand1`, `Demand2` and `Demand3`, and the laws behind them, which tie the tables to the history of the lines taken.
 pub mod Places
 pub mod Grown
 pub mod Lookups
@@ -33,5 +33,14 @@ pub mod Judged
 pub mod Demand2
 pub mod Numbers
 pub mod Refused
+pub mod Calls
+pub mod Demand1
+pub mod Figures
+pub mod ShownRows
+pub mod Balances
+pub mod Demand3
+pub mod Printed
+pub mod Reading
 pub mod Examples
 pub mod Tight
+pub mod TightSheet

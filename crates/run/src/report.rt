@@ -8,7 +8,7 @@ use judge::feed::verdict_now;
 use sheet::sheet::Printed;
 use sheet::sheet::sheet;
 
-// No text is longer: `text-fits`.
+// No text is longer: `report-fits`.
 pub const TEXT_MOST: usize = 65655;
 
 // The text at the front of the output. The sheet is written first, behind the room for the verdict: if it does not fit, nothing was written.

@@ -3,7 +3,4 @@ pub mod Rooms
 pub mod Written
 pub mod Rows
 pub mod Short
-pub mod Figures
-pub mod ShownRows
-pub mod Demand
 pub mod Tight

@@ -21,11 +21,11 @@ use Rattle.rules.specs.Verdict.{Accepted}
 use Rattle.rules.specs.Sheet.{coreRows, processRows, span, sheet}
 use Rattle.tables.specs.Entry.{kindAt, firstTime, lastTime}
 use Rattle.judge.specs.Feed.{Tables}
+use Rattle.sheet.specs.Sheet.{belongs, rowIn, rowsTo, rowsIn, sheetIn}
 use Rattle.promises.specs.Places.{rowOf}
 use Rattle.promises.specs.Shown.{Shown, firstOf, lastOf}
 use Rattle.promises.proofs.Grown.{AllMet, names-distinct}
-use Rattle.sheet.specs.Sheet.{belongs, rowIn, rowsTo, rowsIn, sheetIn}
-use Rattle.sheet.proofs.Figures.{by-rows, held-shown, idle-shown, unknown-shown, charge-shown}
+use Rattle.promises.proofs.Figures.{by-rows, held-shown, idle-shown, unknown-shown, charge-shown}
 
 -- ---- the names of a section and their rows, as the history has them
 

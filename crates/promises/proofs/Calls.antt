@@ -1,6 +1,4 @@
--- DEMAND 1, over any bytes, any record, any tables and any output, also tables that no trace leads to: every call gives one of its numbers of document 01's
--- table (run/specs/Answers); a refused line changes no entry but those of the remembered verdict, and many lines no other past those that are taken; 15 and
--- 16 write nothing; and a refused writing leaves the output as it was. `demand-1` has it all. The contracts say that the calls return what is named here.
+-- What each call gives, and what it leaves: the laws behind demand 1, over any bytes, any record, any tables and any output.
 use mathlib.Core.Path.{_≡_, refl, sym, subst}
 use mathlib.Core.Bool.{Bool, true, false, _||_, cond}
 use mathlib.Core.Logic.{⊎-elim}
@@ -19,59 +17,27 @@ use Rattle.line.specs.Reading.{readLine, answerOf}
 use Rattle.line.specs.Condition.{readerTests}
 use Rattle.line.specs.Writing.{writeLine, writtenAnswer}
 use Rattle.line.proofs.Answers.{answer-lowest}
-use Rattle.line.proofs.Outputs.{refused-keeps, writer-answers}
+use Rattle.line.proofs.Outputs.{refused-keeps}
 use Rattle.bill.specs.Text.{sheetText}
 use Rattle.bill.specs.Verdict.{reportText}
 use Rattle.rules.specs.Lists.{member, ifZero}
 use Rattle.rules.specs.Event.{Event}
 use Rattle.tables.specs.Entry.{verdictNumber}
-use Rattle.tables.specs.Fresh.{cleared, clearedOf}
+use Rattle.tables.specs.Fresh.{clearedOf}
 use Rattle.tables.specs.Range.{isSized, tableAnswer}
 use Rattle.tables.proofs.Valid.{valid, three-answers}
-use Rattle.tables.proofs.Zeros.{clear-answers, clear-kept}
+use Rattle.tables.proofs.Zeros.{clear-answers}
 use Rattle.decide.specs.Decide.{planAnswer, decided}
 use Rattle.decide.proofs.Decided.{ruled, plan-answer, decided-answer, plan-refuses}
 use Rattle.judge.specs.Feed.{Tables, After, after, lined, allLined, fedLine, AfterChunk, fedChunk, verdict, verdictIn, verdictOf, AfterTrace, freshTables, judgedTrace}
-use Rattle.promises.proofs.Numbers.{lowest-has, lined-numbered, lines-most}
-use Rattle.promises.proofs.Refused.{OnlyVerdict, refused-spares, StopsAfter, lines-spare}
-use Rattle.promises.proofs.Judged.{never-16}
 use Rattle.sheet.specs.declared.sheet.Printed.the-variants.{Done, NotPrinted}
 use Rattle.sheet.specs.Sheet.{Sheeted, sheeted, sheetIn, sheetWritten, printedAnswer}
-use Rattle.run.specs.Answers.{readAnswers, writeAnswers, decideAnswers, freshAnswers, feedAnswers, judgeAnswers, printAnswers, writeNothing}
 use Rattle.run.specs.Report.{reportWritten}
 use Rattle.run.proofs.Reports.{told-most}
-
-pub record Demand1 : Type 0 where
-  -- any bytes as a line
-  pub read-gives : (line : List ℕ) → member (answerOf (readLine line)) readAnswers ≡ true
-  -- any record, any output
-  pub write-gives : (e : ReadEvent) (source target note out : List ℕ) → member (writtenAnswer (writeLine e source target note out .answer)) writeAnswers ≡ true
-  pub write-spares : (e : ReadEvent) (source target note out : List ℕ) → (writtenAnswer (writeLine e source target note out .answer) ≡ 0 → ⊥) →
-      writeLine e source target note out .output ≡ out
-  -- any tables, and any event against them
-  pub fresh-gives : (names nums ticks : List ℕ) → member (clearedOf names nums ticks .answer) freshAnswers ≡ true
-  pub fresh-spares : (names nums ticks : List ℕ) → clearedOf names nums ticks .answer ≡ 15 → clearedOf names nums ticks ≡ cleared 15 names nums ticks
-  pub decide-gives : (names nums ticks : List ℕ) (e : Event) → member (planAnswer (decided names nums ticks e)) decideAnswers ≡ true
-  -- any tables, any bytes as a line
-  pub feed-gives : (t : Tables) (line : List ℕ) → member (fedLine t line .answer) feedAnswers ≡ true
-  pub feed-spares : (t : Tables) (line : List ℕ) → (fedLine t line .answer ≡ 0 → ⊥) → OnlyVerdict t (fedLine t line .left)
-  pub feed-idle : (t : Tables) (line : List ℕ) → member (fedLine t line .answer) writeNothing ≡ true → fedLine t line .left ≡ t
-  -- any bytes as a chunk
-  pub chunk-gives : (t : Tables) (chunk : List ℕ) → member (fedChunk t chunk .fed .answer) feedAnswers ≡ true
-  pub chunk-spares : (t : Tables) (chunk : List ℕ) → member (fedChunk t chunk .fed .answer) writeNothing ≡ false →
-      (fedChunk t chunk .left ≡ allLined t (wholeLines chunk)) × StopsAfter t (wholeLines chunk)
-  pub chunk-idle : (t : Tables) (chunk : List ℕ) → member (fedChunk t chunk .fed .answer) writeNothing ≡ true → fedChunk t chunk .left ≡ t
-  -- any bytes as a trace
-  pub judge-gives : (t : Tables) (trace : List ℕ) → member (judgedTrace t trace .judged .number) judgeAnswers ≡ true
-  pub judge-idle : (t : Tables) (trace : List ℕ) → judgedTrace t trace .judged .number ≡ 15 → judgedTrace t trace .left ≡ t
-  -- any tables; and any output
-  pub verdict-gives : (t : Tables) → member (verdictOf t .number) feedAnswers ≡ true
-  pub sheet-gives : (names nums ticks out : List ℕ) → member (printedAnswer (sheetWritten names nums ticks out .answer)) printAnswers ≡ true
-  pub sheet-spares : (names nums ticks out : List ℕ) → (printedAnswer (sheetWritten names nums ticks out .answer) ≡ 0 → ⊥) →
-      sheetWritten names nums ticks out .output ≡ out
-  pub report-gives : (names nums ticks out : List ℕ) → member (printedAnswer (reportWritten names nums ticks out .answer)) printAnswers ≡ true
-  pub report-spares : (names nums ticks out : List ℕ) → (printedAnswer (reportWritten names nums ticks out .answer) ≡ 0 → ⊥) →
-      reportWritten names nums ticks out .output ≡ out
+use Rattle.promises.specs.Answers.{readAnswers, decideAnswers, freshAnswers, feedAnswers, judgeAnswers, printAnswers, writeNothing}
+use Rattle.promises.proofs.Numbers.{lowest-has, lined-numbered, lines-most}
+use Rattle.promises.proofs.Refused.{StopsAfter, lines-spare}
+use Rattle.promises.proofs.Judged.{never-16}
 
 -- ---- numbers in a row
 
@@ -107,10 +73,10 @@ remembers n h = rw (ne-eqb n 15 (λ e. omega arith), ne-eqb n 16 (λ e. omega ar
 
 -- ---- lines
 
-reads : (line : List ℕ) → member (answerOf (readLine line)) readAnswers ≡ true
+pub reads : (line : List ℕ) → member (answerOf (readLine line)) readAnswers ≡ true
 reads line = rw (answer-lowest line) (lowest-has (λ n. member n readAnswers ≡ true) (readerTests line) refl (refl, (refl, (refl, (refl, (refl, (refl, tt)))))))
 
-write-kept : (e : ReadEvent) (source target note out : List ℕ) → (writtenAnswer (writeLine e source target note out .answer) ≡ 0 → ⊥) →
+pub write-kept : (e : ReadEvent) (source target note out : List ℕ) → (writtenAnswer (writeLine e source target note out .answer) ≡ 0 → ⊥) →
     writeLine e source target note out .output ≡ out
 unfolding writtenAnswer
 write-kept e source target note out = by-answer (writeLine e source target note out .answer) refl
@@ -121,10 +87,10 @@ write-kept e source target note out = by-answer (writeLine e source target note 
 
 -- ---- tables
 
-freshens : (names nums ticks : List ℕ) → member (clearedOf names nums ticks .answer) freshAnswers ≡ true
+pub freshens : (names nums ticks : List ℕ) → member (clearedOf names nums ticks .answer) freshAnswers ≡ true
 freshens names nums ticks = ⊎-elim (λ q. rw q) (λ q. rw q) (clear-answers names nums ticks)
 
-decides : (names nums ticks : List ℕ) (e : Event) → member (planAnswer (decided names nums ticks e)) decideAnswers ≡ true
+pub decides : (names nums ticks : List ℕ) (e : Event) → member (planAnswer (decided names nums ticks e)) decideAnswers ≡ true
 decides names nums ticks e = rw (decided-answer names nums ticks e) (by-size (isSized (length names) (length nums) (length ticks)))
   where
     by-size : (b : Bool) → member (cond b (ruled names nums ticks e) 15) decideAnswers ≡ true
@@ -150,11 +116,11 @@ module _ (t : Tables) where
     line-most : tableAnswer (t .names) (t .nums) (t .ticks) ≡ 0 → lined t line .answer ≤ 14
     line-most e = let v = valid (t .names) (t .nums) (t .ticks) e in lined-numbered t (v .sizes .nums-size) (v .verdict) line .most
 
-    feeds : member (fedLine t line .answer) feedAnswers ≡ true
+    pub feeds : member (fedLine t line .answer) feedAnswers ≡ true
     unfolding fedLine
     feeds = by-own (λ n. member (one n .answer) feedAnswers ≡ true) (λ e. let m = line-most e in in-feed (lined t line .answer) (omega arith)) refl refl
 
-    feed-still : member (fedLine t line .answer) writeNothing ≡ true → fedLine t line .left ≡ t
+    pub feed-still : member (fedLine t line .answer) writeNothing ≡ true → fedLine t line .left ≡ t
     unfolding fedLine
     feed-still =
         by-own (λ n. member (one n .answer) writeNothing ≡ true → one n .left ≡ t)
@@ -172,19 +138,19 @@ module _ (t : Tables) where
     chunk-most : tableAnswer (t .names) (t .nums) (t .ticks) ≡ 0 → verdictNumber (allLined t (wholeLines chunk) .nums) ≤ 14
     chunk-most e = let v = valid (t .names) (t .nums) (t .ticks) e in lines-most t (v .sizes .nums-size) (v .verdict) (wholeLines chunk)
 
-    chunks : member (fedChunk t chunk .fed .answer) feedAnswers ≡ true
+    pub chunks : member (fedChunk t chunk .fed .answer) feedAnswers ≡ true
     unfolding fedChunk
     chunks =
         by-own (λ n. member (many n .fed .answer) feedAnswers ≡ true)
         (λ e. let m = chunk-most e in in-feed (verdictNumber (allLined t (wholeLines chunk) .nums)) (omega arith)) refl refl
 
-    chunk-still : member (fedChunk t chunk .fed .answer) writeNothing ≡ true → fedChunk t chunk .left ≡ t
+    pub chunk-still : member (fedChunk t chunk .fed .answer) writeNothing ≡ true → fedChunk t chunk .left ≡ t
     unfolding fedChunk
     chunk-still =
         by-own (λ n. member (many n .fed .answer) writeNothing ≡ true → many n .left ≡ t)
         (λ e q. let z = remembers (verdictNumber (allLined t (wholeLines chunk) .nums)) (chunk-most e) in cc) (λ q. refl) (λ q. refl)
 
-    chunk-stops : member (fedChunk t chunk .fed .answer) writeNothing ≡ false → (fedChunk t chunk .left ≡ allLined t (wholeLines chunk)) × StopsAfter t (wholeLines chunk)
+    pub chunk-stops : member (fedChunk t chunk .fed .answer) writeNothing ≡ false → (fedChunk t chunk .left ≡ allLined t (wholeLines chunk)) × StopsAfter t (wholeLines chunk)
     unfolding fedChunk
     chunk-stops =
         by-own (λ n. member (many n .fed .answer) writeNothing ≡ false → (many n .left ≡ allLined t (wholeLines chunk)) × StopsAfter t (wholeLines chunk))
@@ -203,7 +169,7 @@ module _ (t : Tables) where
     trace-most : all true .judged .number ≤ 14
     trace-most = let u = allLined freshTables (linesOf trace) in told-most (u .names) (u .nums) (u .ticks) (never-16 (linesOf trace))
 
-    judges : member (judgedTrace t trace .judged .number) judgeAnswers ≡ true
+    pub judges : member (judgedTrace t trace .judged .number) judgeAnswers ≡ true
     unfolding judgedTrace
     judges = by-size (isSized (length (t .names)) (length (t .nums)) (length (t .ticks)))
       where
@@ -211,7 +177,7 @@ module _ (t : Tables) where
         by-size true = let m = trace-most in in-judge (all true .judged .number) (omega arith)
         by-size false = refl
 
-    judge-still : judgedTrace t trace .judged .number ≡ 15 → judgedTrace t trace .left ≡ t
+    pub judge-still : judgedTrace t trace .judged .number ≡ 15 → judgedTrace t trace .left ≡ t
     unfolding judgedTrace
     judge-still = by-size (isSized (length (t .names)) (length (t .nums)) (length (t .ticks)))
       where
@@ -219,7 +185,7 @@ module _ (t : Tables) where
         by-size true q = absurd (let m = trace-most in omega arith)
         by-size false q = refl
 
-  tells : member (verdictOf t .number) feedAnswers ≡ true
+  pub tells : member (verdictOf t .number) feedAnswers ≡ true
   unfolding verdictOf
   tells =
       by-own (λ n. member (ifZero n (verdictIn (t .nums) (t .ticks)) (verdict n 0 0 0) .number) feedAnswers ≡ true)
@@ -227,9 +193,9 @@ module _ (t : Tables) where
 
 -- ---- an output
 
-record Printing (x : Sheeted) (out : List ℕ) : Type 0 where
-  gives : member (printedAnswer (x .answer)) printAnswers ≡ true
-  spares : (printedAnswer (x .answer) ≡ 0 → ⊥) → x .output ≡ out
+pub record Printing (x : Sheeted) (out : List ℕ) : Type 0 where
+  pub gives : member (printedAnswer (x .answer)) printAnswers ≡ true
+  pub spares : (printedAnswer (x .answer) ≡ 0 → ⊥) → x .output ≡ out
 
 module _ (names nums ticks out text : List ℕ) where
   abbrev print : ℕ → Sheeted
@@ -245,35 +211,10 @@ module _ (names nums ticks out text : List ℕ) where
       by-room true = record { gives = refl; spares = λ h. absurd (h refl) }
       by-room false = record { gives = refl; spares = λ h. refl }
 
-sheets : (names nums ticks out : List ℕ) → Printing (sheetWritten names nums ticks out) out
+pub sheets : (names nums ticks out : List ℕ) → Printing (sheetWritten names nums ticks out) out
 unfolding sheetWritten
 sheets names nums ticks out = prints names nums ticks out (sheetText (sheetIn names nums ticks))
 
-reports : (names nums ticks out : List ℕ) → Printing (reportWritten names nums ticks out) out
+pub reports : (names nums ticks out : List ℕ) → Printing (reportWritten names nums ticks out) out
 unfolding reportWritten
 reports names nums ticks out = prints names nums ticks out (reportText (verdictIn nums ticks) (sheetIn names nums ticks))
-
--- ---- all of it
-
-pub demand-1 : Demand1
-demand-1 = record {
-  read-gives = reads;
-  write-gives = writer-answers;
-  write-spares = write-kept;
-  fresh-gives = freshens;
-  fresh-spares = clear-kept;
-  decide-gives = decides;
-  feed-gives = feeds;
-  feed-spares = refused-spares;
-  feed-idle = feed-still;
-  chunk-gives = chunks;
-  chunk-spares = chunk-stops;
-  chunk-idle = chunk-still;
-  judge-gives = judges;
-  judge-idle = judge-still;
-  verdict-gives = tells;
-  sheet-gives = λ names nums ticks out. sheets names nums ticks out .gives;
-  sheet-spares = λ names nums ticks out. sheets names nums ticks out .spares;
-  report-gives = λ names nums ticks out. reports names nums ticks out .gives;
-  report-spares = λ names nums ticks out. reports names nums ticks out .spares;
-}

@@ -27,13 +27,13 @@ use Rattle.rules.proofs.Totals.{core-total}
 use Rattle.rules.proofs.Charges.{charge-at-most}
 use Rattle.tables.specs.Entry.{kindAt, markAt, ownerAt, heldAt, unknownAt}
 use Rattle.judge.specs.Feed.{Tables}
+use Rattle.sheet.specs.Figure.{openAt, heldIn, idleIn, holds, chargeTo, chargeIn}
 use Rattle.promises.specs.Places.{place, rowOf, instanceRowOf}
 use Rattle.promises.specs.Shown.{Shown, CoreTicks, coreMark, openTicks, openCharge}
 use Rattle.promises.proofs.Places.{place-bound, place-one, Distinct, at-place}
 use Rattle.promises.proofs.Grown.{AllMet, names-distinct, instance-kind, core-unknown}
 use Rattle.promises.proofs.Holders.{holder-listed}
 use Rattle.promises.proofs.Bounds.{span-most}
-use Rattle.sheet.specs.Figure.{openAt, heldIn, idleIn, holds, chargeTo, chargeIn}
 
 -- ---- the rows of a list, one after the other
 

@@ -27,14 +27,14 @@ use Rattle.rules.specs.Text.{traceText}
 use Rattle.tables.specs.Entry.{verdictNumber}
 use Rattle.judge.specs.Feed.{Tables, After, placedLine, lined, allLined, fedLine, fedChunk, freshTables}
 use Rattle.judge.proofs.Feeds.{allLined-append, lined-fed, lined-chunk}
-use Rattle.promises.specs.Fed.{refusalOn, joined}
-use Rattle.promises.proofs.Traces.{further}
-use Rattle.promises.proofs.Judged.{after-lines, shows-taken, never-16}
 use Rattle.sheet.specs.declared.sheet.Printed.the-variants.{Done, NotPrinted}
 use Rattle.sheet.specs.Sheet.{sheeted}
 use Rattle.run.specs.Report.{reportWritten}
 use Rattle.run.specs.Chunk.{Progress, going, stopped, lastTaken, readOn, atInputEnd}
-use Rattle.run.proofs.Printed.{printed, after-text, written-text}
+use Rattle.promises.specs.Fed.{refusalOn, joined}
+use Rattle.promises.proofs.Traces.{further}
+use Rattle.promises.proofs.Judged.{after-lines, shows-taken, never-16}
+use Rattle.promises.proofs.Printed.{printed, after-text, written-text}
 
 -- ---- tables after lines from a fresh start, fed one line more and one chunk more
 

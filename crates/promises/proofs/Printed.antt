@@ -1,8 +1,8 @@
--- What is printed after lines from a fresh start is the text of the list of lines alone.
+-- What is printed after lines from a fresh start is the text of the list of lines alone, and no such text is longer than `textMost`.
 use mathlib.Core.Path.{_≡_, refl, _∙_}
 use mathlib.Core.Bool.{Bool, true, false, cond}
 use mathlib.Core.List.{List, [], _++_, append-nil}
-use Prim.Native.Nat.{ℕ}
+use Prim.Native.Nat.{ℕ, _≤_}
 use lib.Dec.{eqb, leb}
 use lib.ListN.{length}
 use Rattle.text.specs.Put.{written}
@@ -14,13 +14,15 @@ use Rattle.rules.specs.Sheet.{span}
 use Rattle.rules.specs.Lines.{eventsOf}
 use Rattle.rules.specs.Trace.{placeOf}
 use Rattle.rules.specs.Text.{traceText}
+use Rattle.tables.proofs.Valid.{valid}
 use Rattle.judge.specs.Feed.{Tables, verdictIn}
-use Rattle.promises.proofs.Verdicts.{Tells}
-use Rattle.promises.proofs.Judged.{after-lines, never-16, lines-tell}
 use Rattle.sheet.specs.declared.sheet.Printed.the-variants.{Done, NotPrinted}
 use Rattle.sheet.specs.Sheet.{sheeted, sheetIn}
-use Rattle.sheet.proofs.Demand.{figures-right}
-use Rattle.run.specs.Report.{reportWritten}
+use Rattle.run.specs.Report.{reportWritten, textMost}
+use Rattle.run.proofs.Fits.{report-fits}
+use Rattle.promises.proofs.Verdicts.{Tells}
+use Rattle.promises.proofs.Judged.{after-lines, never-16, lines-tell}
+use Rattle.promises.proofs.Demand3.{figures-right}
 
 -- what is printed if the trace ended with these tables
 abbrev pub printed : Tables → List ℕ
@@ -48,3 +50,6 @@ pub written-text : (ls : List (List ℕ)) (out : List ℕ) →
     ≡ cond (leb (length text) (length out)) (sheeted (Done (length text)) (written out 0 text)) (sheeted (NotPrinted 15) out)
 unfolding reportWritten
 written-text ls out = rw (never-16 ls, after-text ls)
+
+pub text-fits : (ls : List (List ℕ)) → length (traceText ls) ≤ textMost
+text-fits ls = rw (← (after-text ls)) (report-fits (valid _ _ _ (never-16 ls)))
