@@ -12,10 +12,10 @@ use borrow.Author.Tests.{eq-eqb, ne-eqb}
 use Rattle.walk.specs.Lines.{wholeLines, usedUp, restOf, lastLine, linesOf}
 use Rattle.walk.proofs.Chunks.{size, rest-drop}
 use Rattle.walk.proofs.Nexts.{Stepped, Rested}
+use Rattle.fields.specs.Part.{fieldOf}
 use Rattle.line.specs.declared.event.Event.{Event as ReadEvent}
 use Rattle.line.specs.declared.reading.Reading.{Reading}
 use Rattle.line.specs.declared.reading.Reading.the-variants.{Version, Comment, TimeScale, Creator, CreationDate, EventLine, Refused}
-use Rattle.line.specs.Part.{fieldOf}
 use Rattle.line.specs.Reading.{readLine}
 use Rattle.rules.specs.declared.place.Place.{Place}
 use Rattle.rules.specs.Trace.{scaleNumber, placed}

@@ -5,10 +5,10 @@ use Prim.Native.Nat.{ℕ, _+_, _-_, _%_, _^_}
 use lib.Dec.{eqb}
 use lib.ListN.{length, set, replicate}
 use Rattle.walk.specs.Lines.{wholeLines, usedUp, linesOf}
+use Rattle.fields.specs.Part.{fieldOf}
 use Rattle.line.specs.declared.event.Event.{Event as ReadEvent}
 use Rattle.line.specs.declared.reading.Reading.{Reading}
 use Rattle.line.specs.declared.reading.Reading.the-variants.{Version, Comment, TimeScale, Creator, CreationDate, EventLine, Refused}
-use Rattle.line.specs.Part.{fieldOf}
 use Rattle.line.specs.Reading.{readLine}
 use Rattle.rules.specs.declared.place.Place.{Place}
 use Rattle.rules.specs.Lists.{ifZero}

@@ -13,7 +13,7 @@ use Rattle.words.specs.declared.pair.Pair.the-variants.{Known, Unknown}
 use Rattle.words.specs.declared.scale.ScaleFound.{ScaleFound}
 use Rattle.words.specs.declared.scale.ScaleFound.the-variants.{ThisScale, NoScale}
 use Rattle.words.specs.Pair.{namedBy}
-use Rattle.line.specs.Part.{partsOf, fieldOf}
+use Rattle.fields.specs.Part.{partsOf, fieldOf}
 use Rattle.line.specs.Note.{maxInstance, noteOf, isWrong}
 use Rattle.line.specs.Rule.{ruleBroken}
 use Rattle.line.specs.Parameter.{isVersion, isVersionLine, isComment, timeScale, isCreator, isCreationDate}

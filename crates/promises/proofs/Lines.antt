@@ -13,7 +13,7 @@ use Rattle.words.specs.declared.scale.Scale.{Scale}
 use Rattle.line.specs.declared.event.Event.{Event as ReadEvent}
 use Rattle.line.specs.declared.reading.Reading.{Reading}
 use Rattle.line.specs.declared.reading.Reading.the-variants.{Version, Comment, TimeScale, Creator, CreationDate, EventLine, Refused}
-use Rattle.line.specs.Part.{fieldOf}
+use Rattle.fields.specs.Part.{fieldOf}
 use Rattle.line.specs.Reading.{readLine}
 use Rattle.line.specs.Condition.{isScale, refuses1, refuses3}
 use Rattle.rules.specs.declared.place.Place.{Place}

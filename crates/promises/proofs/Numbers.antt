@@ -10,7 +10,7 @@ use lib.ListN.{length, set}
 use borrow.Author.Tests.{eqb-true}
 use Rattle.line.specs.declared.reading.Reading.{Reading}
 use Rattle.line.specs.declared.reading.Reading.the-variants.{Version, Comment, TimeScale, Creator, CreationDate, EventLine, Refused}
-use Rattle.line.specs.Part.{fieldOf}
+use Rattle.fields.specs.Part.{fieldOf}
 use Rattle.line.specs.Reading.{readLine}
 use Rattle.line.specs.Answer.{Test, lowest}
 use Rattle.rules.specs.declared.place.Place.{Place}

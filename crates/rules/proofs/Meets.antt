@@ -23,7 +23,7 @@ use Rattle.line.specs.declared.note.Note.{Note}
 use Rattle.line.specs.declared.note.Note.the-variants.{Means, Wrong}
 use Rattle.line.specs.declared.reading.Reading.{Reading}
 use Rattle.line.specs.declared.reading.Reading.the-variants.{Version, Comment, TimeScale, Creator, CreationDate, EventLine, Refused}
-use Rattle.line.specs.Part.{fieldOf}
+use Rattle.fields.specs.Part.{fieldOf}
 use Rattle.line.specs.Note.{maxInstance, asCount, countNote, isSignal, signalNote, noteOf}
 use Rattle.line.specs.Event.{maxTime}
 use Rattle.line.specs.Reading.{readLine}

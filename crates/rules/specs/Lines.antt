@@ -48,7 +48,7 @@ use Rattle.words.specs.declared.action.Action.the-variants.{
 use Rattle.line.specs.declared.event.Event.{Event as ReadEvent}
 use Rattle.line.specs.declared.reading.Reading.{Reading}
 use Rattle.line.specs.declared.reading.Reading.the-variants.{Version, Comment, TimeScale, Creator, CreationDate, EventLine, Refused}
-use Rattle.line.specs.Part.{fieldOf}
+use Rattle.fields.specs.Part.{fieldOf}
 use Rattle.line.specs.Reading.{readLine}
 use Rattle.rules.specs.Words.{task, interrupt, runnable, semaphore}
 use Rattle.rules.specs.Words.{activate, start, preempt, resume, wait, release, terminate, poll, run, park, poll-parking, release-parking, mtalimitexceeded, interrupt-suspended, suspend}

@@ -6,7 +6,7 @@ use lib.Dec.{eqb}
 use lib.ListN.{take}
 use Rattle.text.specs.Pieces.{pieces}
 use Rattle.text.proofs.Tight.{unique, ShutsOut, shut-out}
-use Rattle.line.specs.Part.{partsOf}
+use Rattle.fields.specs.Part.{partsOf}
 use Rattle.line.specs.Event.{eventReading}
 use Rattle.line.specs.Reading.{hasBreak, isEventLine, readLine}
 use Rattle.rules.specs.Trace.{placed}

@@ -19,7 +19,7 @@ use Rattle.words.specs.Scale.{scaleWord, scaleOf}
 use Rattle.words.specs.Kind.{kindWord, kindOf}
 use Rattle.words.specs.Action.{wordOf, actionCode, actionsOf, actionOf, among}
 use Rattle.words.specs.Pair.{namedBy}
-use Rattle.line.specs.Part.{partsOf, fieldOf}
+use Rattle.fields.specs.Part.{partsOf, fieldOf}
 use Rattle.line.specs.Note.{noteOf}
 use Rattle.line.specs.Rule.{isProcess as isProcessLine, zeroSource, zeroTarget, isOwn, sourceBroken, targetBroken, ownBroken, presence, noteBroken, ruleBroken}
 use Rattle.line.specs.Parameter.{isVersion, isVersionLine, isComment, timeScale, isCreator, isCreationDate, otherReading, parameterReading}

@@ -1,14 +1,14 @@
 -- The parts of a line that commas separate, and where they stand.
 use Prim.Native.Nat.{ℕ, zero, suc, _+_, _-_}
 use mathlib.Core.Path.{_≡_}
-use mathlib.Core.Bool.{Bool, true, false, _&&_}
-use mathlib.Core.List.{List, [], _∷_}
+use mathlib.Core.Bool.{Bool, true, false}
+use mathlib.Core.List.{List, []}
 use lib.Dec.{leb}
 use lib.ListN.{length, getD, take, drop}
 use denote.Ref.{RefT, ptr, now}
 use Rattle.text.specs.Bytes.{findFrom}
 use Rattle.text.specs.Pieces.{pieces}
-use Rattle.line.specs.declared.part.Commas.{Commas}
+use Rattle.fields.specs.declared.part.Commas.{Commas}
 
 -- the parts of a line, which commas separate; a line with no comma is one part
 unfoldable pub partsOf : List ℕ → List (List ℕ)
@@ -18,11 +18,6 @@ partsOf l = pieces 44 l
 unfoldable pub fieldOf : List ℕ → ℕ → List ℕ
 fieldOf l zero = []
 fieldOf l (suc k) = getD (partsOf l) k []
-
--- every byte is a comma or one that a name may have, 33 to 126
-unfoldable pub allPlain : List ℕ → Bool
-allPlain [] = true
-allPlain (x ∷ l) = (leb 33 x && leb x 126) && allPlain l
 
 -- ---- where the parts stand
 
@@ -44,10 +39,14 @@ abbrev pub orFirst : Bool → ℕ → ℕ
 orFirst true a = a
 orFirst false a = 0
 
--- where a field starts; a missing one is the empty part at the line's start
+-- where a part is that starts at an index; one that would start past the end is the empty part at the line's start
+abbrev pub partAt : List ℕ → ℕ → ℕ
+partAt l from = orFirst (leb from (length l)) from
+
+-- where a field starts; so a missing one is the empty part at the line's start
 unfoldable pub fieldAt : List ℕ → ℕ → ℕ
 fieldAt l zero = 0
-fieldAt l (suc k) = orFirst (leb (startAt l k) (length l)) (startAt l k)
+fieldAt l (suc k) = partAt l (startAt l k)
 
 -- The reference r is the part of a lent slice that starts at an index and has these bytes: it points into the slice's block of memory, so many bytes
 -- further. To the machine a part is a pointer and a count of bytes, so one answer is left; only the name that the logic gives r is free.
@@ -60,6 +59,11 @@ pub record IsPart (slice : RefT (List ℕ)) (start : ℕ) (part : List ℕ) (r :
 abbrev pub IsField : RefT (List ℕ) → ℕ → RefT (List ℕ) → Type 0
 IsField line k r = IsPart line (fieldAt (now line) k) (fieldOf (now line) k) r
 
+-- what stands after the index a and before the index b, where commas are, or past the end where there are none
+abbrev pub IsBetween : RefT (List ℕ) → ℕ → ℕ → RefT (List ℕ) → Type 0
+IsBetween line a b r = IsPart line (partAt (now line) (suc a)) (partFrom (now line) (suc a) b) r
+
+-- the places of the first eight commas
 abbrev pub commasOf : List ℕ → Commas
 commasOf l = record {
   c1 = commaAt l 0;

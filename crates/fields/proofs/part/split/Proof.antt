@@ -1,10 +1,10 @@
--- `line::part::split` meets its contract: each place found is the next comma's, and none is far enough past the end for a sum to wrap.
+-- `fields::part::split` meets its contract: each place found is the next comma's, and none is far enough past the end for a sum to wrap.
 -- Assumes nothing.
 use native.Mathlib.Omega.{arith}
 use borrow.Author.Needs.{needs}
-use Rattle.line.proofs.Parts.{Place, place-first, place-next}
-use Rattle.line.proofs.part.split.Statement.{statement}
-use Rattle.line.proofs.part.split.Tie as tie
+use Rattle.fields.proofs.Parts.{Place, place-first, place-next}
+use Rattle.fields.proofs.part.split.Statement.{statement}
+use Rattle.fields.proofs.part.split.Tie as tie
 
 -- the places, one after another
 

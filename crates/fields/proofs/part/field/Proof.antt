@@ -1,15 +1,15 @@
--- `line::part::field` meets its contract. The invariant: the `j`-th part starts at `a`, and the one asked for is that or a later one.
+-- `fields::part::field` meets its contract. The invariant: the `j`-th part starts at `a`, and the one asked for is that or a later one.
 -- Assumes nothing.
 use mathlib.Core.Path.{_≡_, refl, sym}
 use Prim.Native.Nat.{_-_, _≤_}
 use native.Mathlib.Omega.{arith}
 use borrow.Author.Needs.{needs}
 use lib.ListN.{length}
-use Rattle.line.specs.Part.{fieldOf, fieldAt, partFrom, startAt}
+use Rattle.fields.specs.Part.{fieldOf, fieldAt, partFrom, startAt}
 use Rattle.text.proofs.Finds.{find-ge, find-le}
-use Rattle.line.proofs.Parts.{From, field-turn, field-stop, field-found, at-turn, at-stop, at-found}
-use Rattle.line.proofs.part.field.Statement.{statement}
-use Rattle.line.proofs.part.field.Tie as tie
+use Rattle.fields.proofs.Parts.{From, field-turn, field-stop, field-found, at-turn, at-stop, at-found}
+use Rattle.fields.proofs.part.field.Statement.{statement}
+use Rattle.fields.proofs.part.field.Tie as tie
 
 abbrev Inv-loop : tie.InvT-loop
 Inv-loop line k a₀ j₀ a j = (1 ≤ j) × (j ≤ k) × (a ≤ length line) × From line (j - 1) a × (a ≡ startAt line (j - 1))

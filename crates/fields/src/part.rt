@@ -1,11 +1,10 @@
 // The parts of a line that commas separate.
 ghost use mathlib.Core.Path.{_≡_};
-ghost use Prim.Native.Nat.{suc};
-ghost use Rattle.line.specs.Part.{IsField, partFrom, commasOf};
+ghost use Rattle.fields.specs.Part.{IsField, IsBetween, commasOf};
 use text::bytes::find;
 
 // The places of a line's first eight commas; where there are fewer, places past its end.
-pub(crate) struct Commas {
+pub struct Commas {
     pub c1: usize,
     pub c2: usize,
     pub c3: usize,
@@ -39,7 +38,7 @@ pub fn field(line: &[u8], k: usize) -> &[u8]
 }
 
 // The commas of a line, found in one walk over it.
-pub(crate) fn split(line: &[u8]) -> Commas
+pub fn split(line: &[u8]) -> Commas
     ensures { λ r. ⌜ r ≡ commasOf (now (line .entry)) ⌝ }
 {
     let c1 = find(line, b',', 0);
@@ -62,9 +61,9 @@ pub(crate) fn split(line: &[u8]) -> Commas
     }
 }
 
-// The part of the line after the place a and before the place b; empty where there is none.
-pub(crate) fn between(line: &[u8], a: usize, b: usize) -> &[u8]
-    ensures { λ r. ⌜ now r ≡ partFrom (now (line .entry)) (suc a) b ⌝ }
+// The part of the line after the place a and before the place b: with the places of a comma and the next the field between them.
+pub fn between(line: &[u8], a: usize, b: usize) -> &[u8]
+    ensures { λ r. ⌜ IsBetween (line .entry) a b r ⌝ }
 {
     let n = line.len();
     if n <= a {
@@ -75,7 +74,7 @@ pub(crate) fn between(line: &[u8], a: usize, b: usize) -> &[u8]
         return &line[from..n];
     }
     if b < from {
-        return &line[0..0];
+        return &line[from..from];
     }
     &line[from..b]
 }

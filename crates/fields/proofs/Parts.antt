@@ -8,6 +8,7 @@ use Prim.Native.Nat.{ℕ, zero, suc, _+_, _-_, _≤_, _<_}
 use native.Mathlib.Nat.{not-suc-le-zero, eq-or-lt-of-le}
 use native.Mathlib.Numerals.{add-one}
 use native.Mathlib.Omega.{arith}
+use denote.Ref.{RefT, now}
 use lib.Dec.{eqb, ltb}
 use lib.ListN.{length, getD, take, drop, length-drop, drop-of-length-le, take-append-drop, List·getD-eq-default}
 use lib.Seq.{take-all, take-nil, take-append-seam, drop-drop, getD-drop}
@@ -18,7 +19,7 @@ use Rattle.text.proofs.Bools.{and-l, and-r, lt-or-ge}
 use Rattle.text.proofs.Finds.{find-ge, find-le}
 use Rattle.text.proofs.Pieces.{pieces-cut, pieces-one, pieces-some, pieces-join, pieces-last, join-pieces, piece-clean, without, joinedBy}
 use Rattle.text.proofs.Names.{name-byte, name-bytes}
-use Rattle.line.specs.Part.{partsOf, fieldOf, partFrom, commaAt, startAt, fieldAt}
+use Rattle.fields.specs.Part.{partsOf, fieldOf, partFrom, commaAt, startAt, partAt, fieldAt, IsField, IsBetween}
 
 -- ---- the first part, and the parts after it
 
@@ -91,20 +92,26 @@ field-found l k j a n e h f g le =
     let p : k ≡ suc (j - 1) = omega arith in
     rw (p, e) (from-here l (j - 1) a f)
 
--- ---- what `between` does: a part that starts past the end or ends before it starts is empty, and none ends past the end
+-- ---- what `between` does: a part that starts past the end or ends before it starts is empty, none ends past the end, and where each starts
 
 pub part-past : (l : List ℕ) (a b : ℕ) → length l ≤ a → partFrom l a b ≡ []
 unfolding partFrom
 part-past l a b h = rw (drop-of-length-le l h, take-nil)
 
-pub part-none : (l : List ℕ) (a b : ℕ) → b ≤ a → partFrom l a b ≡ []
+pub part-none : (l : List ℕ) (a b : ℕ) → b ≤ a → partFrom l a a ≡ partFrom l a b
 unfolding partFrom
-part-none l a b h = let z : b - a ≡ 0 = omega arith in rw z
+part-none l a b h = let y : a - a ≡ 0 = omega arith in let z : b - a ≡ 0 = omega arith in rw (y, z)
 
 pub part-end : (l : List ℕ) (a b : ℕ) → length l ≤ b → partFrom l a (length l) ≡ partFrom l a b
 unfolding partFrom
 part-end l a b h =
     rw (take-all (length l - a) (drop a l) (omega (arith, length-drop a l)), take-all (b - a) (drop a l) (omega (arith, length-drop a l)))
+
+pub at-past : (l : List ℕ) (a : ℕ) → length l ≤ a → partAt l (suc a) ≡ 0
+at-past l a h = rw (lt-leb (suc a) (length l) (omega arith))
+
+pub at-inside : (l : List ℕ) (a : ℕ) → a < length l → partAt l (suc a) ≡ suc a
+at-inside l a h = rw (le-leb (suc a) (length l) h)
 
 -- ---- the commas, one after another
 
@@ -212,6 +219,11 @@ unfolding commaAt
 field-place l k =
     ⊎-elim (λ lt. from-here l (suc k) (suc (commaAt l k)) (after-comma l k lt)) (λ ge. field-missing l (suc k) (comma-missing l k ge) ∙ sym (part-past l (suc (commaAt l k)) (commaAt l (suc k)) (omega arith)))
     (lt-or-ge (commaAt l k) (length l))
+
+-- and the part of a caller's line that stands between two commas is that very field
+pub between-field : (line : RefT (List ℕ)) (k : ℕ) (r : RefT (List ℕ)) → IsBetween line (commaAt (now line) k) (commaAt (now line) (suc k)) r → IsField line (suc (suc k)) r
+unfolding fieldAt
+between-field line k r b = record { block = b .block; place = b .place; bytes = b .bytes ∙ sym (field-place (now line) k) }
 
 -- ---- seven or eight parts
 
