@@ -59,7 +59,7 @@ pub record IsPart (slice : RefT (List ℕ)) (start : ℕ) (part : List ℕ) (r :
 abbrev pub IsField : RefT (List ℕ) → ℕ → RefT (List ℕ) → Type 0
 IsField line k r = IsPart line (fieldAt (now line) k) (fieldOf (now line) k) r
 
--- what stands after the index a and before the index b, where commas are, or past the end where there are none
+-- the part of a line that stands after the index a and before the index b
 abbrev pub IsBetween : RefT (List ℕ) → ℕ → ℕ → RefT (List ℕ) → Type 0
 IsBetween line a b r = IsPart line (partAt (now line) (suc a)) (partFrom (now line) (suc a) b) r
 

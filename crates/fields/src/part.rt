@@ -61,7 +61,7 @@ pub fn split(line: &[u8]) -> Commas
     }
 }
 
-// The part of the line after the place a and before the place b: with the places of a comma and the next the field between them.
+// The part of the line after the place a and before the place b. Between a comma and the next it is the field that stands there.
 pub fn between(line: &[u8], a: usize, b: usize) -> &[u8]
     ensures { λ r. ⌜ IsBetween (line .entry) a b r ⌝ }
 {
