@@ -8,8 +8,8 @@ use lib.ListN.{length}
 use Rattle.rules.specs.Lists.{ifZero}
 use Rattle.rules.specs.Event.{Event}
 use Rattle.rules.specs.Refusals.{Known, timeFalls, secondKind, noRoom, offChart, notNext, coreBroken, countBroken, rules, answerTo}
-use Rattle.tables.specs.Range.{isSized}
-use Rattle.tables.proofs.Valid.{Sizes, sizes-mean}
+use Rattle.tables.specs.Sized.{Sized, isSized}
+use Rattle.tables.proofs.Valid.{sizes-mean}
 use Rattle.decide.specs.declared.sight.Sight.{Sight}
 use Rattle.decide.specs.declared.plan.Plan.the-variants.{Refuse, Take}
 use Rattle.decide.specs.Sight.{sightOf}
@@ -18,7 +18,7 @@ use Rattle.decide.specs.Decide.{planAnswer, enters, planBy, planOf, deci
 
 -- ---- tables of the right sizes
 
-pub decided-sized : {names nums ticks : List ℕ} (e : Event) → Sizes names nums ticks → decided names nums ticks e ≡ planOf names nums ticks e
+pub decided-sized : {names nums ticks : List ℕ} (e : Event) → Sized names nums ticks → decided names nums ticks e ≡ planOf names nums ticks e
 unfolding decided
 decided-sized {names} {nums} {ticks} e s = rw (sizes-mean names nums ticks .shows s)
 

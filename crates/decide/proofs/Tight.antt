@@ -19,7 +19,7 @@ use Rattle.rules.specs.History.{hasInstances, isTracked, activates}
 use Rattle.tables.specs.declared.find.Found.{Found}
 use Rattle.tables.specs.declared.find.Found.the-variants.{At, Nothing}
 use Rattle.tables.specs.Find.{findName}
-use Rattle.tables.specs.Range.{isSized}
+use Rattle.tables.specs.Sized.{isSized}
 use Rattle.decide.specs.declared.happening.Happening.{Happening}
 use Rattle.decide.specs.declared.sight.Sight.{Sight}
 use Rattle.decide.specs.declared.plan.Plan.{Plan}

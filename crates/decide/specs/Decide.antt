@@ -11,7 +11,7 @@ use Rattle.rules.specs.Refusals.{answerTo}
 use Rattle.rules.specs.Rows.{leadsTo, moveBy}
 use Rattle.rules.specs.declared.chart.Move.{Move}
 use Rattle.rules.specs.declared.chart.Move.the-variants.{To, Off}
-use Rattle.tables.specs.Range.{isSized}
+use Rattle.tables.specs.Sized.{isSized}
 use Rattle.decide.specs.declared.sight.Sight.{Sight}
 use Rattle.decide.specs.declared.plan.Plan.{Plan}
 use Rattle.decide.specs.declared.plan.Plan.the-variants.{Refuse, Take}

@@ -8,8 +8,9 @@ use borrow.Author.Tests.{le-leb}
 use Rattle.text.specs.Put.{written}
 use Rattle.text.proofs.Writes.{length-written}
 use Rattle.walk.specs.Lines.{linesOf}
+use Rattle.tables.specs.Sized.{Sized}
 use Rattle.tables.specs.Fresh.{Cleared, clearedOf}
-use Rattle.tables.proofs.Valid.{Sizes, sizes-mean}
+use Rattle.tables.proofs.Valid.{sizes-mean}
 use Rattle.judge.specs.Feed.{Tables, tables, freshTables}
 use Rattle.promises.specs.Fed.{joined}
 use Rattle.sheet.specs.declared.sheet.Printed.{Printed}
@@ -33,7 +34,7 @@ use Rattle.input.proofs.Sizes.{fresh-taken, RightSizes, right-sizes}
 abbrev left : Cleared → Tables
 left x = tables (x .names) (x .nums) (x .ticks)
 
-pub fresh-start : {names nums ticks : List ℕ} {x : Cleared} → Sizes names nums ticks → x ≡ clearedOf names nums ticks → left x ≡ freshTables
+pub fresh-start : {names nums ticks : List ℕ} {x : Cleared} → Sized names nums ticks → x ≡ clearedOf names nums ticks → left x ≡ freshTables
 unfolding clearedOf
 fresh-start {names} {nums} {ticks} s e = ap left e ∙ rw (sizes-mean names nums ticks .shows s)
 

@@ -8,7 +8,7 @@ use lib.Dec.{eqb, leb}
 use lib.ListN.{length, take}
 use Rattle.text.specs.Put.{written}
 use Rattle.walk.specs.Lines.{linesOf}
-use Rattle.tables.specs.Range.{isSized}
+use Rattle.tables.specs.Sized.{isSized}
 use Rattle.judge.specs.Feed.{Tables, tables, freshTables}
 use Rattle.promises.specs.Fed.{joined}
 use Rattle.run.specs.Report.{traceText, textMost}

@@ -6,7 +6,7 @@ use mathlib.Core.List.{List, [], _∷_, _++_}
 use Prim.Native.Nat.{ℕ, zero, suc, _+_, _-_, _≤_, _<_}
 use native.Mathlib.Omega.{arith}
 use lib.Dec.{eqb}
-use lib.ListN.{length, set, take, drop, replicate, length-set, length-drop, length-replicate}
+use lib.ListN.{length, set, take, drop, replicate, length-set, length-drop}
 use lib.Seq.{take-all}
 use borrow.Author.Tests.{eq-eqb, ne-eqb}
 use Rattle.walk.specs.Lines.{wholeLines, usedUp, restOf, lastLine, linesOf}
@@ -21,9 +21,11 @@ use Rattle.rules.specs.declared.place.Place.{Place}
 use Rattle.rules.specs.Trace.{scaleNumber, placed}
 use Rattle.rules.proofs.Tests.{if-some}
 use Rattle.tables.specs.Entry.{namesSize, numsSize, ticksSize, verdictNumber}
-use Rattle.tables.specs.Range.{isSized, tableAnswer}
+use Rattle.tables.specs.Sized.{Sized, isSized}
+use Rattle.tables.specs.Range.{tableAnswer}
 use Rattle.tables.specs.Fresh.{Cleared, cleared, clearedOf}
-use Rattle.tables.proofs.Valid.{Sizes, valid, sizes-mean}
+use Rattle.tables.proofs.Valid.{valid, sizes-mean}
+use Rattle.tables.proofs.Zeros.{fresh-valid}
 use Rattle.decide.specs.declared.happening.Happening.{Happening}
 use Rattle.decide.specs.declared.plan.Plan.{Plan}
 use Rattle.decide.specs.declared.plan.Plan.the-variants.{Refuse, Take}
@@ -113,18 +115,19 @@ unfolding allLined
 allLined-alike t [] = same t
 allLined-alike t (l ∷ ls) = chain (lined-alike t l) (allLined-alike (lined t l .left) ls)
 
--- the sizes that the format gives
-abbrev pub Sized : Tables → Type 0
-Sized t = (length (t .names) ≡ namesSize) × ((length (t .nums) ≡ numsSize) × (length (t .ticks) ≡ ticksSize))
+pub alike-sized : {t u : Tables} → Alike t u → Sized (t .names) (t .nums) (t .ticks) → Sized (u .names) (u .nums) (u .ticks)
+alike-sized a s = record { names-size = a .names-kept ∙ s .names-size; nums-size = a .nums-kept ∙ s .nums-size; ticks-size = a .ticks-kept ∙ s .ticks-size }
 
-pub alike-sized : {t u : Tables} → Alike t u → Sized t → Sized u
-alike-sized a s = (a .names-kept ∙ s .0, (a .nums-kept ∙ s .1 .0, a .ticks-kept ∙ s .1 .1))
+pub sized-alike : (t u : Tables) → Sized (t .names) (t .nums) (t .ticks) → Sized (u .names) (u .nums) (u .ticks) → Alike t u
+sized-alike t u s z =
+    record {
+      names-kept = z .names-size ∙ sym (s .names-size);
+      nums-kept = z .nums-size ∙ sym (s .nums-size);
+      ticks-kept = z .ticks-size ∙ sym (s .ticks-size);
+    }
 
-pub sized-alike : (t u : Tables) → Sized t → Sized u → Alike t u
-sized-alike t u s z = record { names-kept = z .0 ∙ sym (s .0); nums-kept = z .1 .0 ∙ sym (s .1 .0); ticks-kept = z .1 .1 ∙ sym (s .1 .1) }
-
-pub fresh-sized : {t : Tables} → t ≡ freshTables → Sized t
-fresh-sized e = rw e (length-replicate {A = ℕ} namesSize 0, (length-replicate {A = ℕ} numsSize 0, length-replicate {A = ℕ} ticksSize 0))
+pub fresh-sized : {t : Tables} → t ≡ freshTables → Sized (t .names) (t .nums) (t .ticks)
+fresh-sized e = rw e (fresh-valid .sizes)
 
 -- what a call left is as its contract says
 left-alike : {t : Tables} {x y : After} → x ≡ y → Alike t (y .left) → Alike t (x .left)
@@ -139,21 +142,19 @@ same-tables p q r = rw (p, q, r)
 -- ---- an event line
 
 module _ (t : Tables) where
-  sizes : Sized t → Sizes (t .names) (t .nums) (t .ticks)
-  sizes z = record { names-size = z .0; nums-size = z .1 .0; ticks-size = z .1 .1 }
-
   pub refused-carried : {p : Plan} {r n : ℕ} {m : List ℕ} (h : Happening) (source target : List ℕ) → p ≡ Refuse n → r ≡ n → m ≡ remembered (t .nums) n
       → after r (t .names) m (t .ticks) ≡ carried p t h source target
   refused-carried h source target p r m = rw (p, r, m)
 
-  pub taken-carried : {p : Plan} {s : Sight} {state : ℕ} {u : Tables} (h : Happening) (source target : List ℕ) → Sized t → p ≡ Take s state
+  pub taken-carried : {p : Plan} {s : Sight} {state : ℕ} {u : Tables} (h : Happening) (source target : List ℕ) → Sized (t .names) (t .nums) (t .ticks) → p ≡ Take s state
       → u ≡ stored t s state h source target → after 0 (u .names) (u .nums) (u .ticks) ≡ carried p t h source target
-  taken-carried {s = s} {state} h source target z p q = rw (p, q, stored-sized t s state h source target (sizes z))
+  taken-carried {s = s} {state} h source target z p q = rw (p, q, stored-sized t s state h source target z)
 
-  pub carried-lined : {p : Plan} {h : Happening} {source target : List ℕ} (l : List ℕ) (e : ReadEvent) (count : ℕ) → Sized t → h ≡ happeningOf e count → source ≡ fieldOf l 2 → target ≡ fieldOf l 5
+  pub carried-lined : {p : Plan} {h : Happening} {source target : List ℕ} (l : List ℕ) (e : ReadEvent) (count : ℕ) → Sized (t .names) (t .nums) (t .ticks) → h ≡ happeningOf e count
+      → source ≡ fieldOf l 2 → target ≡ fieldOf l 5
       → p ≡ decided (t .names) (t .nums) (t .ticks) (asEvent h source target) → carried p t h source target ≡ eventLined t l e count
   unfolding eventLined
-  carried-lined {h = h} {source} {target} l e count z ph ps pt pp = rw (pp, decided-sized (asEvent h source target) (sizes z), ph, ps, pt)
+  carried-lined {h = h} {source} {target} l e count z ph ps pt pp = rw (pp, decided-sized (asEvent h source target) z, ph, ps, pt)
 
 -- ---- a line
 
@@ -180,10 +181,8 @@ module _ (t : Tables) where
   abbrev answer : ℕ
   answer = tableAnswer (t .names) (t .nums) (t .ticks)
 
-  pub sized : {r : ℕ} → r ≡ answer → r ≡ 0 → Sized t
-  sized e z =
-      let v = valid (t .names) (t .nums) (t .ticks) (sym e ∙ z) .sizes in
-      (v .names-size, (v .nums-size, v .ticks-size))
+  pub sized : {r : ℕ} → r ≡ answer → r ≡ 0 → Sized (t .names) (t .nums) (t .ticks)
+  sized e z = valid (t .names) (t .nums) (t .ticks) (sym e ∙ z) .sizes
 
   pub refused-fed : {r : ℕ} (l : List ℕ) → r ≡ answer → (r ≡ 0 → ⊥) → after r (t .names) (t .nums) (t .ticks) ≡ fedLine t l
   unfolding fedLine
@@ -302,10 +301,8 @@ module _ (t : Tables) where
     unfolding clearedOf
     fresh-start e z = fresh-by fits e z
 
-  pub fits-sized : fits ≡ true → Sized t
-  fits-sized f =
-      let z = sizes-mean (t .names) (t .nums) (t .ticks) .holds f in
-      (z .names-size, (z .nums-size, z .ticks-size))
+  pub fits-sized : fits ≡ true → Sized (t .names) (t .nums) (t .ticks)
+  fits-sized f = sizes-mean (t .names) (t .nums) (t .ticks) .holds f
 
   pub judged-trace : {u : Tables} {v : Verdict} (s : List ℕ) → fits ≡ true → u ≡ allLined freshTables (linesOf s) → v ≡ verdictIn (u .nums) (u .ticks)
       → traced v (u .names) (u .nums) (u .ticks) ≡ judgedTrace t s

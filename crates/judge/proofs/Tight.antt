@@ -15,7 +15,8 @@ use Rattle.line.specs.Parameter.{isVersion, isVersionLine, isComment, parameter
 use Rattle.line.specs.Reading.{hasBreak, isEventLine, readLine}
 use Rattle.rules.specs.Trace.{placed}
 use Rattle.tables.specs.Entry.{lineCount}
-use Rattle.tables.specs.Range.{isSized, tableAnswer}
+use Rattle.tables.specs.Sized.{isSized}
+use Rattle.tables.specs.Range.{tableAnswer}
 use Rattle.tables.proofs.Zeros.{fresh-answer}
 use Rattle.judge.specs.declared.feed.Verdict.{Verdict}
 use Rattle.judge.specs.Feed.{Tables, tables, After, placeIn, counted, placedLine, lined, fedLine, allLined, AfterChunk, fedChunk, verdictIn, verdictOf, freshTables}

@@ -15,7 +15,8 @@ use Rattle.rules.specs.Lists.{ifZero}
 use Rattle.rules.specs.Trace.{scaleNumber, placed}
 pub use Rattle.tables.specs.Entry.{Tables, tables}
 use Rattle.tables.specs.Entry.{verdictIndex, verdictLineIndex, linesIndex, scaleIndex, creatorIndex, dateIndex, namesSize, numsSize, ticksSize, verdictNumber, verdictLine, lineCount, scaleEntry, creatorEntry, dateEntry, startedEntry, firstTime, lastTime}
-use Rattle.tables.specs.Range.{isSized, tableAnswer}
+use Rattle.tables.specs.Sized.{isSized}
+use Rattle.tables.specs.Range.{tableAnswer}
 use Rattle.decide.specs.declared.happening.Happening.{Happening}
 use Rattle.decide.specs.declared.plan.Plan.{Plan}
 use Rattle.decide.specs.declared.plan.Plan.the-variants.{Refuse, Take}

@@ -3,7 +3,8 @@ ghost use mathlib.Core.Path.{_≡_};
 ghost use Prim.Native.Nat.{_-_, _<_};
 ghost use lib.ListN.{length, set};
 ghost use Rattle.walk.specs.Lines.{wholeLines, usedUp};
-ghost use Rattle.tables.specs.Entry.{firstTime, lastTime, namesSize, numsSize, ticksSize};
+ghost use Rattle.tables.specs.Entry.{firstTime, lastTime, numsSize, ticksSize};
+ghost use Rattle.tables.specs.Sized.{Sized};
 ghost use Rattle.judge.specs.Feed.{tables, after, placeIn, remembered, counted, eventLined, readLined, lined, fedLine, allLined, chunked, fedChunk, verdictIn, verdictOf, traced, judgedTrace};
 use decide::happening::to_rules;
 use decide::plan::Plan;
@@ -87,7 +88,7 @@ fn event_in(
     e: Event,
     count: u32,
 ) -> u32
-    requires { ⌜ (length (now names) ≡ namesSize) × ((length (now nums) ≡ numsSize) × (length (now ticks) ≡ ticksSize)) ⌝ }
+    requires { ⌜ Sized (now names) (now nums) (now ticks) ⌝ }
     ensures { λ r. ⌜ after r (now (names .exit)) (now (nums .exit)) (now (ticks .exit)) ≡ eventLined (tables (now (names .entry)) (now (nums .entry)) (now (ticks .entry))) (now (l .entry)) e count ⌝ }
 {
     let h = to_rules(e, count);
@@ -105,7 +106,7 @@ fn event_in(
 
 // A line that none of 1 to 7 refuses.
 fn read_in(names: &mut [u8], nums: &mut [u32], ticks: &mut [u64], l: &[u8], r: Reading) -> u32
-    requires { ⌜ (length (now names) ≡ namesSize) × ((length (now nums) ≡ numsSize) × (length (now ticks) ≡ ticksSize)) ⌝ }
+    requires { ⌜ Sized (now names) (now nums) (now ticks) ⌝ }
     ensures { λ n. ⌜ after n (now (names .exit)) (now (nums .exit)) (now (ticks .exit)) ≡ readLined r (tables (now (names .entry)) (now (nums .entry)) (now (ticks .entry))) (now (l .entry)) ⌝ }
 {
     match r {
@@ -121,7 +122,7 @@ fn read_in(names: &mut [u8], nums: &mut [u32], ticks: &mut [u64], l: &[u8], r: R
 
 // A line against tables of the right sizes.
 fn line_in(names: &mut [u8], nums: &mut [u32], ticks: &mut [u64], l: &[u8]) -> u32
-    requires { ⌜ (length (now names) ≡ namesSize) × ((length (now nums) ≡ numsSize) × (length (now ticks) ≡ ticksSize)) ⌝ }
+    requires { ⌜ Sized (now names) (now nums) (now ticks) ⌝ }
     ensures { λ r. ⌜ after r (now (names .exit)) (now (nums .exit)) (now (ticks .exit)) ≡ lined (tables (now (names .entry)) (now (nums .entry)) (now (ticks .entry))) (now (l .entry)) ⌝ }
 {
     let v = nums[VERDICT];
@@ -149,7 +150,7 @@ pub fn feed(names: &mut [u8], nums: &mut [u32], ticks: &mut [u64], l: &[u8]) -> 
 
 // Every whole line of a chunk in turn, and how many bytes they took.
 fn lines_in(names: &mut [u8], nums: &mut [u32], ticks: &mut [u64], chunk: &[u8]) -> usize
-    requires { ⌜ (length (now names) ≡ namesSize) × ((length (now nums) ≡ numsSize) × (length (now ticks) ≡ ticksSize)) ⌝ }
+    requires { ⌜ Sized (now names) (now nums) (now ticks) ⌝ }
     ensures { λ r. ⌜ (r ≡ usedUp (now (chunk .entry))) × (tables (now (names .exit)) (now (nums .exit)) (now (ticks .exit)) ≡ allLined (tables (now (names .entry)) (now (nums .entry)) (now (ticks .entry))) (wholeLines (now (chunk .entry)))) ⌝ }
 {
     let mut at = 0;

@@ -18,7 +18,7 @@ use Rattle.rules.specs.Trace.{placeOf, atEnd, takenLines}
 use Rattle.rules.specs.Lawful.{SoFar, Lawful}
 use Rattle.rules.proofs.Traces.{Kept, kept-before, Why, FirstRefused, Names, at-line, at-end, taken-sound}
 use Rattle.rules.proofs.Lawful.{kept-so-far, sound-lawful}
-use Rattle.tables.specs.Range.{isSized}
+use Rattle.tables.specs.Sized.{isSized}
 use Rattle.judge.specs.Feed.{Tables, judgedTrace}
 use Rattle.promises.proofs.Judged.{judge-sound, judge-names-first}
 

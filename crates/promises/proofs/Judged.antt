@@ -12,7 +12,8 @@ use Rattle.walk.specs.Lines.{wholeLines, linesOf}
 use Rattle.walk.proofs.Chunks.{whole-anew}
 use Rattle.rules.specs.Trace.{takenLines, verdictOn, Sound}
 use Rattle.rules.proofs.Traces.{nothing-kept, number-sound, Names, verdict-names-first, taken-sound}
-use Rattle.tables.specs.Range.{isSized, tableAnswer}
+use Rattle.tables.specs.Sized.{isSized}
+use Rattle.tables.specs.Range.{tableAnswer}
 use Rattle.judge.specs.Feed.{Tables, After, lined, fedLine, allLined, fedChunk, verdictIn, verdictOf, freshTables, judgedTrace}
 use Rattle.judge.proofs.Feeds.{allLined-append}
 use Rattle.promises.specs.Fed.{refusalOn, allFed, chunksFed, joined, AtLineEnds}

@@ -31,7 +31,7 @@ use Rattle.rules.specs.History.{hasInstances, isTracked, named, kindIn, activat
 use Rattle.rules.specs.Refusals.{timeFalls, secondKind, sourceClash, targetClash, noRoom, offChart, notNext, coreBroken, countFollows, fixed, countBroken, rules, answerTo}
 use Rattle.rules.specs.Lines.{kindNumber, wordNumber, eventOfLine, eventsOf}
 use Rattle.rules.specs.Trace.{scaleNumber, placeOf, tooMuch, versionWrong, parameterWrong, unscaled, placeTests, answerInPlace, answerAt, atEnd, verdictOn}
-use Rattle.tables.specs.Range.{isSized}
+use Rattle.tables.specs.Sized.{isSized}
 use Rattle.tables.proofs.Valid.{sizes-mean}
 use Rattle.tables.proofs.Zeros.{fresh-valid}
 use Rattle.judge.specs.Feed.{Tables, freshTables, AfterTrace, judgedTrace}

@@ -24,7 +24,8 @@ use Rattle.rules.specs.Lists.{member, ifZero}
 use Rattle.rules.specs.Event.{Event}
 use Rattle.tables.specs.Entry.{verdictNumber}
 use Rattle.tables.specs.Fresh.{cleared, clearedOf}
-use Rattle.tables.specs.Range.{isSized, tableAnswer}
+use Rattle.tables.specs.Sized.{isSized}
+use Rattle.tables.specs.Range.{tableAnswer}
 use Rattle.tables.proofs.Valid.{valid, three-answers}
 use Rattle.tables.proofs.Zeros.{clear-answers, clear-kept}
 use Rattle.decide.specs.Decide.{planAnswer, decided}

@@ -13,8 +13,9 @@ use Rattle.rules.specs.Words.{core, semaphore}
 use Rattle.rules.specs.Event.{Event}
 use Rattle.rules.specs.History.{hasInstances, activates}
 use Rattle.tables.specs.Entry.{Tables, tables, startedEntry, nameCount, firstTime}
+use Rattle.tables.specs.Sized.{Sized}
 use Rattle.tables.proofs.Stores.{other}
-use Rattle.tables.proofs.Valid.{Sizes, sizes-mean}
+use Rattle.tables.proofs.Valid.{sizes-mean}
 use Rattle.decide.specs.declared.happening.Happening.{Happening}
 use Rattle.decide.specs.declared.sight.Sight.{Sight}
 use Rattle.decide.specs.Happening.{asEvent}
@@ -23,7 +24,7 @@ use Rattle.store.specs.Store.{coreRow, targetRow, instanceRow, storeName
 
 -- ---- tables of the right sizes
 
-pub stored-sized : (t : Tables) (s : Sight) (state : ℕ) (h : Happening) (source target : List ℕ) → Sizes (t .names) (t .nums) (t .ticks)
+pub stored-sized : (t : Tables) (s : Sight) (state : ℕ) (h : Happening) (source target : List ℕ) → Sized (t .names) (t .nums) (t .ticks)
     → stored t s state h source target ≡ tables (takenNames (t .names) (t .nums) s (asEvent h source target)) (takenNums (t .nums) s state h (length source) (length target)) (takenTicks (t .ticks) (t .nums) s (h .kind) (h .time))
 unfolding stored
 stored-sized t s state h source target z = rw (sizes-mean (t .names) (t .nums) (t .ticks) .shows z)

@@ -14,7 +14,7 @@ use Rattle.tables.specs.declared.find.Found.the-variants.{At, Nothing}
 use Rattle.tables.specs.Entry.{Tables, tables, storeAt, nameRows, instanceRows, nameRoom, linesIndex, startedIndex, namesIndex, coresIndex, instancesIndex, firstIndex, lastIndex}
 use Rattle.tables.specs.Entry.{kindColumn, lengthColumn, markColumn, numberColumn, numberedColumn, ownerColumn, instanceColumn, stateColumn, heldColumn, idleColumn, unknownColumn, sinceColumn}
 use Rattle.tables.specs.Entry.{lineCount, startedEntry, nameCount, coreCount, instanceCount, firstTime, heldAt, idleAt, sinceAt}
-use Rattle.tables.specs.Range.{isSized}
+use Rattle.tables.specs.Sized.{isSized}
 use Rattle.decide.specs.declared.happening.Happening.{Happening}
 use Rattle.decide.specs.declared.sight.Sight.{Sight}
 use Rattle.decide.specs.Happening.{asEvent}

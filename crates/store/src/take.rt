@@ -5,6 +5,7 @@ ghost use Prim.Native.Nat.{_+_, _-_};
 ghost use lib.Dec.{eqb};
 ghost use lib.ListN.{length};
 ghost use Rattle.tables.specs.Entry.{tables, namesSize, numsSize, ticksSize};
+ghost use Rattle.tables.specs.Sized.{Sized};
 ghost use Rattle.decide.specs.Happening.{asEvent};
 ghost use Rattle.decide.specs.Known.{newCore, newName, newInstance};
 ghost use Rattle.store.specs.Store.{coreRow, targetRow, instanceRow, storeName, storeRow, storeSums, storeInstance, storeMark, storeNumber, takenNames, withRows, withTarget, withCore, withHeads, takenNums, settled, withTimes, withSums, takenTicks, stored};
@@ -351,7 +352,7 @@ fn take_in(
     source: &[u8],
     target: &[u8],
 )
-    requires { ⌜ (length (now names) ≡ namesSize) × ((length (now nums) ≡ numsSize) × (length (now ticks) ≡ ticksSize)) ⌝ }
+    requires { ⌜ Sized (now names) (now nums) (now ticks) ⌝ }
     ensures { λ _. ⌜ (now (names .exit) ≡ takenNames (now (names .entry)) (now (nums .entry)) s (asEvent h (now (source .entry)) (now (target .entry)))) × ((now (nums .exit) ≡ takenNums (now (nums .entry)) s state h (length (now (source .entry))) (length (now (target .entry)))) × (now (ticks .exit) ≡ takenTicks (now (ticks .entry)) (now (nums .entry)) s (h .kind) (h .time))) ⌝ }
 {
     take_names(names, nums, s, h, source, target);

@@ -15,15 +15,11 @@ use Rattle.rules.specs.History.{hasInstances}
 use Rattle.tables.specs.Entry.{namesSize, numsSize, ticksSize}
 use Rattle.tables.specs.Entry.{verdictNumber, verdictLine, lineCount, scaleEntry, creatorEntry, dateEntry, startedEntry, nameCount, coreCount, instanceCount}
 use Rattle.tables.specs.Entry.{kindAt, lengthAt, markAt, numberedAt, ownerAt, stateAt, firstTime, lastTime, heldAt, idleAt, unknownAt, sinceAt, nameAt}
-use Rattle.tables.specs.Range.{isSized, headsOk, countsOk, timesOk, markOk, maxSum, sumsOk, bytesOk, nameOk, instanceOk, inRange, tableAnswer}
+use Rattle.tables.specs.Sized.{Sized, isSized}
+use Rattle.tables.specs.Range.{headsOk, countsOk, timesOk, markOk, maxSum, sumsOk, bytesOk, nameOk, instanceOk, inRange, tableAnswer}
 use Rattle.tables.proofs.Means.{Means, means-le, means-lt, means-eq, means-true, means-and, means-up, means-as, fails}
 
 -- ---- what is in range
-
-pub record Sizes (names nums ticks : List ℕ) : Type 0 where
-  pub names-size : length names ≡ namesSize
-  pub nums-size : length nums ≡ numsSize
-  pub ticks-size : length ticks ≡ ticksSize
 
 pub record NameRow (names nums ticks : List ℕ) (i : ℕ) : Type 0 where
   pub kind-some : core ≤ kindAt nums i
@@ -44,7 +40,7 @@ pub record InstanceRow (nums : List ℕ) (j : ℕ) : Type 0 where
   pub state : isStateOf (chartOf (kindAt nums (ownerAt nums j))) (stateAt nums j) ≡ true
 
 pub record Valid (names nums ticks : List ℕ) : Type 0 where
-  pub sizes : Sizes names nums ticks
+  pub sizes : Sized names nums ticks
   pub verdict : verdictNumber nums ≤ 14
   pub verdict-line : verdictLine nums ≤ 1000000001
   pub lines : lineCount nums ≤ 1000000000
@@ -62,7 +58,7 @@ pub record Valid (names nums ticks : List ℕ) : Type 0 where
 
 -- ---- what the tests mean
 
-pub sizes-mean : (names nums ticks : List ℕ) → Means (isSized (length names) (length nums) (length ticks)) (Sizes names nums ticks)
+pub sizes-mean : (names nums ticks : List ℕ) → Means (isSized (length names) (length nums) (length ticks)) (Sized names nums ticks)
 unfolding isSized
 sizes-mean names nums ticks =
     means-as (means-and (means-eq (length names) namesSize) (means-and (means-eq (length nums) numsSize) (means-eq (length ticks) ticksSize)))
@@ -131,7 +127,7 @@ instance-mean nums j =
     (λ r. (r .owner, (r .owner-kind, r .state)))
 
 module _ (names nums ticks : List ℕ) where
-  range-mean : Sizes names nums ticks → Means (inRange names nums ticks) (Valid names nums ticks)
+  range-mean : Sized names nums ticks → Means (inRange names nums ticks) (Valid names nums ticks)
   unfolding inRange
   range-mean s =
       means-as
@@ -198,10 +194,10 @@ module _ (names nums ticks : List ℕ) where
   unfolding tableAnswer
   three-answers = answer-some (isSized (length names) (length nums) (length ticks)) (inRange names nums ticks)
 
-  pub answer-unsized : tableAnswer names nums ticks ≡ 15 → Sizes names nums ticks → ⊥
+  pub answer-unsized : tableAnswer names nums ticks ≡ 15 → Sized names nums ticks → ⊥
   unfolding tableAnswer
   answer-unsized e s = answer-15 (isSized (length names) (length nums) (length ticks)) (inRange names nums ticks) e (sizes-mean names nums ticks .shows s)
 
-  pub unsized-answer : (Sizes names nums ticks → ⊥) → tableAnswer names nums ticks ≡ 15
+  pub unsized-answer : (Sized names nums ticks → ⊥) → tableAnswer names nums ticks ≡ 15
   unfolding tableAnswer
   unsized-answer h = rw (fails (sizes-mean names nums ticks) h)

@@ -9,9 +9,10 @@ use lib.ListN.{length, getD, set, drop, replicate, length-set, length-replicate}
 use lib.Seq.{drop-length}
 use borrow.Author.Fill.{fill-none, fill-more}
 use Rattle.tables.specs.Entry.{namesSize, numsSize, ticksSize}
-use Rattle.tables.specs.Range.{isSized, tableAnswer}
+use Rattle.tables.specs.Sized.{Sized, isSized}
+use Rattle.tables.specs.Range.{tableAnswer}
 use Rattle.tables.specs.Fresh.{Cleared, cleared, clearedOf}
-use Rattle.tables.proofs.Valid.{Sizes, Valid, sizes-mean, answers}
+use Rattle.tables.proofs.Valid.{Valid, sizes-mean, answers}
 
 -- ---- the loop: the first i entries of d are 0, the rest are as they were
 
@@ -49,7 +50,7 @@ entry-zero (suc n) (suc i) = entry-zero n i
 length-zeros : (n : ℕ) → length (zeros n) ≡ n
 length-zeros n = length-replicate n 0
 
-zeros-valid : (names nums ticks : List ℕ) → Sizes names nums ticks → ((i : ℕ) → getD nums i 0 ≡ 0) → ((i : ℕ) → getD ticks i 0 ≡ 0) → Valid names nums ticks
+zeros-valid : (names nums ticks : List ℕ) → Sized names nums ticks → ((i : ℕ) → getD nums i 0 ≡ 0) → ((i : ℕ) → getD ticks i 0 ≡ 0) → Valid names nums ticks
 zeros-valid names nums ticks s n t =
     record {
       sizes = s;

@@ -11,12 +11,10 @@ use Rattle.rules.specs.Words.{core, semaphore}
 use Rattle.rules.specs.Chart.{isStateOf}
 use Rattle.rules.specs.Charts.{isProcess, chartOf}
 use Rattle.rules.specs.History.{hasInstances}
-use Rattle.tables.specs.Entry.{nameRows, instanceRows, nameRoom, namesSize, numsSize, ticksSize}
+use Rattle.tables.specs.Entry.{nameRows, instanceRows, nameRoom, numsSize}
 use Rattle.tables.specs.Entry.{verdictNumber, verdictLine, lineCount, scaleEntry, creatorEntry, dateEntry, startedEntry, nameCount, coreCount, instanceCount}
 use Rattle.tables.specs.Entry.{kindAt, lengthAt, markAt, numberedAt, ownerAt, stateAt, firstTime, lastTime, heldAt, idleAt, unknownAt, sinceAt, nameAt}
-
-unfoldable pub isSized : ℕ → ℕ → ℕ → Bool
-isSized names nums ticks = eqb names namesSize && (eqb nums numsSize && eqb ticks ticksSize)
+use Rattle.tables.specs.Sized.{isSized}
 
 -- the verdict is one of 0 to 14, at a line up to the one past the last; at most 1,000,000,000 lines; the line level's entries
 unfoldable pub headsOk : List ℕ → Bool

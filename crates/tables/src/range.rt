@@ -2,7 +2,8 @@
 ghost use mathlib.Core.Path.{_≡_};
 ghost use Prim.Native.Nat.{_<_, _≤_};
 ghost use lib.ListN.{length};
-ghost use Rattle.tables.specs.Range.{isSized, Counted, countsOk, headsOk, timesOk, holderOk, coreOk, markOk, sumsOk, bytesOk, nameOk, instanceOk, upTo, inRange, tableAnswer};
+ghost use Rattle.tables.specs.Sized.{Sized, isSized};
+ghost use Rattle.tables.specs.Range.{Counted, countsOk, headsOk, timesOk, holderOk, coreOk, markOk, sumsOk, bytesOk, nameOk, instanceOk, upTo, inRange, tableAnswer};
 ghost use Rattle.tables.specs.Entry.{namesSize, numsSize, ticksSize, nameRows, instanceRows};
 use crate::entry::*;
 use crate::state::is_process;
@@ -119,7 +120,7 @@ fn bytes_ok(names: &[u8], nums: &[u32], i: usize) -> bool
 
 // The whole row of name i.
 fn name_ok(names: &[u8], nums: &[u32], ticks: &[u64], i: usize) -> bool
-    requires { ⌜ (i < nameRows) × ((length (now names) ≡ namesSize) × ((length (now ticks) ≡ ticksSize) × Counted (now nums))) ⌝ }
+    requires { ⌜ (i < nameRows) × (Sized (now names) (now nums) (now ticks) × Counted (now nums)) ⌝ }
     ensures { λ r. ⌜ r ≡ nameOk (now (names .entry)) (now (nums .entry)) (now (ticks .entry)) i ⌝ }
 {
     let kind = nums[KIND + i];
@@ -142,7 +143,7 @@ fn instance_ok(nums: &[u32], j: usize) -> bool
 }
 
 fn names_ok(names: &[u8], nums: &[u32], ticks: &[u64], n: usize) -> bool
-    requires { ⌜ (n ≤ nameRows) × ((length (now names) ≡ namesSize) × ((length (now ticks) ≡ ticksSize) × Counted (now nums))) ⌝ }
+    requires { ⌜ (n ≤ nameRows) × (Sized (now names) (now nums) (now ticks) × Counted (now nums)) ⌝ }
     ensures { λ r. ⌜ r ≡ upTo (nameOk (now (names .entry)) (now (nums .entry)) (now (ticks .entry))) n ⌝ }
 {
     let mut i = 0;
@@ -171,7 +172,7 @@ fn instances_ok(nums: &[u32], n: usize) -> bool
 
 // Whether every entry is in its range. The counts are tested first, since they tell how many rows there are to test.
 fn in_range(names: &[u8], nums: &[u32], ticks: &[u64]) -> bool
-    requires { ⌜ (length (now names) ≡ namesSize) × ((length (now nums) ≡ numsSize) × (length (now ticks) ≡ ticksSize)) ⌝ }
+    requires { ⌜ Sized (now names) (now nums) (now ticks) ⌝ }
     ensures { λ r. ⌜ r ≡ inRange (now (names .entry)) (now (nums .entry)) (now (ticks .entry)) ⌝ }
 {
     if !counts_ok(nums) {
