@@ -27,7 +27,7 @@ use Rattle.decide.specs.Sight.{coreClass}
 use Rattle.judge.specs.Feed.{Tables}
 use Rattle.promises.specs.Places.{rowOf}
 use Rattle.promises.specs.Shown.{Shown, OtherTicks, openTicks, openCharge}
-use Rattle.promises.proofs.TickEntries.{Sums, sums, sumsAt, targetSettled}
+use Rattle.promises.proofs.TickStores.{Sums, sums, sumsAt, targetSettled}
 use Rattle.promises.proofs.Turns.{Turn, first, took, gave, kept, turn, held-core, holder-named}
 use Rattle.promises.proofs.TickRows.{ticksBefore, sinceSettled, ticksAfter}
 use Rattle.promises.proofs.TickRows.{core-tracked, giving-on-core, accepted-next, name-kept, source-first, source-settled, other-next}

@@ -26,7 +26,8 @@ use Rattle.judge.specs.Feed.{Tables}
 use Rattle.promises.specs.Places.{rowOf}
 use Rattle.promises.specs.Shown.{Shown, CoreTicks, openTicks}
 use Rattle.promises.proofs.Grown.{name-kind, core-known}
-use Rattle.promises.proofs.TickEntries.{Sums, sumsAt, unknownBefore}
+use Rattle.promises.proofs.TickStores.{Sums, sumsAt}
+use Rattle.promises.proofs.TickEntries.{unknownBefore}
 use Rattle.promises.proofs.Turns.{Turn, first, took, gave, kept, turn, idle-core, held-core}
 use Rattle.promises.proofs.TickRows.{ticksAfter, accepted-next, name-old, name-kept, source-first, source-settled}
 use Rattle.promises.proofs.OpenTicks.{absent-unknown, absent-before, not-target, until-event, unsettled, anew}

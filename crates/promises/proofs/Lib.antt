@@ -11,9 +11,11 @@ pub mod Bounds
 pub mod Ranges
 pub mod Columns
 pub mod Entries
+pub mod NameEntries
 pub mod Rows
 pub mod Names
 pub mod Instances
+pub mod TickStores
 pub mod TickEntries
 pub mod Turns
 pub mod TickRows

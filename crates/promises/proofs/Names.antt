@@ -36,7 +36,7 @@ use Rattle.promises.proofs.Grown.NameFrom.{before, as-source, as-target
 use Rattle.promises.proofs.Lookups.{new-core, new-name, target-row}
 use Rattle.promises.proofs.Untold.{semaphore-tracked, activates-instances, no-number, no-count}
 use Rattle.promises.proofs.Holders.{holder-listed}
-use Rattle.promises.proofs.Entries.{name-kept, name-of-core, name-of-target}
+use Rattle.promises.proofs.NameEntries.{name-kept, name-of-core, name-of-target}
 use Rattle.promises.proofs.Rows.{row-bound, at-new-core, at-new-target, orOld, kind-at, mark-at, number-at, numbered-at}
 
 -- ---- what is new, and what is not

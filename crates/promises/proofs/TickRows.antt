@@ -35,7 +35,8 @@ use Rattle.promises.proofs.Grown.{NameFrom, before, as-source, as-targe
 use Rattle.promises.proofs.Grown.{newTarget, name-stays, source-named, target-named, name-from, row-stays}
 use Rattle.promises.proofs.Lookups.{new-core, new-name, core-row, target-row}
 use Rattle.promises.proofs.Rows.{row-bound}
-use Rattle.promises.proofs.TickEntries.{Sums, sums, sumsAt, coreSettled, targetSettled, unknownBefore, Rows}
+use Rattle.promises.proofs.TickStores.{Sums, sums, sumsAt, coreSettled, targetSettled}
+use Rattle.promises.proofs.TickEntries.{unknownBefore, Rows}
 use Rattle.promises.proofs.TickEntries.{last-taken, core-new, core-settled, target-settled, row-kept}
 
 -- the ticks of a name, none where it is new
