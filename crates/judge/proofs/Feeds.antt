@@ -20,7 +20,7 @@ use Rattle.line.specs.Reading.{readLine}
 use Rattle.rules.specs.declared.place.Place.{Place}
 use Rattle.rules.specs.Trace.{scaleNumber, placed}
 use Rattle.rules.proofs.Tests.{if-some}
-use Rattle.tables.specs.Entry.{namesSize, numsSize, ticksSize, verdictNumber}
+use Rattle.tables.specs.Entry.{namesSize, numsSize, ticksSize, scaleIndex, creatorIndex, dateIndex, verdictNumber}
 use Rattle.tables.specs.Sized.{Sized, isSized}
 use Rattle.tables.specs.Range.{tableAnswer}
 use Rattle.tables.specs.Fresh.{Cleared, cleared, clearedOf}
@@ -89,9 +89,9 @@ length-entry nums i v = length-counted (set nums i v) ∙ length-set nums i v
 readLined-alike : (r : Reading) (t : Tables) (l : List ℕ) → Alike t (readLined r t l .left)
 readLined-alike Version t l = only-nums t (counted (t .nums)) (length-counted (t .nums))
 readLined-alike Comment t l = only-nums t (counted (t .nums)) (length-counted (t .nums))
-readLined-alike (TimeScale s) t l = only-nums t (counted (set (t .nums) 3 (scaleNumber s))) (length-entry (t .nums) 3 (scaleNumber s))
-readLined-alike Creator t l = only-nums t (counted (set (t .nums) 4 1)) (length-entry (t .nums) 4 1)
-readLined-alike CreationDate t l = only-nums t (counted (set (t .nums) 5 1)) (length-entry (t .nums) 5 1)
+readLined-alike (TimeScale s) t l = only-nums t (counted (set (t .nums) scaleIndex (scaleNumber s))) (length-entry (t .nums) scaleIndex (scaleNumber s))
+readLined-alike Creator t l = only-nums t (counted (set (t .nums) creatorIndex 1)) (length-entry (t .nums) creatorIndex 1)
+readLined-alike CreationDate t l = only-nums t (counted (set (t .nums) dateIndex 1)) (length-entry (t .nums) dateIndex 1)
 readLined-alike (EventLine e count) t l = eventLined-alike t l e count
 readLined-alike (Refused n) t l = same t
 

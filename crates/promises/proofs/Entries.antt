@@ -9,6 +9,7 @@ use lib.Dec.{eqb}
 use lib.ListN.{length, getD}
 use Rattle.rules.specs.Words.{core, semaphore}
 use Rattle.rules.specs.History.{hasInstances, activates}
+use Rattle.tables.specs.Entry.{verdictIndex, verdictLineIndex, linesIndex, scaleIndex, creatorIndex, dateIndex, startedIndex, namesIndex, coresIndex, instancesIndex}
 use Rattle.tables.specs.Entry.{nameRows, instanceRows, kindColumn, lengthColumn, markColumn, numberColumn, numberedColumn, ownerColumn, instanceColumn, stateColumn}
 use Rattle.tables.specs.Entry.{numsSize, verdictNumber, verdictLine, lineCount, scaleEntry, creatorEntry, dateEntry, startedEntry, nameCount, coreCount, instanceCount}
 use Rattle.tables.specs.Entry.{kindAt, lengthAt, markAt, numberAt, numberedAt, ownerAt, instanceAt, stateAt}
@@ -136,41 +137,41 @@ module _ (nums : List ℕ) (z : length nums ≡ numsSize) (s : Sight) (t : ℕ) 
 
   pub lines-taken : lineCount (takenNums nums s t w n m) ≡ (lineCount nums + 1) % 2 ^ 32
   unfolding takenNums
-  lines-taken = heads-stored cored _ _ _ cored-size 2 ∙ rw (cored-head 2 (omega arith))
+  lines-taken = heads-stored cored _ _ _ cored-size linesIndex ∙ rw (cored-head linesIndex (omega arith))
 
   pub started-taken : startedEntry (takenNums nums s t w n m) ≡ 1
   unfolding takenNums
-  started-taken = heads-stored cored _ _ _ cored-size 6
+  started-taken = heads-stored cored _ _ _ cored-size startedIndex
 
   pub names-taken : nameCount (takenNums nums s t w n m) ≡ (nameCount nums + (newCore s + newName s (w .kind))) % 2 ^ 32
   unfolding takenNums
-  names-taken = heads-stored cored _ _ _ cored-size 7 ∙ rw (cored-head 7 (omega arith))
+  names-taken = heads-stored cored _ _ _ cored-size namesIndex ∙ rw (cored-head namesIndex (omega arith))
 
   pub cores-taken : coreCount (takenNums nums s t w n m) ≡ (coreCount nums + newCore s) % 2 ^ 32
   unfolding takenNums
-  cores-taken = heads-stored cored _ _ _ cored-size 8 ∙ rw (cored-head 8 (omega arith))
+  cores-taken = heads-stored cored _ _ _ cored-size coresIndex ∙ rw (cored-head coresIndex (omega arith))
 
   pub instances-taken : instanceCount (takenNums nums s t w n m) ≡ (instanceCount nums + newInstance s (w .kind)) % 2 ^ 32
   unfolding takenNums
-  instances-taken = heads-stored cored _ _ _ cored-size 9 ∙ rw (cored-head 9 (omega arith))
+  instances-taken = heads-stored cored _ _ _ cored-size instancesIndex ∙ rw (cored-head instancesIndex (omega arith))
 
   -- the remembered verdict, the scale and the two parameters: an event line does not touch them
   pub verdict-number-kept : verdictNumber (takenNums nums s t w n m) ≡ verdictNumber nums
   unfolding takenNums
-  verdict-number-kept = heads-stored cored _ _ _ cored-size 0 ∙ cored-head 0 (omega arith)
+  verdict-number-kept = heads-stored cored _ _ _ cored-size verdictIndex ∙ cored-head verdictIndex (omega arith)
 
   pub verdict-line-kept : verdictLine (takenNums nums s t w n m) ≡ verdictLine nums
   unfolding takenNums
-  verdict-line-kept = heads-stored cored _ _ _ cored-size 1 ∙ cored-head 1 (omega arith)
+  verdict-line-kept = heads-stored cored _ _ _ cored-size verdictLineIndex ∙ cored-head verdictLineIndex (omega arith)
 
   pub scale-kept : scaleEntry (takenNums nums s t w n m) ≡ scaleEntry nums
   unfolding takenNums
-  scale-kept = heads-stored cored _ _ _ cored-size 3 ∙ cored-head 3 (omega arith)
+  scale-kept = heads-stored cored _ _ _ cored-size scaleIndex ∙ cored-head scaleIndex (omega arith)
 
   pub creator-kept : creatorEntry (takenNums nums s t w n m) ≡ creatorEntry nums
   unfolding takenNums
-  creator-kept = heads-stored cored _ _ _ cored-size 4 ∙ cored-head 4 (omega arith)
+  creator-kept = heads-stored cored _ _ _ cored-size creatorIndex ∙ cored-head creatorIndex (omega arith)
 
   pub date-kept : dateEntry (takenNums nums s t w n m) ≡ dateEntry nums
   unfolding takenNums
-  date-kept = heads-stored cored _ _ _ cored-size 5 ∙ cored-head 5 (omega arith)
+  date-kept = heads-stored cored _ _ _ cored-size dateIndex ∙ cored-head dateIndex (omega arith)

@@ -22,7 +22,7 @@ use Rattle.rules.proofs.Answers.{all-fit}
 use Rattle.rules.proofs.Tracked.{named-kind, target-is}
 use Rattle.tables.specs.declared.find.Found.{Found}
 use Rattle.tables.specs.declared.find.Found.the-variants.{At, Nothing}
-use Rattle.tables.specs.Entry.{nameCount, instanceCount, nameAt, ownerAt, instanceAt}
+use Rattle.tables.specs.Entry.{nameRows, nameCount, instanceCount, nameAt, ownerAt, instanceAt}
 use Rattle.tables.specs.Find.{firstFrom, lastBelow, rowIs, findName, instanceIs, findInstance}
 use Rattle.tables.proofs.Found.{first-at, first-none, last-at, last-none, name-found, instance-found, row-name, name-row, instance-means}
 use Rattle.decide.specs.Sight.{coreClass, lookIf, instanceIn, sightOf}
@@ -71,7 +71,7 @@ module _ {A : Type 0} (f : ℕ → Bool) (g : A → Bool) (xs : List A)
 -- ---- the two look-ups
 
 module _ (h : List Event) (a : Accepted h) (m : AllMet h) (t : Tables) (s : Shown h t) where
-  row-bound : (n : List ℕ) → any (sameBytes n) (names h) ≡ true → rowOf h n < 256
+  row-bound : (n : List ℕ) → any (sameBytes n) (names h) ≡ true → rowOf h n < nameRows
   row-bound n q = omega (arith, place-bound (sameBytes n) (names h) q, all-fit h a .names-fit)
 
   pub found-name : (n : List ℕ) → findName (t .names) (t .nums) n ≡ seek (sameBytes n) (names h)
@@ -151,7 +151,7 @@ module _ (h : List Event) (a : Accepted h) (m : AllMet h) (t : Tables) (s : Show
       by-test true q =
           let w = name-kind h (e .target) q in
           let o : kindOf (e .target) h ≡ some (e .kind) = w .1 ∙ ap some (target-is h e k (instances-tracked (e .kind) i) (w .0) (w .1)) in
-          rw (lt-ltb (rowOf h (e .target)) 256 (row-bound (e .target) q))
+          rw (lt-ltb (rowOf h (e .target)) nameRows (row-bound (e .target) q))
           (ap (findInstance (t .nums) (rowOf h (e .target))) (sym (own-number e i)) ∙ found-instance (instanceOf e) o)
       by-test false q = rw (no-instance (instanceOf e) q)
 

@@ -45,8 +45,8 @@ written-after (v ∷ vs) l at n k h =
     ∙ ap (take k) (drop-set-add n l (at - n) v)
     ∙ take-set-le k (drop n l) (at - n) v (omega arith)
 
-module _ (names : List ℕ) (i : ℕ) (name : List ℕ) (f : length name ≤ 64) where
-  name-beside : (r k : ℕ) → k ≤ 64 → eqb r i ≡ false → take k (drop (nameRoom * r) (storeName names i name)) ≡ take k (drop (nameRoom * r) names)
+module _ (names : List ℕ) (i : ℕ) (name : List ℕ) (f : length name ≤ nameRoom) where
+  name-beside : (r k : ℕ) → k ≤ nameRoom → eqb r i ≡ false → take k (drop (nameRoom * r) (storeName names i name)) ≡ take k (drop (nameRoom * r) names)
   unfolding storeName put
   name-beside r k h e = by-test (ltb i nameRows) (leb (nameRoom * i + length name) (length names))
     where
@@ -63,12 +63,12 @@ module _ (names : List ℕ) (i : ℕ) (name : List ℕ) (f : length name ≤ 64)
   name-own : length names ≡ namesSize → i < nameRows → take (length name) (drop (nameRoom * i) (storeName names i name)) ≡ name
   unfolding storeName
   name-own z h =
-      let fits : 64 * i + length name ≤ length names = omega arith in
-      let front : length (take (nameRoom * i) names) ≡ 64 * i = length-take-le (nameRoom * i) names (omega arith) in
+      let fits : nameRoom * i + length name ≤ length names = omega arith in
+      let front : length (take (nameRoom * i) names) ≡ nameRoom * i = length-take-le (nameRoom * i) names (omega arith) in
       rw (lt-ltb i nameRows h, put-fits names (nameRoom * i) name fits, written-parts names (nameRoom * i) name fits, append-assoc, drop-at (take (nameRoom * i) names) _ (nameRoom * i) front)
       (take-append-seam name _)
 
-  name-if : (b : Bool) (r k : ℕ) → k ≤ 64 → b && eqb r i ≡ false → take k (drop (nameRoom * r) (cond b (storeName names i name) names)) ≡ take k (drop (nameRoom * r) names)
+  name-if : (b : Bool) (r k : ℕ) → k ≤ nameRoom → b && eqb r i ≡ false → take k (drop (nameRoom * r) (cond b (storeName names i name) names)) ≡ take k (drop (nameRoom * r) names)
   name-if true r k h e = name-beside r k h e
   name-if false r k h e = refl
 
@@ -82,15 +82,15 @@ new-apart nums s k e = rw e (by-target (isTracked k) (s .target))
     by-target true (At i) = refl
     by-target true Nothing = ne-eqb (nameCount nums) (nameCount nums + 1) (λ q. omega arith)
 
-module _ (names nums : List ℕ) (s : Sight) (e : Event) (f : length (e .source) ≤ 64) (g : length (e .target) ≤ 64) where
+module _ (names nums : List ℕ) (s : Sight) (e : Event) (f : length (e .source) ≤ nameRoom) (g : length (e .target) ≤ nameRoom) where
   abbrev cores-named : List ℕ
   cores-named = cond (eqb (newCore s) 1) (storeName names (nameCount nums) (e .source)) names
 
-  bytes-beside : (r k : ℕ) → k ≤ 64 → isNewTarget nums s (e .kind) r ≡ false → take k (drop (nameRoom * r) (takenNames names nums s e)) ≡ take k (drop (nameRoom * r) cores-named)
+  bytes-beside : (r k : ℕ) → k ≤ nameRoom → isNewTarget nums s (e .kind) r ≡ false → take k (drop (nameRoom * r) (takenNames names nums s e)) ≡ take k (drop (nameRoom * r) cores-named)
   unfolding takenNames
   bytes-beside r k h p = name-if cores-named (targetRow nums s) (e .target) g (eqb (newName s (e .kind)) 1) r k h p
 
-  bytes-kept : (r k : ℕ) → k ≤ 64 → isNewTarget nums s (e .kind) r ≡ false → isNewCore nums s r ≡ false →
+  bytes-kept : (r k : ℕ) → k ≤ nameRoom → isNewTarget nums s (e .kind) r ≡ false → isNewCore nums s r ≡ false →
       take k (drop (nameRoom * r) (takenNames names nums s e)) ≡ take k (drop (nameRoom * r) names)
   bytes-kept r k h p q = bytes-beside r k h p ∙ name-if names (nameCount nums) (e .source) f (eqb (newCore s) 1) r k h q
 
@@ -108,7 +108,7 @@ module _ (names nums : List ℕ) (s : Sight) (e : Event) (f : length (e .source)
 -- ---- the name in a row, and its length
 
 module _ (names nums : List ℕ) (y : length names ≡ namesSize) (z : length nums ≡ numsSize) (s : Sight) (t : ℕ) (w : Happening)
-    (source target : List ℕ) (f : length source ≤ 64) (g : length target ≤ 64) where
+    (source target : List ℕ) (f : length source ≤ nameRoom) (g : length target ≤ nameRoom) where
   abbrev e : Event
   e = asEvent w source target
 
@@ -125,7 +125,7 @@ module _ (names nums : List ℕ) (y : length names ≡ namesSize) (z : length nu
 
   -- a row that is not new keeps its name
   pub name-kept : (r : ℕ) (n : List ℕ) → r < nameRows → isNewTarget nums s (w .kind) r ≡ false → isNewCore nums s r ≡ false →
-      length n ≤ 64 → nameAt names nums r ≡ n → lengthAt nums r ≡ length n → NameNext r n
+      length n ≤ nameRoom → nameAt names nums r ≡ n → lengthAt nums r ≡ length n → NameNext r n
   name-kept r n h p q l b k =
       named r n (length-taken nums z s t w (length source) (length target) r h ∙ rw (p, q) k)
       (bytes-kept names nums s e f g r (length n) l p q ∙ rw k at b)

@@ -23,7 +23,7 @@ use Rattle.rules.proofs.Changes.{state-other, core-other, core-own}
 use Rattle.rules.proofs.Answers.{Passed}
 use Rattle.rules.proofs.Tracked.{target-kind, two-names, source-kind, kind-stays, kind-named}
 use Rattle.rules.proofs.Meets.{Met}
-use Rattle.tables.specs.Entry.{nameCount, nameAt, lengthAt, kindAt, markAt, numberAt, numberedAt}
+use Rattle.tables.specs.Entry.{nameRows, nameRoom, nameCount, nameAt, lengthAt, kindAt, markAt, numberAt, numberedAt}
 use Rattle.decide.specs.declared.happening.Happening.{Happening}
 use Rattle.decide.specs.Happening.{asEvent}
 use Rattle.store.specs.Store.{targetRow}
@@ -169,13 +169,13 @@ module _ (h : List Event) (m : AllMet h) (t : Tables) (s : Shown h t) (w : Happe
     named-next : (nameAt (after .names) (after .nums) row ≡ n) × (lengthAt (after .nums) row ≡ length n)
     named-next = by-origin (name-from h e n q)
       where
-        inside : row < 256
+        inside : row < nameRows
         inside = row-bound h t s e f n q
 
-        source-size : length source ≤ 64
+        source-size : length source ≤ nameRoom
         source-size = name-length source (o .source-name) .1
 
-        target-size : length target ≤ 64
+        target-size : length target ≤ nameRoom
         target-size = name-length target (o .target-name) .1
 
         by-origin : NameFrom h e n → (nameAt (after .names) (after .nums) row ≡ n) × (lengthAt (after .nums) row ≡ length n)

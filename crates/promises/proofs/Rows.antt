@@ -20,7 +20,7 @@ use Rattle.rules.specs.Lawful.{Fits}
 use Rattle.rules.proofs.Tests.{both, clash, instance-true, instance-refl}
 use Rattle.rules.proofs.Answers.{Passed, room-fits}
 use Rattle.rules.proofs.CoreWords.{on-process, gives-only}
-use Rattle.tables.specs.Entry.{kindAt, markAt, numberAt, numberedAt, ownerAt, instanceAt, stateAt}
+use Rattle.tables.specs.Entry.{nameRows, instanceRows, kindAt, markAt, numberAt, numberedAt, ownerAt, instanceAt, stateAt}
 use Rattle.decide.specs.declared.happening.Happening.{Happening}
 use Rattle.decide.specs.Happening.{asEvent}
 use Rattle.decide.specs.Sight.{coreClass}
@@ -75,10 +75,10 @@ class-gives e o = by-test (isProcess (e .kind)) (takes (e .word)) refl (gives (e
 -- ---- the rows of a line
 
 module _ (h : List Event) (t : Tables) (s : Shown h t) (e : Event) (f : Passed h e) where
-  pub row-bound : (n : List ℕ) → any (sameBytes n) (names (e ∷ h)) ≡ true → rowOf (e ∷ h) n < 256
+  pub row-bound : (n : List ℕ) → any (sameBytes n) (names (e ∷ h)) ≡ true → rowOf (e ∷ h) n < nameRows
   row-bound n q = omega (arith, place-bound (sameBytes n) (names (e ∷ h)) q, room h e f .names-fit)
 
-  instance-bound : (x : Instance) → any (sameInstance x) (instances (e ∷ h)) ≡ true → instanceRowOf (e ∷ h) x < 1024
+  instance-bound : (x : Instance) → any (sameInstance x) (instances (e ∷ h)) ≡ true → instanceRowOf (e ∷ h) x < instanceRows
   instance-bound x q = omega (arith, place-bound (sameInstance x) (instances (e ∷ h)) q, room h e f .instances-fit)
 
   module _ (n : List ℕ) (q : any (sameBytes n) (names (e ∷ h)) ≡ true) where
@@ -147,7 +147,7 @@ module _ (h : List Event) (t : Tables) (s : Shown h t) (w : Happening) (source t
     abbrev row : ℕ
     row = rowOf (e ∷ h) n
 
-    bound : row < 256
+    bound : row < nameRows
     bound = row-bound h t s e f n q
 
     new-or-old : (u v old : ℕ) →
@@ -169,7 +169,7 @@ module _ (h : List Event) (t : Tables) (s : Shown h t) (w : Happening) (source t
         instanced : onCore e ≡ true → hasInstances (w .kind) ≡ true
         instanced c = process-instances (w .kind) (on-process e c)
 
-        inside : eqb (coreClass (w .kind) (w .word)) 0 ≡ false → instanceRow (t .nums) (sightIn h e) < 1024
+        inside : eqb (coreClass (w .kind) (w .word)) 0 ≡ false → instanceRow (t .nums) (sightIn h e) < instanceRows
         inside k =
             let c : onCore e ≡ true = sym (class-on e) ∙ ap not k in
             rw (instance-row h t s e (instanced c)) (instance-bound h t s e f (instanceOf e) (instance-listed h e (instanced c)))
@@ -195,7 +195,7 @@ module _ (h : List Event) (t : Tables) (s : Shown h t) (w : Happening) (source t
         numbered-taken (t .nums) (s .nums-size) (sightIn h e) state w (length source) (length target) row bound ∙ given-or-old 1 1 (numberedAt (t .nums) row)
 
   module _ (x : Instance) (q : any (sameInstance x) (instances (e ∷ h)) ≡ true) where
-    target-bound : hasInstances (w .kind) ≡ true → targetRow (t .nums) (sightIn h e) < 256
+    target-bound : hasInstances (w .kind) ≡ true → targetRow (t .nums) (sightIn h e) < nameRows
     target-bound u =
         let k = instances-tracked (w .kind) u in
         rw (target-row h t s e (f .kinds) k) (row-bound h t s e f target (target-named h e k))

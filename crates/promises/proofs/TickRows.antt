@@ -21,7 +21,7 @@ use Rattle.rules.proofs.Tests.{both, and-true, clash}
 use Rattle.rules.proofs.Answers.{Passed}
 use Rattle.rules.proofs.CoreWords.{on-process}
 use Rattle.rules.proofs.Tracked.{two-names, source-kind, process-tracked}
-use Rattle.tables.specs.Entry.{lastTime, sinceAt}
+use Rattle.tables.specs.Entry.{nameRows, lastTime, sinceAt}
 use Rattle.decide.specs.Known.{newCore, newName}
 use Rattle.decide.specs.Sight.{coreClass}
 use Rattle.decide.proofs.Classes.{class-on}
@@ -92,7 +92,7 @@ module _ (h : List Event) (a : Accepted h) (t : Tables) (s : Shown h t) (e : Eve
     new-name = λ q. target-small (tracked-new q (newTarget h e) refl);
   }
     where
-      target-small : isTracked (e .kind) ≡ true → targetRow (t .nums) (sightIn h e) < 256
+      target-small : isTracked (e .kind) ≡ true → targetRow (t .nums) (sightIn h e) < nameRows
       target-small w = rw (target-row h t s e (f .kinds) w) (row-bound h t s e f (e .target) (target-named h e w))
 
   -- ---- a name that is neither the event's core nor its target

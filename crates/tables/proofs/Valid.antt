@@ -12,7 +12,7 @@ use Rattle.rules.specs.Words.{core, semaphore}
 use Rattle.rules.specs.Chart.{isStateOf}
 use Rattle.rules.specs.Charts.{chartOf}
 use Rattle.rules.specs.History.{hasInstances}
-use Rattle.tables.specs.Entry.{namesSize, numsSize, ticksSize}
+use Rattle.tables.specs.Entry.{nameRows, instanceRows, nameRoom, namesSize, numsSize, ticksSize}
 use Rattle.tables.specs.Entry.{verdictNumber, verdictLine, lineCount, scaleEntry, creatorEntry, dateEntry, startedEntry, nameCount, coreCount, instanceCount}
 use Rattle.tables.specs.Entry.{kindAt, lengthAt, markAt, numberedAt, ownerAt, stateAt, firstTime, lastTime, heldAt, idleAt, unknownAt, sinceAt, nameAt}
 use Rattle.tables.specs.Sized.{Sized, isSized}
@@ -27,7 +27,7 @@ pub record NameRow (names nums ticks : List ℕ) (i : ℕ) : Type 0 where
   pub numbered : numberedAt nums i ≤ 1
   pub mark : markOk nums (kindAt nums i) (markAt nums i) ≡ true
   pub length-some : 1 ≤ lengthAt nums i
-  pub length-most : lengthAt nums i ≤ 64
+  pub length-most : lengthAt nums i ≤ nameRoom
   pub named : isName (nameAt names nums i) ≡ true
   pub held : heldAt ticks i ≤ maxSum
   pub idle : idleAt ticks i ≤ maxSum
@@ -48,9 +48,9 @@ pub record Valid (names nums ticks : List ℕ) : Type 0 where
   pub creator : creatorEntry nums ≤ 1
   pub date : dateEntry nums ≤ 1
   pub started : startedEntry nums ≤ 1
-  pub name-count : nameCount nums ≤ 256
+  pub name-count : nameCount nums ≤ nameRows
   pub core-count : coreCount nums ≤ 64
-  pub instance-count : instanceCount nums ≤ 1024
+  pub instance-count : instanceCount nums ≤ instanceRows
   pub last-time : lastTime ticks ≤ 72057594037927935
   pub first-time : firstTime ticks ≤ lastTime ticks
   pub name-row : (i : ℕ) → i < nameCount nums → NameRow names nums ticks i
@@ -74,10 +74,10 @@ heads-mean nums =
     (means-and (means-le (lineCount nums) 1000000000)
     (means-and (means-le (scaleEntry nums) 5) (means-and (means-le (creatorEntry nums) 1) (means-le (dateEntry nums) 1)))))
 
-pub counts-mean : (nums : List ℕ) → Means (countsOk nums) ((startedEntry nums ≤ 1) × ((nameCount nums ≤ 256) × ((coreCount nums ≤ 64) × (instanceCount nums ≤ 1024))))
+pub counts-mean : (nums : List ℕ) → Means (countsOk nums) ((startedEntry nums ≤ 1) × ((nameCount nums ≤ nameRows) × ((coreCount nums ≤ 64) × (instanceCount nums ≤ instanceRows))))
 unfolding countsOk
 counts-mean nums =
-    means-and (means-le (startedEntry nums) 1) (means-and (means-le (nameCount nums) 256) (means-and (means-le (coreCount nums) 64) (means-le (instanceCount nums) 1024)))
+    means-and (means-le (startedEntry nums) 1) (means-and (means-le (nameCount nums) nameRows) (means-and (means-le (coreCount nums) 64) (means-le (instanceCount nums) instanceRows)))
 
 times-mean : (ticks : List ℕ) → Means (timesOk ticks) ((lastTime ticks ≤ 72057594037927935) × (firstTime ticks ≤ lastTime ticks))
 unfolding timesOk
@@ -89,9 +89,9 @@ sums-mean ticks i =
     means-and (means-le (heldAt ticks i) maxSum)
     (means-and (means-le (idleAt ticks i) maxSum) (means-and (means-le (unknownAt ticks i) maxSum) (means-le (sinceAt ticks i) (lastTime ticks))))
 
-bytes-mean : (names nums : List ℕ) (i : ℕ) → Means (bytesOk names nums i) ((lengthAt nums i ≤ 64) × (isName (nameAt names nums i) ≡ true))
+bytes-mean : (names nums : List ℕ) (i : ℕ) → Means (bytesOk names nums i) ((lengthAt nums i ≤ nameRoom) × (isName (nameAt names nums i) ≡ true))
 unfolding bytesOk
-bytes-mean names nums i = means-and (means-le (lengthAt nums i) 64) (means-true (isName (nameAt names nums i)))
+bytes-mean names nums i = means-and (means-le (lengthAt nums i) nameRoom) (means-true (isName (nameAt names nums i)))
 
 name-mean : (names nums ticks : List ℕ) (i : ℕ) → Means (nameOk names nums ticks i) (NameRow names nums ticks i)
 unfolding nameOk
@@ -107,7 +107,7 @@ name-mean names nums ticks i =
       kind-known = p .1 .0;
       numbered = p .1 .1 .0;
       mark = p .1 .1 .1 .0;
-      length-some = omega (arith, name-length (nameAt names nums i) (p .1 .1 .1 .1 .0 .1), length-take (lengthAt nums i) (drop (64 * i) names));
+      length-some = omega (arith, name-length (nameAt names nums i) (p .1 .1 .1 .1 .0 .1), length-take (lengthAt nums i) (drop (nameRoom * i) names));
       length-most = p .1 .1 .1 .1 .0 .0;
       named = p .1 .1 .1 .1 .0 .1;
       held = p .1 .1 .1 .1 .1 .0;

@@ -128,7 +128,7 @@ sinceColumn = column (past unknownColumn) nameRows
 -- ---- the sizes
 
 abbrev pub namesSize : ℕ
-namesSize = 16384
+namesSize = nameRoom * nameRows
 
 abbrev pub numsSize : ℕ
 numsSize = past stateColumn

@@ -1,4 +1,5 @@
-// Where each entry lies: the one place in code that names a base or a size. "Numbers, states and charges lie in lent tables of u32 and u64 entries", in columns: entry BASE + i.
+// Where each entry lies: the one place in code that names a base or a size. "Numbers, states and charges lie in lent tables of u32 and u64
+// entries", in columns: entry BASE + i.
 
 // how many rows a column has, by name and by instance, and how many bytes a name
 pub const NAME_ROWS: usize = 256;

@@ -43,7 +43,8 @@ fn counts_ok(nums: &[u32]) -> bool
     ensures { λ r. ⌜ r ≡ countsOk (now (nums .entry)) ⌝ }
 {
     (nums[STARTED] <= 1)
-        & ((nums[NAMES] <= 256) & ((nums[CORES] <= 64) & (nums[INSTANCES] <= 1024)))
+        & ((nums[NAMES] as usize <= NAME_ROWS)
+            & ((nums[CORES] <= 64) & (nums[INSTANCES] as usize <= INSTANCE_ROWS)))
 }
 
 // The first and the last time.

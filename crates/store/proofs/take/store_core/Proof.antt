@@ -2,6 +2,7 @@
 -- 1,024. Assumes nothing.
 use borrow.Author.Tests.{eq-eqb, ne-eqb, le-ltb, lt-ltb}
 use borrow.Author.Needs.{needs}
+use Rattle.tables.specs.Entry.{instanceRows}
 use Rattle.store.specs.Store.{withCore}
 use Rattle.store.proofs.take.store_core.Statement.{statement}
 use Rattle.store.proofs.take.store_core.Tie as tie
@@ -15,9 +16,9 @@ store-core-spec =
     (λ c κs. search needs)
     (λ c. search needs)
     (λ c. rw (ne-eqb _ 0 (c .before .before .before .before .before .if1 .left), eq-eqb _ 2 (c .before .before .before .before .if2 .taken)) (c .before .before .store-mark .ensures))
-    (λ c. rw (ne-eqb _ 0 (c .before .before .if1 .left), ne-eqb _ 2 (c .before .if2 .left), le-ltb _ 1024 (c .if3 .taken)))
+    (λ c. rw (ne-eqb _ 0 (c .before .before .if1 .left), ne-eqb _ 2 (c .before .if2 .left), le-ltb _ instanceRows (c .if3 .taken)))
     (λ c. search needs)
     (λ c. search needs)
     (λ c κs. search needs)
     (λ c. search needs)
-    (λ c. rw (ne-eqb _ 0 (c .before .before .before .before .before .before .if1 .left), ne-eqb _ 2 (c .before .before .before .before .before .if2 .left), lt-ltb _ 1024 (c .before .before .before .before .if3 .left)) (c .before .before .store-mark2 .ensures)))
+    (λ c. rw (ne-eqb _ 0 (c .before .before .before .before .before .before .if1 .left), ne-eqb _ 2 (c .before .before .before .before .before .if2 .left), lt-ltb _ instanceRows (c .before .before .before .before .if3 .left)) (c .before .before .store-mark2 .ensures)))

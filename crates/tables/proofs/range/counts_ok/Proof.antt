@@ -1,7 +1,9 @@
 -- `tables::range::counts_ok` meets its contract: its tests are the definition's.
 -- Assumes nothing.
 use mathlib.Core.Path.{refl}
+use native.Mathlib.Omega.{arith}
 use borrow.Author.Needs.{needs}
+use Rattle.tables.specs.Entry.{namesIndex, instancesIndex}
 use Rattle.tables.specs.Range.{countsOk}
 use Rattle.tables.proofs.range.counts_ok.Statement.{statement}
 use Rattle.tables.proofs.range.counts_ok.Tie as tie
@@ -13,6 +15,8 @@ counts-ok-spec =
     (tie.spec
     (λ c. search needs)
     (λ c. search needs)
+    (λ c. omega (arith, c .shared-slice-known2 .given namesIndex))
     (λ c. search needs)
     (λ c. search needs)
+    (λ c. omega (arith, c .shared-slice-known4 .given instancesIndex))
     (λ c. refl))
