@@ -31,9 +31,9 @@ use Rattle.rules.specs.Refusals.{
   notNext,
   coreBroken,
   countFollows,
-  fixed,
+  countAllowed,
   countBroken,
-  rules,
+  eventTests,
   answerTo,
 }
 use Rattle.rules.proofs.Tests.{instance-refl}
@@ -136,7 +136,7 @@ module _ (nums ticks : List ℕ) (s : Sight) (e : Event) where
   unfolding countBrokenIn countBroken countFollowsIn countFollows knownBy
   count-in =
       ap (λ (b : Bool). eqb (e .kind) semaphore && b)
-      (by-test (eqb (numberedIn nums (s .target)) 0) (fixed (e .word) (e .count)) (countFollowsIn (numberIn nums (s .target)) (e .word) (e .count)) refl)
+      (by-test (eqb (numberedIn nums (s .target)) 0) (countAllowed (e .word) (e .count)) (countFollowsIn (numberIn nums (s .target)) (e .word) (e .count)) refl)
     where
       by-test : (z f g : Bool) → countFollowsIn (numberIn nums (s .target)) (e .word) (e .count) ≡ g →
           not f || (not z && not g) ≡ not (countFollows (cond z none (some (numberIn nums (s .target)))) (e .word) (e .count) && f)
@@ -208,7 +208,7 @@ module _ (nums ticks : List ℕ) (s : Sight) (e : Event) (c : s .class ≡ coreC
       by-test false = refl
 
   pub tests-plan : testsPlan nums ticks s e ≡ planBy nums ticks s e
-  unfolding testsPlan planBy answerTo rules secondKind
+  unfolding testsPlan planBy answerTo eventTests secondKind
   tests-plan =
       let t = enters nums s e in
       rw (time-in nums ticks s e, source-in nums ticks s e c, target-in nums ticks s e, room-in nums ticks s e)

@@ -11,7 +11,7 @@ use Rattle.rules.specs.Event.{Event, Instance, instanceOf}
 use Rattle.rules.specs.Core.{Core, unknown, idle, held}
 use Rattle.rules.specs.Rows.{opened}
 use Rattle.rules.specs.History.{hasInstances, isTracked, activates}
-use Rattle.rules.specs.Refusals.{Known, fixed}
+use Rattle.rules.specs.Refusals.{Known, countAllowed}
 use Rattle.tables.specs.declared.find.Found.{Found}
 use Rattle.tables.specs.declared.find.Found.the-variants.{At, Nothing}
 use Rattle.tables.specs.Entry.{Column, entryAt, kindColumn, markColumn, numberColumn, numberedColumn, stateColumn, startedEntry, lastTime, nameCount, coreCount, instanceCount}
@@ -119,4 +119,4 @@ leastCount a = cond (member a (increment ∷ used ∷ unlock-full ∷ lock-used 
 unfoldable pub countBrokenIn : List ℕ → Sight → ℕ → ℕ → ℕ → Bool
 countBrokenIn nums s k a n =
     eqb k semaphore
-    && (not (fixed a n) || (not (eqb (numberedIn nums (s .target)) 0) && not (countFollowsIn (numberIn nums (s .target)) a n)))
+    && (not (countAllowed a n) || (not (eqb (numberedIn nums (s .target)) 0) && not (countFollowsIn (numberIn nums (s .target)) a n)))

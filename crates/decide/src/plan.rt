@@ -4,7 +4,7 @@ ghost use Prim.Native.Nat.{_+_};
 ghost use lib.Dec.{eqb};
 ghost use lib.ListN.{length};
 ghost use Rattle.rules.specs.History.{activates};
-ghost use Rattle.rules.specs.Refusals.{fixed};
+ghost use Rattle.rules.specs.Refusals.{countAllowed};
 ghost use Rattle.decide.specs.Happening.{asEvent};
 ghost use Rattle.decide.specs.Known.{timeFallsIn, kindClash, sourceClashIn, targetClashIn, noRoomIn, notNextIn, coreServes, coreBrokenIn, countFollowsIn, leastCount, countBrokenIn};
 ghost use Rattle.decide.specs.Decide.{stepsPlan, planOf, decided};
@@ -215,7 +215,7 @@ fn least_count(word: u32) -> u32
 
 // Whether a count is one that its event may bear.
 fn count_fits(word: u32, count: u32) -> bool
-    ensures { λ r. ⌜ r ≡ fixed word count ⌝ }
+    ensures { λ r. ⌜ r ≡ countAllowed word count ⌝ }
 {
     if word == FREE {
         return count == 0;

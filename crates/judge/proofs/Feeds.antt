@@ -18,7 +18,8 @@ use Rattle.line.specs.declared.reading.Reading.the-variants.{Version, Comment, 
 use Rattle.line.specs.Part.{fieldOf}
 use Rattle.line.specs.Reading.{readLine}
 use Rattle.rules.specs.declared.place.Place.{Place}
-use Rattle.rules.specs.Trace.{scaleNumber, placed}
+use Rattle.rules.specs.Trace.{scaleNumber}
+use Rattle.rules.specs.PlaceCode.{answerByReading}
 use Rattle.rules.proofs.Tests.{if-some}
 use Rattle.tables.specs.Entry.{namesSize, numsSize, ticksSize, verdictNumber}
 use Rattle.tables.specs.Range.{isSized, tableAnswer}
@@ -105,7 +106,7 @@ either-alike false t x y p q = q
 pub lined-alike : (t : Tables) (l : List ℕ) → Alike t (lined t l .left)
 unfolding lined
 lined-alike t l =
-    let n = placed (placeIn (t .nums)) (readLine l) in
+    let n = answerByReading (placeIn (t .nums)) (readLine l) in
     either-alike (eqb (verdictNumber (t .nums)) 0) t (placedLine n t l) (after (verdictNumber (t .nums)) (t .names) (t .nums) (t .ticks)) (placedLine-alike n t l) (same t)
 
 pub allLined-alike : (t : Tables) (ls : List (List ℕ)) → Alike t (allLined t ls)
@@ -162,7 +163,7 @@ module _ (t : Tables) (l : List ℕ) where
   unfolding lined
   verdict-again h = rw (ne-eqb (verdictNumber (t .nums)) 0 h)
 
-  pub placed-lined : {p : Place} {r : Reading} {n : ℕ} → verdictNumber (t .nums) ≡ 0 → p ≡ placeIn (t .nums) → r ≡ readLine l → n ≡ placed p r → placedLine n t l ≡ lined t l
+  pub placed-lined : {p : Place} {r : Reading} {n : ℕ} → verdictNumber (t .nums) ≡ 0 → p ≡ placeIn (t .nums) → r ≡ readLine l → n ≡ answerByReading p r → placedLine n t l ≡ lined t l
   unfolding lined
   placed-lined h pp pr pn = rw (eq-eqb (verdictNumber (t .nums)) 0 h, pn, pp, pr)
 

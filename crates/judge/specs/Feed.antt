@@ -12,7 +12,8 @@ use Rattle.line.specs.Part.{fieldOf}
 use Rattle.line.specs.Reading.{readLine}
 use Rattle.rules.specs.declared.place.Place.{Place}
 use Rattle.rules.specs.Lists.{ifZero}
-use Rattle.rules.specs.Trace.{scaleNumber, placed}
+use Rattle.rules.specs.Trace.{scaleNumber}
+use Rattle.rules.specs.PlaceCode.{answerByReading}
 pub use Rattle.tables.specs.Entry.{Tables, tables}
 use Rattle.tables.specs.Entry.{verdictIndex, verdictLineIndex, linesIndex, scaleIndex, creatorIndex, dateIndex, namesSize, numsSize, ticksSize, verdictNumber, verdictLine, lineCount, scaleEntry, creatorEntry, dateEntry, startedEntry, firstTime, lastTime}
 use Rattle.tables.specs.Range.{isSized, tableAnswer}
@@ -82,7 +83,7 @@ placedLine n t l = ifZero n (readLined (readLine l) t l) (after n (t .names) (re
 -- "Further lines get that verdict again."
 unfoldable pub lined : Tables → List ℕ → After
 lined t l =
-    cond (eqb (verdictNumber (t .nums)) 0) (placedLine (placed (placeIn (t .nums)) (readLine l)) t l)
+    cond (eqb (verdictNumber (t .nums)) 0) (placedLine (answerByReading (placeIn (t .nums)) (readLine l)) t l)
     (after (verdictNumber (t .nums)) (t .names) (t .nums) (t .ticks))
 
 -- "the judge tests 15 and 16 before all others"; "15 and 16 write nothing and are not remembered"

@@ -15,7 +15,7 @@ use Rattle.rules.specs.Charts.{isProcess, chartOf}
 use Rattle.rules.specs.Event.{Event, Instance, sameInstance, instanceOf, wordsOf, stateOf}
 use Rattle.rules.specs.Core.{takes, onCore, coreAt}
 use Rattle.rules.specs.History.{hasInstances, isTracked, names, instances, kindOf, activates, lastNumber, lastCount}
-use Rattle.rules.specs.Refusals.{look, secondKind, offChart, isNext, notNext, unseen, serves, coreBroken, countFollows, fixed, countBroken}
+use Rattle.rules.specs.Refusals.{look, secondKind, offChart, isNext, notNext, unseen, serves, coreBroken, countFollows, countAllowed, countBroken}
 use Rattle.rules.specs.Rows.{opened, leadsTo, moveBy}
 use Rattle.rules.specs.Verdict.{Accepted}
 use Rattle.rules.proofs.Tests.{neither}
@@ -123,11 +123,11 @@ module _ (h : List Event) (a : Accepted h) (met : AllMet h) (t : Tables) (s : Sh
   count-agrees = by-test (eqb (e .kind) semaphore) refl
     where
       by-test : (b : Bool) → eqb (e .kind) semaphore ≡ b →
-          b && not (countFollows (numberKnown (t .nums) (sightIn h e .target)) (e .word) (e .count) && fixed (e .word) (e .count))
-          ≡ b && not (countFollows (lastCount (e .target) h) (e .word) (e .count) && fixed (e .word) (e .count))
+          b && not (countFollows (numberKnown (t .nums) (sightIn h e .target)) (e .word) (e .count) && countAllowed (e .word) (e .count))
+          ≡ b && not (countFollows (lastCount (e .target) h) (e .word) (e .count) && countAllowed (e .word) (e .count))
       by-test true q =
           let r = number-shown (semaphore-tracked (e .kind) q) in
-          ap (λ (o : Option ℕ). not (countFollows o (e .word) (e .count) && fixed (e .word) (e .count))) (rw q at r)
+          ap (λ (o : Option ℕ). not (countFollows o (e .word) (e .count) && countAllowed (e .word) (e .count))) (rw q at r)
       by-test false q = refl
 
   -- ---- 13

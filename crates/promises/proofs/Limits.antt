@@ -1,7 +1,6 @@
 -- An answer is at most 14, and so is a refusal; its line is at most the one past the last. So tables that show lines and remember such a refusal are
 -- in range.
 use mathlib.Core.Path.{_≡_, refl, ap}
-use mathlib.Core.Bool.{Bool, true, false, cond}
 use mathlib.Core.Option.{Option, none, some}
 use mathlib.Core.List.{List, [], _∷_}
 use Prim.Native.Nat.{ℕ, zero, suc, _+_, _≤_}
@@ -12,12 +11,13 @@ use Rattle.words.specs.declared.scale.Scale.the-variants.{Picoseconds, Nanoseco
 use Rattle.line.specs.declared.reading.Reading.{Reading}
 use Rattle.line.specs.declared.reading.Reading.the-variants.{Version, Comment, TimeScale, Creator, CreationDate, EventLine, Refused}
 use Rattle.line.specs.Reading.{readLine}
-use Rattle.line.specs.Condition.{refuses5, refuses6, refuses7}
+use Rattle.line.proofs.Lowest.{lowest-has}
 use Rattle.rules.specs.Lists.{orElse, latest, ifZero}
 use Rattle.rules.specs.Event.{Event}
-use Rattle.rules.specs.Refusals.{Known, look, timeFalls, secondKind, noRoom, offChart, notNext, coreBroken, countBroken, rules, answerTo}
+use Rattle.rules.specs.Refusals.{Known, look, eventTests, answerTo}
 use Rattle.rules.specs.Lines.{eventOfLine, eventsOf}
-use Rattle.rules.specs.Trace.{scaleNumber, scaleIn, orZero, placeOf, tooMuch, versionWrong, parameterWrong, unscaled, placeTests, answerInPlace, eventAnswer, answerAt}
+use Rattle.rules.specs.First.{firstRefusal}
+use Rattle.rules.specs.Trace.{scaleNumber, scaleIn, orZero, placeOf, placeTests, answerInPlace, eventAnswer, answerAt, refusalOn}
 use Rattle.rules.proofs.Traces.{Kept, kept-next}
 use Rattle.rules.specs.declared.place.Place.{Place}
 use Rattle.tables.specs.Entry.{verdictNumber, verdictLine}
@@ -25,40 +25,19 @@ use Rattle.tables.specs.Range.{tableAnswer}
 use Rattle.tables.proofs.Valid.{answers}
 use Rattle.judge.specs.Feed.{Tables, placeIn}
 use Rattle.promises.specs.Shown.{Shows}
-use Rattle.promises.specs.Fed.{refusalOn}
 use Rattle.promises.proofs.Ranges.{in-range}
 use Rattle.promises.proofs.Events.{all-met}
 use Rattle.promises.proofs.Traces.{lines-fit}
-
-either-small : (b : Bool) (m n : ℕ) → m ≤ 14 → n ≤ 14 → cond b m n ≤ 14
-either-small true m n p q = p
-either-small false m n p q = q
 
 -- ---- 1 to 7, and 8 to 14
 
 place-small : (p : Place) (l : List ℕ) → answerInPlace p l ≤ 14
 unfolding answerInPlace placeTests
-place-small p l =
-    either-small (tooMuch p l) 1 _ (omega arith)
-    (either-small (versionWrong p l) 2 _ (omega arith)
-    (either-small (parameterWrong p l) 3 _ (omega arith)
-    (either-small (unscaled p l) 4 _ (omega arith)
-    (either-small (refuses5 l) 5 _ (omega arith)
-    (either-small (refuses6 l) 6 _ (omega arith)
-    (either-small (refuses7 l) 7 _ (omega arith)
-    (omega arith)))))))
+place-small p l = lowest-has (λ n. n ≤ 14) (placeTests p l) (omega arith) (omega arith)
 
 event-small : (k : Known) (e : Event) → answerTo k e ≤ 14
-unfolding answerTo rules
-event-small k e =
-    either-small (timeFalls k e) 8 _ (omega arith)
-    (either-small (secondKind k e) 9 _ (omega arith)
-    (either-small (noRoom k e) 10 _ (omega arith)
-    (either-small (offChart k e) 11 _ (omega arith)
-    (either-small (notNext k e) 12 _ (omega arith)
-    (either-small (coreBroken k e) 13 _ (omega arith)
-    (either-small (countBroken k e) 14 _ (omega arith)
-    (omega arith)))))))
+unfolding answerTo eventTests
+event-small k e = lowest-has (λ n. n ≤ 14) (eventTests k e) (omega arith) (omega arith)
 
 -- ---- a line, and the refusal of a list of lines
 
@@ -72,7 +51,7 @@ answer-small h l = by-place (answerInPlace (placeOf h) l) (place-small (placeOf 
     by-place (suc n) p o = p
 
 pub refusal-small : (ls h : List (List ℕ)) → Kept h → (refusalOn h ls .0 ≤ 14) × (refusalOn h ls .1 ≤ 1000000001)
-unfolding refusalOn
+unfolding firstRefusal
 refusal-small [] h k = (omega arith, omega arith)
 refusal-small (l ∷ ls) h k = by-answer (answerAt h l) refl (λ q. refusal-small ls (l ∷ h) (kept-next h l k q))
   where

@@ -13,7 +13,7 @@ use Rattle.line.specs.declared.reading.Reading.the-variants.{Version, Comment, 
 use Rattle.line.specs.Part.{fieldOf}
 use Rattle.line.specs.Reading.{readLine}
 use Rattle.rules.specs.Lists.{ifZero}
-use Rattle.rules.specs.Trace.{placed}
+use Rattle.rules.specs.PlaceCode.{answerByReading}
 use Rattle.tables.specs.Entry.{numsSize, verdictNumber}
 use Rattle.tables.specs.Range.{tableAnswer}
 use Rattle.tables.specs.Fresh.{Cleared, clearedOf}
@@ -74,8 +74,8 @@ module _ (t : Tables) where
   lined-spares l = by-verdict (eqb (verdictNumber (t .nums)) 0)
     where
       by-verdict : (b : Bool) →
-          Spares t (cond b (placedLine (placed (placeIn (t .nums)) (readLine l)) t l) (after (verdictNumber (t .nums)) (t .names) (t .nums) (t .ticks)))
-      by-verdict true = placed-spares (placed (placeIn (t .nums)) (readLine l)) l
+          Spares t (cond b (placedLine (answerByReading (placeIn (t .nums)) (readLine l)) t l) (after (verdictNumber (t .nums)) (t .names) (t .nums) (t .ticks)))
+      by-verdict true = placed-spares (answerByReading (placeIn (t .nums)) (readLine l)) l
       by-verdict false = λ n. unchanged t
 
   pub refused-spares : (l : List ℕ) → Spares t (fedLine t l)

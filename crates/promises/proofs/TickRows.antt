@@ -15,7 +15,7 @@ use Rattle.rules.specs.Words.{core}
 use Rattle.rules.specs.Event.{Event}
 use Rattle.rules.specs.Core.{onCore, on}
 use Rattle.rules.specs.History.{isTracked, names, kindOf}
-use Rattle.rules.specs.Refusals.{answerTo, rules}
+use Rattle.rules.specs.Refusals.{eventTests, answerTo}
 use Rattle.rules.specs.Verdict.{Accepted}
 use Rattle.rules.proofs.Tests.{both, and-true, clash}
 use Rattle.rules.proofs.Answers.{Passed}
@@ -58,7 +58,7 @@ giving-on-core e q = sym (class-on e) ∙ rw (eqb-true (coreClass (e .kind) (e .
 
 -- an event that breaks no rule is answered 0
 pub accepted-next : (h : List Event) → Accepted h → (e : Event) → Passed h e → Accepted (e ∷ h)
-unfolding answerTo rules
+unfolding answerTo eventTests
 accepted-next h a e f = (rw (f .time, f .kinds, f .room, f .chart, f .number, f .core, f .count), a)
 
 module _ (h : List Event) (a : Accepted h) (t : Tables) (s : Shown h t) (e : Event) (f : Passed h e) where

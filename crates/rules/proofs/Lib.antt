@@ -9,6 +9,7 @@ pub mod Rows
 pub mod Changes
 pub mod Steps
 pub mod Answers
+pub mod First
 pub mod Verdicts
 pub mod CoreWords
 pub mod CoreRuns

@@ -35,7 +35,8 @@ use Rattle.rules.specs.Words.{semaphore}
 use Rattle.rules.specs.Event.{Event, Instance, sameInstance, stateOf}
 use Rattle.rules.specs.Core.{onCore}
 use Rattle.rules.specs.History.{hasInstances, isTracked, named, names, kindIn, cores, instances, activates, lastTime}
-use Rattle.rules.specs.Refusals.{less, timeFalls, sourceClash, targetClash, secondKind, noRoom, offChart, notNext, coreBroken, countBroken, rules, answerTo, unseen}
+use Rattle.rules.specs.Refusals.{less, timeFalls, sourceClash, targetClash, secondKind, noRoom, offChart, notNext, coreBroken, countBroken, eventTests, answerTo, unseen}
+use Rattle.rules.specs.First.{takenOf}
 use Rattle.rules.specs.Verdict.{answer, Accepted, taken}
 use Rattle.rules.specs.Lines.{kindNumber, wordNumber, eventFrom, eventIn, eventOfLine, withEvent, eventsOf, requests}
 use Rattle.rules.proofs.Tests.{both}
@@ -162,7 +163,7 @@ unjudged-zero Semaphore q = cc
 -- "STI, SCHED, EVENT and SIG lines are read and their fields checked, but only move the time"
 pub only-time : (h : List Event) → Accepted h → (e : ReadEvent) (source target : List ℕ) (count : ℕ) → judged (e .kind) ≡ false →
     answer h (eventFrom e source target count) ≡ cond (less (e .time) (lastTime h)) 8 0
-unfolding answerTo rules timeFalls secondKind sourceClash targetClash noRoom offChart notNext coreBroken countBroken names named kindIn instances onCore hasInstances isTracked isProcess activates chartOf
+unfolding answerTo eventTests timeFalls secondKind sourceClash targetClash noRoom offChart notNext coreBroken countBroken names named kindIn instances onCore hasInstances isTracked isProcess activates chartOf
 only-time h a e source target count j =
     let f = all-fit h a in
     rw (unjudged-zero (e .kind) j, le-ltb 256 (length (names h)) (f .names-fit), le-ltb 64 (length (cores h)) (f .cores-fit), le-ltb 1024 (length (instances h)) (f .instances-fit))
@@ -185,7 +186,7 @@ read-worded (l ∷ ls) = by-reading (readLine l) refl (read-worded ls)
     by-reading (Refused n) q w = w
 
 taken-worded : (es h : List Event) → Worded h → Worded es → Worded (taken h es)
-unfolding taken
+unfolding takenOf
 taken-worded [] h w v = w
 taken-worded (e ∷ es) h w v = by-answer (answer h e) (taken-worded es (e ∷ h) (v .0, w) (v .1))
   where

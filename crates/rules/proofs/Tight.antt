@@ -22,7 +22,8 @@ use Rattle.rules.specs.Chart.{Step}
 use Rattle.rules.specs.Charts.{processChart, runnableChart, semaphoreChart, isProcess, chartOf}
 use Rattle.rules.specs.Rows.{moveBy}
 use Rattle.rules.specs.Lines.{kindNumber, wordNumber}
-use Rattle.rules.specs.Trace.{scaleNumber, placed}
+use Rattle.rules.specs.Trace.{scaleNumber}
+use Rattle.rules.specs.PlaceCode.{answerByReading}
 
 -- ---- `process_step`, `runnable_step`, `semaphore_step`, `chart_step`: for any chart
 
@@ -86,12 +87,12 @@ scale-number-not-turned = shut-out (eqb 2) Nanoseconds refl refl
 
 -- ---- `answer_in_place`
 
-pub place-unique : (p : Place) (r : Reading) (x y : ℕ) → x ≡ placed p r → y ≡ placed p r → x ≡ y
-place-unique p = unique (placed p)
+pub place-unique : (p : Place) (r : Reading) (x y : ℕ) → x ≡ answerByReading p r → y ≡ answerByReading p r → x ≡ y
+place-unique p = unique (answerByReading p)
 
 abbrev nothingBefore : Place
 nothingBefore = record { lines = 0; scale = 0; creator = false; date = false; started = false }
 
-pub place-not-any-first : ShutsOut {A = Place × Reading} (λ (p, r). placed p r) (λ (p, r). cond (eqb (p .lines) 0) 0 (placed p r))
-unfolding placed
+pub place-not-any-first : ShutsOut {A = Place × Reading} (λ (p, r). answerByReading p r) (λ (p, r). cond (eqb (p .lines) 0) 0 (answerByReading p r))
+unfolding answerByReading
 place-not-any-first = shut-out (eqb 2) (nothingBefore, Comment) refl refl

@@ -15,7 +15,7 @@ use Rattle.rules.specs.Charts.{chartOf}
 use Rattle.rules.specs.Event.{Event, Instance, wordsOf}
 use Rattle.rules.specs.Core.{Core, on, CoreRun}
 use Rattle.rules.specs.History.{isTracked, names, cores, instances, activates}
-use Rattle.rules.specs.Refusals.{countFollows, fixed}
+use Rattle.rules.specs.Refusals.{countFollows, countAllowed}
 use Rattle.rules.specs.Lines.{eventsOf}
 use Rattle.rules.specs.Trace.{placeOf, InPlace}
 
@@ -67,7 +67,7 @@ CountAfter d e = countFollows (some (d .count)) (e .word) (e .count) ≡ true
 
 -- "Always: increment at least 1; free and unlock 0; lock 1; used, unlock_full, lock_used and full at least 1; overfull at least 2."
 abbrev pub FixedCount : Event → Type 0
-FixedCount e = e .kind ≡ semaphore → fixed (e .word) (e .count) ≡ true
+FixedCount e = e .kind ≡ semaphore → countAllowed (e .word) (e .count) ≡ true
 
 -- ---- the events of a trace
 

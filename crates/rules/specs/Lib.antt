@@ -1,6 +1,7 @@
 -- The rules of events: charts, histories, the refusals 8 to 14, the verdict and the figures of the sheet.
 pub mod Words
 pub mod Lists
+pub mod First
 pub mod Chart
 pub mod Charts
 pub mod Event
@@ -12,4 +13,5 @@ pub mod Sheet
 pub mod Rows
 pub mod Lines
 pub mod Trace
+pub mod PlaceCode
 pub mod Lawful

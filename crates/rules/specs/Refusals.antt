@@ -6,6 +6,7 @@ use Prim.Native.Nat.{ℕ, _+_}
 use lib.Dec.{eqb, ltb, leb}
 use lib.ListN.{length}
 use Rattle.text.specs.Bytes.{sameBytes}
+use Rattle.line.specs.Answer.{Test, test, lowest}
 use Rattle.rules.specs.Lists.{member}
 use Rattle.rules.specs.Chart.{allowed}
 use Rattle.rules.specs.Charts.{chartOf}
@@ -112,8 +113,8 @@ countFollows none a n = true
 countFollows (some c) a n = cond (eqb a increment) (eqb n (c + 1)) (cond (eqb a decrement) (eqb (n + 1) c) (eqb n c))
 
 -- "Always: increment at least 1; free and unlock 0; lock 1; used, unlock_full, lock_used and full at least 1; overfull at least 2."
-unfoldable pub fixed : ℕ → ℕ → Bool
-fixed a n =
+unfoldable pub countAllowed : ℕ → ℕ → Bool
+countAllowed a n =
     cond (eqb a increment) (leb 1 n)
     (cond (member a (free ∷ unlock ∷ [])) (eqb n 0)
     (cond (eqb a lock) (eqb n 1)
@@ -121,31 +122,20 @@ fixed a n =
     (cond (eqb a overfull) (leb 2 n) true))))
 
 unfoldable pub countBroken : Known → Event → Bool
-countBroken k e = eqb (e .kind) semaphore && not (countFollows (k .count) (e .word) (e .count) && fixed (e .word) (e .count))
+countBroken k e = eqb (e .kind) semaphore && not (countFollows (k .count) (e .word) (e .count) && countAllowed (e .word) (e .count))
 
 -- ---- the answer: "The lowest number that applies wins", 0 where none does
 
-pub record Rule : Type 0 where
-  pub number : ℕ
-  pub broken : Known → Event → Bool
-
-abbrev pub rule : ℕ → (Known → Event → Bool) → Rule
-rule n f = record { number = n; broken = f }
-
-unfoldable pub rules : List Rule
-rules =
-    rule 8 timeFalls
-    ∷ rule 9 secondKind
-    ∷ rule 10 noRoom
-    ∷ rule 11 offChart
-    ∷ rule 12 notNext
-    ∷ rule 13 coreBroken
-    ∷ rule 14 countBroken
+unfoldable pub eventTests : Known → Event → List Test
+eventTests k e =
+    test 8 (timeFalls k e)
+    ∷ test 9 (secondKind k e)
+    ∷ test 10 (noRoom k e)
+    ∷ test 11 (offChart k e)
+    ∷ test 12 (notNext k e)
+    ∷ test 13 (coreBroken k e)
+    ∷ test 14 (countBroken k e)
     ∷ []
 
-abbrev pub firstBroken : List Rule → Known → Event → ℕ
-firstBroken [] k e = 0
-firstBroken (r ∷ rs) k e = cond (r .broken k e) (r .number) (firstBroken rs k e)
-
 unfoldable pub answerTo : Known → Event → ℕ
-answerTo k e = firstBroken rules k e
+answerTo k e = lowest (eventTests k e)

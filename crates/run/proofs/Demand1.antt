@@ -19,6 +19,7 @@ use Rattle.line.specs.Reading.{readLine, answerOf}
 use Rattle.line.specs.Condition.{readerTests}
 use Rattle.line.specs.Writing.{writeLine, writtenAnswer}
 use Rattle.line.proofs.Answers.{answer-lowest}
+use Rattle.line.proofs.Lowest.{lowest-has}
 use Rattle.line.proofs.Outputs.{refused-keeps, writer-answers}
 use Rattle.rules.specs.Lists.{member, ifZero}
 use Rattle.rules.specs.Event.{Event}
@@ -30,7 +31,7 @@ use Rattle.tables.proofs.Zeros.{clear-answers, clear-kept}
 use Rattle.decide.specs.Decide.{planAnswer, decided}
 use Rattle.decide.proofs.Decided.{ruled, plan-answer, decided-answer, plan-refuses}
 use Rattle.judge.specs.Feed.{Tables, After, after, lined, allLined, fedLine, AfterChunk, fedChunk, verdict, verdictIn, verdictOf, AfterTrace, freshTables, judgedTrace}
-use Rattle.promises.proofs.Numbers.{lowest-has, lined-numbered, lines-most}
+use Rattle.promises.proofs.Numbers.{lined-numbered, lines-most}
 use Rattle.promises.proofs.Refused.{OnlyVerdict, refused-spares, StopsAfter, lines-spare}
 use Rattle.promises.proofs.Judged.{never-16}
 use Rattle.sheet.specs.declared.sheet.Printed.the-variants.{Done, NotPrinted}

@@ -22,11 +22,12 @@ use Rattle.line.specs.declared.reading.Reading.the-variants.{Refused}
 use Rattle.line.specs.Reading.{readLine}
 use Rattle.line.specs.Condition.{refuses1}
 use Rattle.rules.specs.Lists.{ifZero}
-use Rattle.rules.specs.Trace.{tooMuch, placeTests, answerInPlace, answerAt}
+use Rattle.rules.specs.First.{firstRefusal}
+use Rattle.rules.specs.Trace.{tooMuch, placeTests, answerInPlace, answerAt, refusalOn}
 use Rattle.tables.specs.Entry.{verdictNumber}
 use Rattle.judge.specs.Feed.{Tables, After, placedLine, lined, allLined, fedLine, fedChunk, freshTables}
 use Rattle.judge.proofs.Feeds.{allLined-append, lined-fed, lined-chunk}
-use Rattle.promises.specs.Fed.{refusalOn, joined}
+use Rattle.promises.specs.Fed.{joined}
 use Rattle.promises.proofs.Traces.{further}
 use Rattle.promises.proofs.Judged.{after-lines, shows-taken, never-16}
 use Rattle.sheet.specs.declared.sheet.Printed.the-variants.{Done, NotPrinted}
@@ -69,7 +70,7 @@ long-refused h l z = rw (lt-ltb 1023 (length l) z, or-true)
 
 -- so among lines one is refused
 long-among : (ks h : List (List ℕ)) (l : List ℕ) → 1023 < length l → refusalOn h (ks ++ l ∷ []) .0 ≡ 0 → ⊥
-unfolding refusalOn
+unfolding firstRefusal
 long-among [] h l z = rw (long-refused h l z) (λ e. omega arith)
 long-among (k ∷ ks) h l z = by-answer (answerAt h k) (long-among ks (k ∷ h) l z)
   where

@@ -1,14 +1,15 @@
 -- Document 01's table of numbered answers, by call: the numbers that each call gives, over any bytes, any tables and any output.
 use mathlib.Core.List.{List, [], _∷_}
 use Prim.Native.Nat.{ℕ}
+use Rattle.line.specs.Writing.{writerNumbers}
 
 -- `read`: "The reader answers from its line alone". 4 and 8 to 14 need the lines before, 15 and 16 an output or a table
 abbrev pub readAnswers : List ℕ
 readAnswers = 0 ∷ 1 ∷ 2 ∷ 3 ∷ 5 ∷ 6 ∷ 7 ∷ []
 
--- `write`: "The writer gives 0, 5, 6, 7 or 15"
+-- `write`
 abbrev pub writeAnswers : List ℕ
-writeAnswers = 0 ∷ 5 ∷ 6 ∷ 7 ∷ 15 ∷ []
+writeAnswers = writerNumbers
 
 -- `decide`, an event line that was read: 1 to 7 are decided before it, and it looks at no entry's range
 abbrev pub decideAnswers : List ℕ

@@ -1,13 +1,13 @@
 -- `decide::plan::count_fits` meets its contract: three words fix the count, and the others have a least one.
 use borrow.Author.Needs.{needs}
 use borrow.Author.Tests.{ne-eqb}
-use Rattle.rules.specs.Refusals.{fixed}
+use Rattle.rules.specs.Refusals.{countAllowed}
 use Rattle.decide.proofs.Counts.{least-fits}
 use Rattle.decide.proofs.plan.count_fits.Statement.{statement}
 use Rattle.decide.proofs.plan.count_fits.Tie as tie
 
 pub count-fits-spec : {M : Type 1} → statement M
-unfolding fixed
+unfolding countAllowed
 count-fits-spec =
     tie.close
     (tie.spec
