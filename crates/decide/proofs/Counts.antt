@@ -11,7 +11,8 @@ use Rattle.rules.specs.Words.{increment, lock-used, full, overfull, unlock-full
 use Rattle.rules.specs.Refusals.{countAllowed}
 use Rattle.tables.specs.declared.find.Found.{Found}
 use Rattle.tables.specs.declared.find.Found.the-variants.{At, Nothing}
-use Rattle.decide.specs.Known.{oneNew, leastCount}
+use Rattle.decide.specs.Known.{oneNew}
+use Rattle.decide.specs.PlanCode.{leastCount}
 
 -- a core's state is 2 more than the row of the instance that holds it
 pub row-named : (m j : ℕ) → 2 ≤ m → eqb (m - 2) j ≡ eqb m (j + 2)

@@ -44,16 +44,9 @@ use Rattle.decide.specs.declared.sight.Sight.{Sight}
 use Rattle.decide.specs.declared.plan.Plan.{Plan}
 use Rattle.decide.specs.declared.plan.Plan.the-variants.{Refuse, Take}
 use Rattle.decide.specs.Sight.{coreClass, sightOf}
-use Rattle.decide.specs.Known.{
-  kindIn,
-  markIn,
-  numberIn,
-  numberedIn,
-  stateIn,
-  another,
-  holds,
-  coreIn,
-  knownBy,
+use Rattle.decide.specs.Known.{kindIn, markIn, numberIn, numberedIn, stateIn, another, holds, coreIn, knownBy}
+use Rattle.decide.specs.Decide.{enters, planBy, planOf}
+use Rattle.decide.specs.PlanCode.{
   timeFallsIn,
   kindClash,
   sourceClashIn,
@@ -64,8 +57,10 @@ use Rattle.decide.specs.Known.{
   coreBrokenIn,
   countFollowsIn,
   countBrokenIn,
+  movePlan,
+  stepsPlan,
+  testsPlan,
 }
-use Rattle.decide.specs.Decide.{enters, planBy, movePlan, stepsPlan, testsPlan, planOf}
 use Rattle.decide.proofs.Classes.{class-on, class-takes}
 
 -- ---- entries that are 0 for none

@@ -1,7 +1,7 @@
 -- `decide::plan::core_broken` meets its contract: a line of no class breaks nothing, and any other by what is looked up for it.
 use borrow.Author.Needs.{needs}
 use borrow.Author.Tests.{eq-eqb, ne-eqb}
-use Rattle.decide.specs.Known.{coreBrokenIn}
+use Rattle.decide.specs.PlanCode.{coreBrokenIn}
 use Rattle.decide.proofs.plan.core_broken.Statement.{statement}
 use Rattle.decide.proofs.plan.core_broken.Tie as tie
 

@@ -1,7 +1,7 @@
 -- `decide::plan::core_serves` meets its contract: at each exit the tests passed say which case of the definition it is.
 use borrow.Author.Needs.{needs}
 use borrow.Author.Tests.{eq-eqb, ne-eqb}
-use Rattle.decide.specs.Known.{coreServes}
+use Rattle.decide.specs.PlanCode.{coreServes}
 use Rattle.decide.proofs.plan.core_serves.Statement.{statement}
 use Rattle.decide.proofs.plan.core_serves.Tie as tie
 

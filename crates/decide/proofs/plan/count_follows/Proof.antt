@@ -1,7 +1,7 @@
 -- `decide::plan::count_follows` meets its contract: at each exit the tests passed say which case of the definition it is.
 use borrow.Author.Needs.{needs}
 use borrow.Author.Tests.{eq-eqb, ne-eqb}
-use Rattle.decide.specs.Known.{countFollowsIn}
+use Rattle.decide.specs.PlanCode.{countFollowsIn}
 use Rattle.decide.proofs.plan.count_follows.Statement.{statement}
 use Rattle.decide.proofs.plan.count_follows.Tie as tie
 

@@ -1,6 +1,6 @@
 -- `decide::plan::least_count` meets its contract: each word of the list is tested.
 use borrow.Author.Tests.{ne-eqb}
-use Rattle.decide.specs.Known.{leastCount}
+use Rattle.decide.specs.PlanCode.{leastCount}
 use Rattle.decide.proofs.plan.least_count.Statement.{statement}
 use Rattle.decide.proofs.plan.least_count.Tie as tie
 

@@ -5,7 +5,7 @@ use lib.Dec.{eqb}
 use borrow.Author.Needs.{needs}
 use native.Mathlib.Omega.{arith}
 use borrow.Author.Tests.{lt-ltb, le-ltb}
-use Rattle.decide.specs.Known.{noRoomIn}
+use Rattle.decide.specs.PlanCode.{noRoomIn}
 use Rattle.decide.proofs.Counts.{one-at-most}
 use Rattle.decide.proofs.plan.no_room.Statement.{statement}
 use Rattle.decide.proofs.plan.no_room.Tie as tie
