@@ -1,8 +1,8 @@
--- `words::action::action_code` meets its contract: each arm gives its code.
+-- `words::code::action_code` meets its contract: each arm gives its code.
 use borrow.Author.Needs.{needs}
 use Rattle.words.specs.Action.{actionCode}
-use Rattle.words.proofs.action.action_code.Statement.{statement}
-use Rattle.words.proofs.action.action_code.Tie as tie
+use Rattle.words.proofs.code.action_code.Statement.{statement}
+use Rattle.words.proofs.code.action_code.Tie as tie
 
 pub action-code-spec : {M : Type 1} → statement M
 unfolding actionCode
