@@ -7,7 +7,7 @@ use native.Mathlib.Omega.{arith}
 use lib.Dec.{eqb, leb, leb·zero}
 use borrow.Author.Tests.{eqb-true, eqb-false, eq-eqb, ne-eqb}
 use Rattle.rules.specs.Lists.{member}
-use Rattle.rules.specs.Words.{increment, lock-used, full, overfull, unlock-full, used}
+use Rattle.rules.specs.Words.{increment, free, unlock, lock, lock-used, full, overfull, unlock-full, used}
 use Rattle.rules.specs.Refusals.{fixed}
 use Rattle.tables.specs.declared.find.Found.{Found}
 use Rattle.tables.specs.declared.find.Found.the-variants.{At, Nothing}
@@ -30,7 +30,7 @@ one-at-most true (At i) e = omega arith
 one-at-most true Nothing e = omega arith
 
 -- but for the three words that fix the count
-pub least-fits : (a n : ℕ) → eqb a 16 ≡ false → eqb a 17 ≡ false → eqb a 18 ≡ false → leb (leastCount a) n ≡ fixed a n
+pub least-fits : (a n : ℕ) → eqb a free ≡ false → eqb a unlock ≡ false → eqb a lock ≡ false → leb (leastCount a) n ≡ fixed a n
 unfolding leastCount fixed
 least-fits a n p q r = rw (p, q, r) (by-test (eqb a increment) (member a (used ∷ unlock-full ∷ lock-used ∷ full ∷ [])) (eqb a overfull))
   where

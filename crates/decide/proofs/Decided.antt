@@ -5,6 +5,7 @@ use mathlib.Core.List.{List}
 use Prim.Native.Nat.{ℕ, zero, suc, _≤_}
 use native.Mathlib.Omega.{arith}
 use lib.ListN.{length}
+use Rattle.rules.specs.Limits.{lastRefusal}
 use Rattle.rules.specs.Lists.{ifZero}
 use Rattle.rules.specs.Event.{Event}
 use Rattle.rules.specs.Refusals.{Known, timeFalls, secondKind, noRoom, offChart, notNext, coreBroken, countBroken, rules, answerTo}
@@ -25,9 +26,9 @@ decided-sized {names} {nums} {ticks} e s = rw (sizes-mean names nums ticks .show
 -- ---- an answer is 0 or from 8 to 14
 
 abbrev Ranged : ℕ → Type 0
-Ranged a = 1 ≤ a → (8 ≤ a) × (a ≤ 14)
+Ranged a = 1 ≤ a → (8 ≤ a) × (a ≤ lastRefusal)
 
-ranged : (b : Bool) (n a : ℕ) → 8 ≤ n → n ≤ 14 → Ranged a → Ranged (cond b n a)
+ranged : (b : Bool) (n a : ℕ) → 8 ≤ n → n ≤ lastRefusal → Ranged a → Ranged (cond b n a)
 ranged true n a l u r = λ h. (l, u)
 ranged false n a l u r = r
 
@@ -66,7 +67,7 @@ module _ (names nums ticks : List ℕ) (e : Event) where
       by-size false = refl
 
   -- by tables of the right sizes a refusal is by one of 8 to 14
-  pub plan-refuses : 1 ≤ planAnswer (planOf names nums ticks e) → (8 ≤ planAnswer (planOf names nums ticks e)) × (planAnswer (planOf names nums ticks e) ≤ 14)
+  pub plan-refuses : 1 ≤ planAnswer (planOf names nums ticks e) → (8 ≤ planAnswer (planOf names nums ticks e)) × (planAnswer (planOf names nums ticks e) ≤ lastRefusal)
   plan-refuses = rw plan-answer (answer-ranged (knownBy nums ticks (sightOf names nums e) e) e)
 
   -- and a line that is taken carries what was looked up and the state entered

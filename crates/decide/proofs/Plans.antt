@@ -12,7 +12,7 @@ use Rattle.rules.specs.Chart.{stepFor, allowed}
 use Rattle.rules.specs.Charts.{chartOf}
 use Rattle.rules.specs.Words.{semaphore}
 use Rattle.rules.specs.History.{activates}
-use Rattle.rules.specs.Core.{held, takes, onCore}
+use Rattle.rules.specs.Core.{held, takes, onCore, coreClass}
 use Rattle.rules.specs.Event.{Event, Instance, sameInstance, instanceOf}
 use Rattle.rules.specs.Rows.{opened, leadsTo, moveIf, moveBy}
 use Rattle.rules.specs.Refusals.{
@@ -37,13 +37,14 @@ use Rattle.rules.specs.Refusals.{
   answerTo,
 }
 use Rattle.rules.proofs.Tests.{instance-refl}
+use Rattle.rules.proofs.CoreClasses.{class-on, class-takes}
 use Rattle.tables.specs.declared.find.Found.{Found}
 use Rattle.tables.specs.declared.find.Found.the-variants.{At, Nothing}
 use Rattle.tables.specs.Entry.{startedEntry, lastTime}
 use Rattle.decide.specs.declared.sight.Sight.{Sight}
 use Rattle.decide.specs.declared.plan.Plan.{Plan}
 use Rattle.decide.specs.declared.plan.Plan.the-variants.{Refuse, Take}
-use Rattle.decide.specs.Sight.{coreClass, sightOf}
+use Rattle.decide.specs.Sight.{sightOf}
 use Rattle.decide.specs.Known.{
   kindIn,
   markIn,
@@ -66,7 +67,6 @@ use Rattle.decide.specs.Known.{
   countBrokenIn,
 }
 use Rattle.decide.specs.Decide.{enters, planBy, movePlan, stepsPlan, testsPlan, planOf}
-use Rattle.decide.proofs.Classes.{class-on, class-takes}
 
 -- ---- entries that are 0 for none
 

@@ -8,7 +8,8 @@ use Rattle.text.specs.Bytes.{sameBytes}
 use Rattle.rules.specs.Words.{core, semaphore, increment, decrement, lock-used, full, overfull, unlock-full, used}
 use Rattle.rules.specs.Lists.{member}
 use Rattle.rules.specs.Event.{Event, Instance, instanceOf}
-use Rattle.rules.specs.Core.{Core, unknown, idle, held}
+use Rattle.rules.specs.Limits.{nameLimit, coreLimit, instanceLimit}
+use Rattle.rules.specs.Core.{Core, unknown, idle, held, no-core, takes-core}
 use Rattle.rules.specs.Rows.{opened}
 use Rattle.rules.specs.History.{hasInstances, isTracked, activates}
 use Rattle.rules.specs.Refusals.{Known, fixed}
@@ -46,7 +47,7 @@ oneNew true (At i) = 0
 oneNew true Nothing = 1
 
 abbrev pub newCore : Sight → ℕ
-newCore s = oneNew (not (eqb (s .class) 0)) (s .source)
+newCore s = oneNew (not (eqb (s .class) no-core)) (s .source)
 
 abbrev pub newName : Sight → ℕ → ℕ
 newName s k = oneNew (isTracked k) (s .target)
@@ -91,24 +92,24 @@ unfoldable pub kindClash : ℕ → ℕ → Bool
 kindClash j k = not (eqb j 0) && not (eqb j k)
 
 unfoldable pub sourceClashIn : List ℕ → Sight → List ℕ → List ℕ → Bool
-sourceClashIn nums s source target = not (eqb (s .class) 0) && (kindClash (kindIn nums (s .source)) core || sameBytes source target)
+sourceClashIn nums s source target = not (eqb (s .class) no-core) && (kindClash (kindIn nums (s .source)) core || sameBytes source target)
 
 unfoldable pub targetClashIn : List ℕ → Sight → ℕ → Bool
 targetClashIn nums s k = isTracked k && kindClash (kindIn nums (s .target)) k
 
 unfoldable pub noRoomIn : List ℕ → Sight → ℕ → Bool
 noRoomIn nums s k =
-    ltb 256 (nameCount nums + newCore s + newName s k)
-    || (ltb 64 (coreCount nums + newCore s) || ltb 1024 (instanceCount nums + newInstance s k))
+    ltb nameLimit (nameCount nums + newCore s + newName s k)
+    || (ltb coreLimit (coreCount nums + newCore s) || ltb instanceLimit (instanceCount nums + newInstance s k))
 
 unfoldable pub notNextIn : List ℕ → Sight → ℕ → ℕ → ℕ → Bool
 notNextIn nums s k a n = activates k a && (not (eqb (numberedIn nums (s .target)) 0) && not (eqb n (numberIn nums (s .target) + 1)))
 
 unfoldable pub coreServes : ℕ → ℕ → Found → Bool → Bool
-coreServes class mark f first = cond (eqb class 1) (leb mark 1) (cond (eqb mark 0) first (holds f mark))
+coreServes class mark f first = cond (eqb class takes-core) (leb mark 1) (cond (eqb mark 0) first (holds f mark))
 
 unfoldable pub coreBrokenIn : List ℕ → Sight → ℕ → Bool
-coreBrokenIn nums s k = not (eqb (s .class) 0) && not (coreServes (s .class) (markIn nums (s .source)) (s .instance) (eqb (stateIn nums s k) 0))
+coreBrokenIn nums s k = not (eqb (s .class) no-core) && not (coreServes (s .class) (markIn nums (s .source)) (s .instance) (eqb (stateIn nums s k) 0))
 
 unfoldable pub countFollowsIn : ℕ → ℕ → ℕ → Bool
 countFollowsIn c a n = cond (eqb a increment) (eqb n (c + 1)) (cond (eqb a decrement) (eqb (n + 1) c) (eqb n c))

@@ -3,7 +3,6 @@ ghost use mathlib.Core.Path.{_≡_};
 ghost use Prim.Native.Nat.{_+_};
 ghost use lib.Dec.{eqb};
 ghost use lib.ListN.{length};
-ghost use Rattle.rules.specs.History.{activates};
 ghost use Rattle.rules.specs.Refusals.{fixed};
 ghost use Rattle.decide.specs.Happening.{asEvent};
 ghost use Rattle.decide.specs.Known.{timeFallsIn, kindClash, sourceClashIn, targetClashIn, noRoomIn, notNextIn, coreServes, coreBrokenIn, countFollowsIn, leastCount, countBrokenIn};
@@ -18,16 +17,16 @@ use crate::known::one_new;
 use crate::known::state_in;
 use crate::sight::Sight;
 use crate::sight::look;
-use crate::sight::tracked;
-use crate::sight::with_instances;
 use rules::chart::Move;
 use rules::chart::chart_step;
+use rules::kind::*;
 use rules::numbers::CORE;
 use rules::numbers::*;
 use tables::entry::*;
 use tables::find::Found;
 use tables::range::sized;
 use text::bytes::same;
+use words::code::*;
 
 // What becomes of an event line: it is refused, or taken with what was looked up and the state that its semaphore or instance enters.
 pub enum Plan {
@@ -61,7 +60,7 @@ fn source_clash(nums: &[u32], s: Sight, source: &[u8], target: &[u8]) -> bool
     requires { ⌜ length (now nums) ≡ numsSize ⌝ }
     ensures { λ r. ⌜ r ≡ sourceClashIn (now (nums .entry)) s (now (source .entry)) (now (target .entry)) ⌝ }
 {
-    if s.class == 0 {
+    if s.class == NO_CORE {
         return false;
     }
     let row = s.source;
@@ -91,35 +90,16 @@ fn no_room(nums: &[u32], s: Sight, kind: u32) -> bool
     let source_row = s.source;
     let target_row = s.target;
     let instance_row = s.instance;
-    let core = one_new(s.class != 0, source_row);
+    let core = one_new(s.class != NO_CORE, source_row);
     let name = one_new(tracked(kind), target_row);
     let instance = one_new(with_instances(kind), instance_row);
-    if 256 < nums[NAMES] as u64 + core + name {
+    if (NAME_LIMIT as u64) < nums[NAMES] as u64 + core + name {
         return true;
     }
-    if 64 < nums[CORES] as u64 + core {
+    if (CORE_LIMIT as u64) < nums[CORES] as u64 + core {
         return true;
     }
-    1024 < nums[INSTANCES] as u64 + instance
-}
-
-// Whether an event is one that numbers its instance: activate or mtalimitexceeded of a process, start of a runnable.
-pub fn numbers_instance(kind: u32, word: u32) -> bool
-    ensures { λ r. ⌜ r ≡ activates kind word ⌝ }
-{
-    if kind == RUNNABLE {
-        return word == START;
-    }
-    if kind < TASK {
-        return false;
-    }
-    if INTERRUPT < kind {
-        return false;
-    }
-    if word == ACTIVATE {
-        return true;
-    }
-    word == MTALIMITEXCEEDED
+    (INSTANCE_LIMIT as u64) < nums[INSTANCES] as u64 + instance
 }
 
 // 12: whether the instance number is not the next.
@@ -152,7 +132,7 @@ fn names_row(mark: u32, j: usize) -> bool
 fn core_serves(class: u32, mark: u32, instance: Found, first: bool) -> bool
     ensures { λ r. ⌜ r ≡ coreServes class mark instance first ⌝ }
 {
-    if class == 1 {
+    if class == TAKES_CORE {
         return mark <= 1;
     }
     if mark == 0 {
@@ -169,7 +149,7 @@ fn core_broken(nums: &[u32], s: Sight, kind: u32) -> bool
     requires { ⌜ length (now nums) ≡ numsSize ⌝ }
     ensures { λ r. ⌜ r ≡ coreBrokenIn (now (nums .entry)) s kind ⌝ }
 {
-    if s.class == 0 {
+    if s.class == NO_CORE {
         return false;
     }
     let row = s.source;

@@ -20,13 +20,13 @@ use Rattle.rules.specs.Rows.{opened, leadsTo, moveBy}
 use Rattle.rules.specs.Verdict.{Accepted}
 use Rattle.rules.proofs.Tests.{neither}
 use Rattle.rules.proofs.CoreWords.{on-process}
+use Rattle.rules.proofs.CoreClasses.{class-on}
 use Rattle.rules.proofs.Steps.{step-state}
 use Rattle.tables.specs.declared.find.Found.{Found}
 use Rattle.tables.specs.declared.find.Found.the-variants.{Nothing}
 use Rattle.tables.specs.Entry.{stateColumn}
 use Rattle.decide.specs.Known.{markIn, entryOf, stateIn, numberKnown, coreIn, knownBy}
 use Rattle.decide.specs.Decide.{enters}
-use Rattle.decide.proofs.Classes.{class-on}
 use Rattle.judge.specs.Feed.{Tables}
 use Rattle.rules.proofs.Tracked.{target-is, source-is}
 use Rattle.promises.specs.Places.{seek}

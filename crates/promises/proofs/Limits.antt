@@ -13,6 +13,7 @@ use Rattle.line.specs.declared.reading.Reading.{Reading}
 use Rattle.line.specs.declared.reading.Reading.the-variants.{Version, Comment, TimeScale, Creator, CreationDate, EventLine, Refused}
 use Rattle.line.specs.Reading.{readLine}
 use Rattle.line.specs.Condition.{refuses5, refuses6, refuses7}
+use Rattle.rules.specs.Limits.{lastRefusal}
 use Rattle.rules.specs.Lists.{orElse, latest, ifZero}
 use Rattle.rules.specs.Event.{Event}
 use Rattle.rules.specs.Refusals.{Known, look, timeFalls, secondKind, noRoom, offChart, notNext, coreBroken, countBroken, rules, answerTo}
@@ -30,13 +31,13 @@ use Rattle.promises.proofs.Ranges.{in-range}
 use Rattle.promises.proofs.Events.{all-met}
 use Rattle.promises.proofs.Traces.{lines-fit}
 
-either-small : (b : Bool) (m n : ℕ) → m ≤ 14 → n ≤ 14 → cond b m n ≤ 14
+either-small : (b : Bool) (m n : ℕ) → m ≤ lastRefusal → n ≤ lastRefusal → cond b m n ≤ lastRefusal
 either-small true m n p q = p
 either-small false m n p q = q
 
 -- ---- 1 to 7, and 8 to 14
 
-place-small : (p : Place) (l : List ℕ) → answerInPlace p l ≤ 14
+place-small : (p : Place) (l : List ℕ) → answerInPlace p l ≤ lastRefusal
 unfolding answerInPlace placeTests
 place-small p l =
     either-small (tooMuch p l) 1 _ (omega arith)
@@ -48,7 +49,7 @@ place-small p l =
     (either-small (refuses7 l) 7 _ (omega arith)
     (omega arith)))))))
 
-event-small : (k : Known) (e : Event) → answerTo k e ≤ 14
+event-small : (k : Known) (e : Event) → answerTo k e ≤ lastRefusal
 unfolding answerTo rules
 event-small k e =
     either-small (timeFalls k e) 8 _ (omega arith)
@@ -62,22 +63,22 @@ event-small k e =
 
 -- ---- a line, and the refusal of a list of lines
 
-pub answer-small : (h : List (List ℕ)) (l : List ℕ) → answerAt h l ≤ 14
+pub answer-small : (h : List (List ℕ)) (l : List ℕ) → answerAt h l ≤ lastRefusal
 unfolding answerAt
 answer-small h l = by-place (answerInPlace (placeOf h) l) (place-small (placeOf h) l) (eventOfLine l)
   where
-    by-place : (n : ℕ) → n ≤ 14 → (o : Option Event) → ifZero n (eventAnswer o (eventsOf h)) n ≤ 14
+    by-place : (n : ℕ) → n ≤ lastRefusal → (o : Option Event) → ifZero n (eventAnswer o (eventsOf h)) n ≤ lastRefusal
     by-place zero p none = p
     by-place zero p (some e) = event-small (look (eventsOf h) e) e
     by-place (suc n) p o = p
 
-pub refusal-small : (ls h : List (List ℕ)) → Kept h → (refusalOn h ls .0 ≤ 14) × (refusalOn h ls .1 ≤ 1000000001)
+pub refusal-small : (ls h : List (List ℕ)) → Kept h → (refusalOn h ls .0 ≤ lastRefusal) × (refusalOn h ls .1 ≤ 1000000001)
 unfolding refusalOn
 refusal-small [] h k = (omega arith, omega arith)
 refusal-small (l ∷ ls) h k = by-answer (answerAt h l) refl (λ q. refusal-small ls (l ∷ h) (kept-next h l k q))
   where
-    by-answer : (n : ℕ) → answerAt h l ≡ n → (answerAt h l ≡ 0 → (refusalOn (l ∷ h) ls .0 ≤ 14) × (refusalOn (l ∷ h) ls .1 ≤ 1000000001)) →
-        ((ifZero n (refusalOn (l ∷ h) ls) (n, length h + 1)) .0 ≤ 14) × ((ifZero n (refusalOn (l ∷ h) ls) (n, length h + 1)) .1 ≤ 1000000001)
+    by-answer : (n : ℕ) → answerAt h l ≡ n → (answerAt h l ≡ 0 → (refusalOn (l ∷ h) ls .0 ≤ lastRefusal) × (refusalOn (l ∷ h) ls .1 ≤ 1000000001)) →
+        ((ifZero n (refusalOn (l ∷ h) ls) (n, length h + 1)) .0 ≤ lastRefusal) × ((ifZero n (refusalOn (l ∷ h) ls) (n, length h + 1)) .1 ≤ 1000000001)
     by-answer zero q f = f q
     by-answer (suc n) q f = let a = answer-small h l in let b = lines-fit h (k .in-place) in (omega arith, omega arith)
 
@@ -105,7 +106,7 @@ scale-small (l ∷ h) = by-reading (readLine l) (scale-small h)
     by-reading (EventLine e count) i = i
     by-reading (Refused n) i = i
 
-pub shows-valid : (h : List (List ℕ)) → Kept h → (t : Tables) → Shows h t → verdictNumber (t .nums) ≤ 14 → verdictLine (t .nums) ≤ 1000000001 →
+pub shows-valid : (h : List (List ℕ)) → Kept h → (t : Tables) → Shows h t → verdictNumber (t .nums) ≤ lastRefusal → verdictLine (t .nums) ≤ 1000000001 →
     tableAnswer (t .names) (t .nums) (t .ticks) ≡ 0
 unfolding placeIn placeOf
 shows-valid h k t s v w =

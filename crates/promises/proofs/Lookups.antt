@@ -13,21 +13,21 @@ use Rattle.text.specs.Bytes.{sameBytes}
 use Rattle.text.proofs.Words.{same-eq, same-refl}
 use Rattle.rules.specs.Lists.{any, oneIf}
 use Rattle.rules.specs.Event.{Event, Instance, sameInstance, instanceOf}
-use Rattle.rules.specs.Core.{onCore}
+use Rattle.rules.specs.Core.{onCore, coreClass}
 use Rattle.rules.specs.History.{hasInstances, isTracked, names, kindOf, instances}
 use Rattle.rules.specs.Refusals.{look, secondKind}
 use Rattle.rules.specs.Verdict.{Accepted}
 use Rattle.rules.proofs.Tests.{clash}
 use Rattle.rules.proofs.Answers.{all-fit}
+use Rattle.rules.proofs.CoreClasses.{class-on}
 use Rattle.rules.proofs.Tracked.{named-kind, target-is}
 use Rattle.tables.specs.declared.find.Found.{Found}
 use Rattle.tables.specs.declared.find.Found.the-variants.{At, Nothing}
 use Rattle.tables.specs.Entry.{nameCount, instanceCount, nameAt, ownerAt, instanceAt}
 use Rattle.tables.specs.Find.{firstFrom, lastBelow, rowIs, findName, instanceIs, findInstance}
 use Rattle.tables.proofs.Found.{first-at, first-none, last-at, last-none, name-found, instance-found, row-name, name-row, instance-means}
-use Rattle.decide.specs.Sight.{coreClass, lookIf, instanceIn, sightOf}
+use Rattle.decide.specs.Sight.{lookIf, instanceIn, sightOf}
 use Rattle.decide.specs.Known.{oneNew, newCore, newName, newInstance as newRow}
-use Rattle.decide.proofs.Classes.{class-on}
 use Rattle.store.specs.Store.{rowOr, coreRow, targetRow, instanceRow}
 use Rattle.judge.specs.Feed.{Tables}
 use Rattle.promises.specs.Places.{place, seek, rowOf, instanceRowOf}

@@ -13,6 +13,7 @@ use Rattle.line.specs.declared.reading.Reading.the-variants.{Version, Comment, 
 use Rattle.line.specs.Part.{fieldOf}
 use Rattle.line.specs.Reading.{readLine}
 use Rattle.line.specs.Answer.{Test, lowest}
+use Rattle.rules.specs.Limits.{lastRefusal}
 use Rattle.rules.specs.declared.place.Place.{Place}
 use Rattle.rules.specs.Event.{Event}
 use Rattle.rules.specs.Trace.{placeTests, answerInPlace, scaleNumber, placed}
@@ -46,10 +47,10 @@ placed-most : (p : Place) (l : List ℕ) → placed p (readLine l) ≤ 7
 unfolding answerInPlace placeTests
 placed-most p l = rw (placed-right p l) (lowest-has (λ n. n ≤ 7) (placeTests p l) (omega arith) (omega arith))
 
-plan-most : (names nums ticks : List ℕ) (e : Event) → planAnswer (planOf names nums ticks e) ≤ 14
+plan-most : (names nums ticks : List ℕ) (e : Event) → planAnswer (planOf names nums ticks e) ≤ lastRefusal
 plan-most names nums ticks e = by-number (planAnswer (planOf names nums ticks e)) (plan-refuses names nums ticks e)
   where
-    by-number : (n : ℕ) → (1 ≤ n → (8 ≤ n) × (n ≤ 14)) → n ≤ 14
+    by-number : (n : ℕ) → (1 ≤ n → (8 ≤ n) × (n ≤ lastRefusal)) → n ≤ lastRefusal
     by-number zero f = omega arith
     by-number (suc n) f = f (omega arith) .1
 
@@ -57,11 +58,11 @@ plan-most names nums ticks e = by-number (planAnswer (planOf names nums ticks e)
 
 -- the answer is at most 14, and it is remembered: 0 stands for no refusal
 pub record Numbered (x : After) : Type 0 where
-  pub most : x .answer ≤ 14
+  pub most : x .answer ≤ lastRefusal
   pub kept : verdictNumber (x .left .nums) ≡ x .answer
 
 module _ (t : Tables) (z : length (t .nums) ≡ numsSize) where
-  refusal-numbered : (n : ℕ) → n ≤ 14 → Numbered (after n (t .names) (remembered (t .nums) n) (t .ticks))
+  refusal-numbered : (n : ℕ) → n ≤ lastRefusal → Numbered (after n (t .names) (remembered (t .nums) n) (t .ticks))
   refusal-numbered n m = record { most = m; kept = remembered-number (t .nums) n z }
 
   module _ (v : verdictNumber (t .nums) ≡ 0) where
@@ -73,7 +74,7 @@ module _ (t : Tables) (z : length (t .nums) ≡ numsSize) where
     stored : (i n : ℕ) → 1 ≤ i → verdictNumber (set (t .nums) i n) ≡ 0
     stored i n h = other (t .nums) i 0 n (λ q. omega arith) ∙ v
 
-    carried-numbered : (p : Plan) → planAnswer p ≤ 14 → (w : Happening) (source target : List ℕ) → Numbered (carried p t w source target)
+    carried-numbered : (p : Plan) → planAnswer p ≤ lastRefusal → (w : Happening) (source target : List ℕ) → Numbered (carried p t w source target)
     unfolding planAnswer
     carried-numbered (Refuse n) m w source target = refusal-numbered n m
     carried-numbered (Take s state) m w source target =
@@ -97,7 +98,7 @@ module _ (t : Tables) (z : length (t .nums) ≡ numsSize) where
     placed-numbered zero m l = read-numbered (readLine l) l
     placed-numbered (suc n) m l = refusal-numbered (suc n) (omega arith)
 
-  pub lined-numbered : verdictNumber (t .nums) ≤ 14 → (l : List ℕ) → Numbered (lined t l)
+  pub lined-numbered : verdictNumber (t .nums) ≤ lastRefusal → (l : List ℕ) → Numbered (lined t l)
   unfolding lined
   lined-numbered m l = by-verdict (eqb (verdictNumber (t .nums)) 0) refl
     where
@@ -111,7 +112,7 @@ module _ (t : Tables) (z : length (t .nums) ≡ numsSize) where
 
 -- ---- many lines
 
-pub lines-most : (t : Tables) → length (t .nums) ≡ numsSize → verdictNumber (t .nums) ≤ 14 → (ls : List (List ℕ)) → verdictNumber (allLined t ls .nums) ≤ 14
+pub lines-most : (t : Tables) → length (t .nums) ≡ numsSize → verdictNumber (t .nums) ≤ lastRefusal → (ls : List (List ℕ)) → verdictNumber (allLined t ls .nums) ≤ lastRefusal
 unfolding allLined
 lines-most t z m [] = m
 lines-most t z m (l ∷ ls) =

@@ -12,6 +12,7 @@ use Rattle.line.specs.declared.reading.Reading.{Reading}
 use Rattle.line.specs.declared.reading.Reading.the-variants.{Version, Comment, TimeScale, Creator, CreationDate, EventLine, Refused}
 use Rattle.line.specs.Part.{fieldOf}
 use Rattle.line.specs.Reading.{readLine}
+use Rattle.rules.specs.Limits.{lastRefusal}
 use Rattle.rules.specs.Lists.{ifZero}
 use Rattle.rules.specs.Trace.{placed}
 use Rattle.tables.specs.Entry.{numsSize, verdictNumber}
@@ -109,7 +110,7 @@ pub record StopsAfter (t : Tables) (ls : List (List ℕ)) : Type 0 where
   pub all-taken : AllTaken t taken
   pub spares : OnlyVerdict (allLined t taken) (allLined t ls)
 
-pub lines-spare : (t : Tables) → length (t .nums) ≡ numsSize → verdictNumber (t .nums) ≤ 14 → (ls : List (List ℕ)) → StopsAfter t ls
+pub lines-spare : (t : Tables) → length (t .nums) ≡ numsSize → verdictNumber (t .nums) ≤ lastRefusal → (ls : List (List ℕ)) → StopsAfter t ls
 unfolding allLined
 lines-spare t z m [] = record { taken = []; rest = []; splits = refl; all-taken = tt; spares = unchanged t }
 lines-spare t z m (l ∷ ls) =

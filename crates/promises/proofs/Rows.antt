@@ -14,17 +14,16 @@ use Rattle.rules.specs.Lists.{any, oneIf}
 use Rattle.rules.specs.Words.{core, semaphore}
 use Rattle.rules.specs.Charts.{isProcess}
 use Rattle.rules.specs.Event.{Event, Instance, sameInstance, instanceOf}
-use Rattle.rules.specs.Core.{takes, gives, keeps, onCore, on}
+use Rattle.rules.specs.Core.{takes, gives, keeps, onCore, coreClass, on}
 use Rattle.rules.specs.History.{hasInstances, isTracked, names, instances, activates}
 use Rattle.rules.specs.Lawful.{Fits}
 use Rattle.rules.proofs.Tests.{both, clash, instance-true, instance-refl}
 use Rattle.rules.proofs.Answers.{Passed, room-fits}
 use Rattle.rules.proofs.CoreWords.{on-process, gives-only}
+use Rattle.rules.proofs.CoreClasses.{class-on}
 use Rattle.tables.specs.Entry.{kindAt, markAt, numberAt, numberedAt, ownerAt, instanceAt, stateAt}
 use Rattle.decide.specs.declared.happening.Happening.{Happening}
 use Rattle.decide.specs.Happening.{asEvent}
-use Rattle.decide.specs.Sight.{coreClass}
-use Rattle.decide.proofs.Classes.{class-on}
 use Rattle.store.specs.Store.{coreRow, targetRow, instanceRow, takenNums}
 use Rattle.judge.specs.Feed.{Tables}
 use Rattle.promises.specs.Places.{place, rowOf, instanceRowOf}

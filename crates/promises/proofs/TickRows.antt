@@ -13,18 +13,17 @@ use Rattle.text.proofs.Words.{same-eq, same-refl, eq-same}
 use Rattle.rules.specs.Lists.{any, oneIf}
 use Rattle.rules.specs.Words.{core}
 use Rattle.rules.specs.Event.{Event}
-use Rattle.rules.specs.Core.{onCore, on}
+use Rattle.rules.specs.Core.{onCore, coreClass, on}
 use Rattle.rules.specs.History.{isTracked, names, kindOf}
 use Rattle.rules.specs.Refusals.{answerTo, rules}
 use Rattle.rules.specs.Verdict.{Accepted}
 use Rattle.rules.proofs.Tests.{both, and-true, clash}
 use Rattle.rules.proofs.Answers.{Passed}
 use Rattle.rules.proofs.CoreWords.{on-process}
+use Rattle.rules.proofs.CoreClasses.{class-on}
 use Rattle.rules.proofs.Tracked.{two-names, source-kind, process-tracked}
 use Rattle.tables.specs.Entry.{lastTime, sinceAt}
 use Rattle.decide.specs.Known.{newCore, newName}
-use Rattle.decide.specs.Sight.{coreClass}
-use Rattle.decide.proofs.Classes.{class-on}
 use Rattle.store.specs.Store.{coreRow, targetRow, takenTicks}
 use Rattle.judge.specs.Feed.{Tables}
 use Rattle.promises.specs.Places.{rowOf}

@@ -29,7 +29,7 @@ use Rattle.rules.specs.Charts.{chartOf, processChart, isProcess}
 use Rattle.rules.specs.Core.{takes, gives, keeps, onCore}
 use Rattle.rules.specs.History.{hasInstances, isTracked, named, kindIn, activates, lastNumber, lastCount, names, instances}
 use Rattle.rules.specs.Refusals.{timeFalls, secondKind, sourceClash, targetClash, noRoom, offChart, notNext, coreBroken, countFollows, fixed, countBroken, rules, answerTo}
-use Rattle.rules.specs.Lines.{kindNumber, wordNumber, eventOfLine, eventsOf}
+use Rattle.rules.specs.Lines.{kindNumber, eventOfLine, eventsOf}
 use Rattle.rules.specs.Trace.{scaleNumber, placeOf, tooMuch, versionWrong, parameterWrong, unscaled, placeTests, answerInPlace, answerAt, atEnd, verdictOn}
 use Rattle.tables.specs.Range.{isSized}
 use Rattle.tables.proofs.Valid.{sizes-mean}
@@ -64,7 +64,7 @@ unfolding linesOf wholeLines restOf ended unended pieces verdictOn atEnd
 nothing-refused = refl
 
 second-refused : verdictOn [] (linesOf startedTwice) .0 ≡ 11
-unfolding linesOf wholeLines restOf lineText ended unended pieces verdictOn atEnd answerAt answerInPlace placeTests tooMuch versionWrong parameterWrong unscaled placeOf scaleNumber eventOfLine eventsOf kindNumber wordNumber refuses1 refuses3 refuses5 refuses6 refuses7 countWrong numberWrong nameWrong noteWrong readLine hasBreak isEventLine eventReading fieldsReading hasNames numbersOf knownReading partsOf fieldOf noteOf isProcessLine zeroSource zeroTarget isOwn sourceBroken targetBroken ownBroken presence noteBroken ruleBroken isVersion isVersionLine isComment timeScale isCreator isCreationDate otherReading parameterReading sameBytes startsWith isNameByte allNameBytes isName numberOf pick scaleWord scaleOf kindWord kindOf wordOf actionCode actionsOf actionOf among namedBy answerTo rules timeFalls secondKind sourceClash targetClash noRoom offChart notNext coreBroken countBroken names instances chartOf processChart isProcess takes gives keeps onCore hasInstances isTracked named kindIn activates lastNumber lastCount fixed countFollows
+unfolding linesOf wholeLines restOf lineText ended unended pieces verdictOn atEnd answerAt answerInPlace placeTests tooMuch versionWrong parameterWrong unscaled placeOf scaleNumber eventOfLine eventsOf kindNumber refuses1 refuses3 refuses5 refuses6 refuses7 countWrong numberWrong nameWrong noteWrong readLine hasBreak isEventLine eventReading fieldsReading hasNames numbersOf knownReading partsOf fieldOf noteOf isProcessLine zeroSource zeroTarget isOwn sourceBroken targetBroken ownBroken presence noteBroken ruleBroken isVersion isVersionLine isComment timeScale isCreator isCreationDate otherReading parameterReading sameBytes startsWith isNameByte allNameBytes isName numberOf pick scaleWord scaleOf kindWord kindOf wordOf actionCode actionsOf actionOf among namedBy answerTo rules timeFalls secondKind sourceClash targetClash noRoom offChart notNext coreBroken countBroken names instances chartOf processChart isProcess takes gives keeps onCore hasInstances isTracked named kindIn activates lastNumber lastCount fixed countFollows
 second-refused = refl
 
 -- ---- judges that are shut out

@@ -5,12 +5,13 @@ use Prim.Native.Nat.{ℕ}
 use lib.Dec.{eqb}
 use lib.ListN.{length}
 use Rattle.text.specs.Bytes.{sameBytes}
+use Rattle.rules.specs.Core.{no-core, coreClass}
 use Rattle.rules.specs.Event.{Event, sameInstance, instanceOf}
 use Rattle.rules.specs.History.{hasInstances, isTracked, names, instances}
 use Rattle.decide.specs.declared.happening.Happening.{Happening}
 use Rattle.decide.specs.declared.sight.Sight.{Sight}
 use Rattle.decide.specs.Happening.{asEvent}
-use Rattle.decide.specs.Sight.{coreClass, lookIf}
+use Rattle.decide.specs.Sight.{lookIf}
 use Rattle.store.specs.Store.{takenNames, takenNums, takenTicks}
 use Rattle.judge.specs.Feed.{Tables, tables}
 use Rattle.promises.specs.Places.{seek}
@@ -19,7 +20,7 @@ use Rattle.promises.specs.Places.{seek}
 unfoldable pub sightIn : List Event → Event → Sight
 sightIn h e = record {
   class = coreClass (e .kind) (e .word);
-  source = lookIf (not (eqb (coreClass (e .kind) (e .word)) 0)) (seek (sameBytes (e .source)) (names h));
+  source = lookIf (not (eqb (coreClass (e .kind) (e .word)) no-core)) (seek (sameBytes (e .source)) (names h));
   target = lookIf (isTracked (e .kind)) (seek (sameBytes (e .target)) (names h));
   instance = lookIf (hasInstances (e .kind)) (seek (sameInstance (instanceOf e)) (instances h));
 }

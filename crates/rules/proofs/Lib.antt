@@ -11,6 +11,7 @@ pub mod Steps
 pub mod Answers
 pub mod Verdicts
 pub mod CoreWords
+pub mod CoreClasses
 pub mod CoreRuns
 pub mod Chains
 pub mod Seen

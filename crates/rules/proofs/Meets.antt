@@ -37,7 +37,7 @@ use Rattle.rules.specs.Core.{onCore}
 use Rattle.rules.specs.History.{hasInstances, isTracked, named, names, kindIn, cores, instances, activates, lastTime}
 use Rattle.rules.specs.Refusals.{less, timeFalls, sourceClash, targetClash, secondKind, noRoom, offChart, notNext, coreBroken, countBroken, rules, answerTo, unseen}
 use Rattle.rules.specs.Verdict.{answer, Accepted, taken}
-use Rattle.rules.specs.Lines.{kindNumber, wordNumber, eventFrom, eventIn, eventOfLine, withEvent, eventsOf, requests}
+use Rattle.rules.specs.Lines.{kindNumber, eventFrom, eventIn, eventOfLine, withEvent, eventsOf, requests}
 use Rattle.rules.proofs.Tests.{both}
 use Rattle.rules.proofs.CoreWords.{isStep}
 use Rattle.rules.proofs.Answers.{all-fit}
@@ -61,10 +61,10 @@ abbrev requested : ℕ → ℕ → Bool
 requested k a = implies (eqb k semaphore) (isStep (stepFor (chartOf k) a) || member a requests)
 
 abbrev right : Kind → Action → Bool
-right k a = implies (isOf k a) (stepped (kindNumber k) (wordNumber a) && requested (kindNumber k) (wordNumber a))
+right k a = implies (isOf k a) (stepped (kindNumber k) (actionCode a) && requested (kindNumber k) (actionCode a))
 
 tested : (k : Kind) → all (right k) actions ≡ true
-unfolding actions isOf among actionsOf actionCode kindNumber wordNumber hasInstances isProcess isStep chartOf processChart runnableChart semaphoreChart
+unfolding actions isOf among actionsOf actionCode kindNumber hasInstances isProcess isStep chartOf processChart runnableChart semaphoreChart
 tested Stimulus = refl
 tested Task = refl
 tested Interrupt = refl
@@ -121,7 +121,7 @@ pub record Met (e : Event) : Type 0 where
 pub line-meets : (l : List ℕ) (e : ReadEvent) (count : ℕ) → readLine l ≡ EventLine e count → Met (eventFrom e (fieldOf l 2) (fieldOf l 5) count)
 line-meets l e count q =
     let a = said l e count q .allowed in
-    let w = both (stepped (kindNumber (e .kind)) (wordNumber (e .action))) _ (implied (isOf (e .kind) (e .action)) _ (every (right (e .kind)) (tested (e .kind)) (e .action)) (a .of-kind)) in
+    let w = both (stepped (kindNumber (e .kind)) (actionCode (e .action))) _ (implied (isOf (e .kind) (e .action)) _ (every (right (e .kind)) (tested (e .kind)) (e .action)) (a .of-kind)) in
     let c = subst (Counted (e .kind)) (a .means) (counted (e .kind) (fieldOf l 8)) in
     record {
       worded = implied (hasInstances (kindNumber (e .kind))) _ (w .0);

@@ -26,7 +26,7 @@ use Rattle.rules.specs.Charts.{chartOf, processChart, runnableChart, sem
 use Rattle.rules.specs.Core.{takes, gives, keeps, onCore}
 use Rattle.rules.specs.History.{hasInstances, isTracked, named, kindIn, activates, lastNumber, lastCount, names, instances}
 use Rattle.rules.specs.Refusals.{timeFalls, secondKind, sourceClash, targetClash, noRoom, offChart, notNext, coreBroken, countFollows, fixed, countBroken, rules, answerTo}
-use Rattle.rules.specs.Lines.{kindNumber, wordNumber, eventOfLine, eventsOf}
+use Rattle.rules.specs.Lines.{kindNumber, eventOfLine, eventsOf}
 use Rattle.rules.specs.Trace.{scaleNumber, placeOf, tooMuch, versionWrong, parameterWrong, unscaled, placeTests, answerInPlace, answerAt, atEnd, verdictOn}
 
 -- a trace, the oldest line first, and its verdict: number and line
@@ -104,5 +104,5 @@ examples =
     ∷ []
 
 pub traces-right : map (λ x. verdictOn [] (x .lines)) examples ≡ map (λ x. x .verdict) examples
-unfolding fitsByte fitsPattern digitAt twoAt isLeap daysIn isDay isTime isMoment verdictOn atEnd answerAt answerInPlace placeTests tooMuch versionWrong parameterWrong unscaled placeOf scaleNumber eventOfLine eventsOf kindNumber wordNumber refuses1 refuses3 refuses5 refuses6 refuses7 countWrong numberWrong nameWrong noteWrong readLine hasBreak isEventLine eventReading fieldsReading hasNames numbersOf knownReading partsOf pieces fieldOf noteOf countNote isProcessLine zeroSource zeroTarget isOwn sourceBroken targetBroken ownBroken presence noteBroken ruleBroken isVersion isVersionLine isComment timeScale isCreator isCreationDate otherReading parameterReading sameBytes startsWith isNameByte allNameBytes isName numberOf pick scaleWord scaleOf kindWord kindOf wordOf actionCode actionsOf actionOf among namedBy answerTo rules timeFalls secondKind sourceClash targetClash noRoom offChart notNext coreBroken countBroken names instances chartOf processChart runnableChart semaphoreChart isProcess takes gives keeps onCore hasInstances isTracked named kindIn activates lastNumber lastCount fixed countFollows
+unfolding fitsByte fitsPattern digitAt twoAt isLeap daysIn isDay isTime isMoment verdictOn atEnd answerAt answerInPlace placeTests tooMuch versionWrong parameterWrong unscaled placeOf scaleNumber eventOfLine eventsOf kindNumber refuses1 refuses3 refuses5 refuses6 refuses7 countWrong numberWrong nameWrong noteWrong readLine hasBreak isEventLine eventReading fieldsReading hasNames numbersOf knownReading partsOf pieces fieldOf noteOf countNote isProcessLine zeroSource zeroTarget isOwn sourceBroken targetBroken ownBroken presence noteBroken ruleBroken isVersion isVersionLine isComment timeScale isCreator isCreationDate otherReading parameterReading sameBytes startsWith isNameByte allNameBytes isName numberOf pick scaleWord scaleOf kindWord kindOf wordOf actionCode actionsOf actionOf among namedBy answerTo rules timeFalls secondKind sourceClash targetClash noRoom offChart notNext coreBroken countBroken names instances chartOf processChart runnableChart semaphoreChart isProcess takes gives keeps onCore hasInstances isTracked named kindIn activates lastNumber lastCount fixed countFollows
 traces-right = refl

@@ -10,6 +10,7 @@ use lib.ListN.{length}
 use Rattle.text.specs.Bytes.{sameBytes}
 use Rattle.rules.specs.Lists.{any, only}
 use Rattle.rules.specs.Words.{core, semaphore}
+use Rattle.rules.specs.Limits.{nameLimit, coreLimit, instanceLimit}
 use Rattle.rules.specs.Chart.{Run}
 use Rattle.rules.specs.Charts.{chartOf}
 use Rattle.rules.specs.Event.{Event, Instance, wordsOf}
@@ -42,11 +43,11 @@ uses n k e = (isTracked (e .kind) && (eqb k (e .kind) && sameBytes n (e .target)
 abbrev pub OneKind : List Event → Type 0
 OneKind es = (n : List ℕ) (j k : ℕ) → any (uses n j) es ≡ true → any (uses n k) es ≡ true → j ≡ k
 
--- "tracked names (cores, T, I, R, SEM) | 256, of them 64 cores"; "process and runnable instances | 1,024"
+-- not "the names or instances that the line adds don't fit"
 pub record Fits (es : List Event) : Type 0 where
-  pub names-fit : length (names es) ≤ 256
-  pub cores-fit : length (cores es) ≤ 64
-  pub instances-fit : length (instances es) ≤ 1024
+  pub names-fit : length (names es) ≤ nameLimit
+  pub cores-fit : length (cores es) ≤ coreLimit
+  pub instances-fit : length (instances es) ≤ instanceLimit
 
 -- "activate or mtalimitexceeded of one process, or start of one runnable": of the one of kind k that is named n
 unfoldable pub numbers : ℕ → List ℕ → Event → Bool

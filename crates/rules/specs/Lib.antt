@@ -1,5 +1,6 @@
 -- The rules of events: charts, histories, the refusals 8 to 14, the verdict and the figures of the sheet.
 pub mod Words
+pub mod Limits
 pub mod Lists
 pub mod Chart
 pub mod Charts

@@ -10,6 +10,7 @@ use Rattle.rules.specs.Lists.{member}
 use Rattle.rules.specs.Chart.{allowed}
 use Rattle.rules.specs.Charts.{chartOf}
 use Rattle.rules.specs.Words.{core, semaphore, increment, decrement, free, unlock, lock, lock-used, full, overfull, unlock-full, used}
+use Rattle.rules.specs.Limits.{nameLimit, coreLimit, instanceLimit}
 use Rattle.rules.specs.Event.{Event, Instance, sameInstance, instanceOf, stateOf}
 use Rattle.rules.specs.Core.{Core, unknown, idle, held, takes, onCore, coreAt}
 use Rattle.rules.specs.History.{isTracked, activates, kindOf, names, cores, instances, lastTime, lastNumber, lastCount}
@@ -67,10 +68,8 @@ unfoldable pub secondKind : Known → Event → Bool
 secondKind k e = sourceClash k e || targetClash k e
 
 -- ---- 10: "the names or instances that the line adds don't fit"
--- "tracked names (cores, T, I, R, SEM) | 256, of them 64 cores"; "process and runnable instances | 1,024"
-
 unfoldable pub noRoom : Known → Event → Bool
-noRoom k e = ltb 256 (k .names) || (ltb 64 (k .cores) || ltb 1024 (k .instances))
+noRoom k e = ltb nameLimit (k .names) || (ltb coreLimit (k .cores) || ltb instanceLimit (k .instances))
 
 -- ---- 11: "chart step not allowed"
 

@@ -20,6 +20,7 @@ use Rattle.line.specs.Condition.{readerTests}
 use Rattle.line.specs.Writing.{writeLine, writtenAnswer}
 use Rattle.line.proofs.Answers.{answer-lowest}
 use Rattle.line.proofs.Outputs.{refused-keeps, writer-answers}
+use Rattle.rules.specs.Limits.{lastRefusal}
 use Rattle.rules.specs.Lists.{member, ifZero}
 use Rattle.rules.specs.Event.{Event}
 use Rattle.tables.specs.Entry.{verdictNumber}
@@ -95,13 +96,13 @@ in-judge : (n : ℕ) → n ≤ 15 → member n judgeAnswers ≡ true
 unfolding upFrom
 in-judge n h = in-row 0 16 n (omega arith) (omega arith)
 
-in-decide : (n : ℕ) → (1 ≤ n → (8 ≤ n) × (n ≤ 14)) → member n decideAnswers ≡ true
+in-decide : (n : ℕ) → (1 ≤ n → (8 ≤ n) × (n ≤ lastRefusal)) → member n decideAnswers ≡ true
 unfolding upFrom
 in-decide zero f = refl
 in-decide (suc n) f = let b = f (omega arith) in rw (ne-eqb (suc n) 0 (λ e. omega arith)) (in-row 8 8 (suc n) (b .0) (omega arith))
 
 -- what is remembered is neither 15 nor 16
-remembers : (n : ℕ) → n ≤ 14 → member n writeNothing ≡ false
+remembers : (n : ℕ) → n ≤ lastRefusal → member n writeNothing ≡ false
 remembers n h = rw (ne-eqb n 15 (λ e. omega arith), ne-eqb n 16 (λ e. omega arith))
 
 -- ---- lines
@@ -146,7 +147,7 @@ module _ (t : Tables) where
     abbrev one : ℕ → After
     one n = ifZero n (lined t line) (after n (t .names) (t .nums) (t .ticks))
 
-    line-most : tableAnswer (t .names) (t .nums) (t .ticks) ≡ 0 → lined t line .answer ≤ 14
+    line-most : tableAnswer (t .names) (t .nums) (t .ticks) ≡ 0 → lined t line .answer ≤ lastRefusal
     line-most e = let v = valid (t .names) (t .nums) (t .ticks) e in lined-numbered t (v .sizes .nums-size) (v .verdict) line .most
 
     feeds : member (fedLine t line .answer) feedAnswers ≡ true
@@ -168,7 +169,7 @@ module _ (t : Tables) where
         (record { fed = record { answer = verdictNumber (allLined t (wholeLines chunk) .nums); used = usedUp chunk }; left = allLined t (wholeLines chunk) })
         (record { fed = record { answer = n; used = 0 }; left = t })
 
-    chunk-most : tableAnswer (t .names) (t .nums) (t .ticks) ≡ 0 → verdictNumber (allLined t (wholeLines chunk) .nums) ≤ 14
+    chunk-most : tableAnswer (t .names) (t .nums) (t .ticks) ≡ 0 → verdictNumber (allLined t (wholeLines chunk) .nums) ≤ lastRefusal
     chunk-most e = let v = valid (t .names) (t .nums) (t .ticks) e in lines-most t (v .sizes .nums-size) (v .verdict) (wholeLines chunk)
 
     chunks : member (fedChunk t chunk .fed .answer) feedAnswers ≡ true
@@ -199,7 +200,7 @@ module _ (t : Tables) where
         cond b (let u = allLined freshTables (linesOf trace) in record { judged = verdictIn (u .nums) (u .ticks); left = u })
         (record { judged = verdict 15 0 0 0; left = t })
 
-    trace-most : all true .judged .number ≤ 14
+    trace-most : all true .judged .number ≤ lastRefusal
     trace-most = let u = allLined freshTables (linesOf trace) in told-most (u .names) (u .nums) (u .ticks) (never-16 (linesOf trace))
 
     judges : member (judgedTrace t trace .judged .number) judgeAnswers ≡ true

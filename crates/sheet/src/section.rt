@@ -1,9 +1,8 @@
 // The two sections of a sheet, in their order.
 ghost use mathlib.Core.Path.{_≡_};
 ghost use Rattle.sheet.specs.Sheet.{belongs};
+use rules::kind::is_process;
 use rules::numbers::CORE;
-use rules::numbers::INTERRUPT;
-use rules::numbers::TASK;
 
 pub enum Section {
     Cores,
@@ -16,6 +15,6 @@ pub(crate) fn in_section(section: Section, kind: u32) -> bool
 {
     match section {
         Section::Cores => kind == CORE,
-        Section::Processes => kind == TASK || kind == INTERRUPT,
+        Section::Processes => is_process(kind),
     }
 }

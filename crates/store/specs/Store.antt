@@ -7,6 +7,7 @@ use lib.Dec.{eqb, ltb}
 use lib.ListN.{length, set}
 use Rattle.text.specs.Put.{put}
 use Rattle.rules.specs.Words.{core, semaphore}
+use Rattle.rules.specs.Core.{no-core, takes-core, gives-core}
 use Rattle.rules.specs.Event.{Event}
 use Rattle.rules.specs.History.{hasInstances, activates}
 use Rattle.tables.specs.declared.find.Found.{Found}
@@ -88,7 +89,7 @@ withTarget nums i j t h =
 
 -- "make it held", "make it idle"
 unfoldable pub withCore : List ℕ → ℕ → ℕ → ℕ → List ℕ
-withCore nums class i j = cond (eqb class 0) nums (cond (eqb class 2) (storeMark nums i 1) (cond (ltb j instanceRows) (storeMark nums i (j + 2)) nums))
+withCore nums class i j = cond (eqb class no-core) nums (cond (eqb class gives-core) (storeMark nums i 1) (cond (ltb j instanceRows) (storeMark nums i (j + 2)) nums))
 
 unfoldable pub withHeads : List ℕ → ℕ → ℕ → ℕ → List ℕ
 withHeads nums names cores instances =
@@ -108,8 +109,8 @@ takenNums nums s t h n m =
 unfoldable pub settled : List ℕ → ℕ → ℕ → ℕ → ℕ → List ℕ
 settled ticks class i p time =
     cond (ltb i nameRows && ltb p nameRows)
-    (cond (eqb class 1) (storeAt sinceColumn (storeAt idleColumn ticks i ((idleAt ticks i + (time - sinceAt ticks i)) % 2 ^ 64)) i time)
-    (cond (eqb class 2)
+    (cond (eqb class takes-core) (storeAt sinceColumn (storeAt idleColumn ticks i ((idleAt ticks i + (time - sinceAt ticks i)) % 2 ^ 64)) i time)
+    (cond (eqb class gives-core)
     (let one = storeAt heldColumn ticks i ((heldAt ticks i + (time - sinceAt ticks i)) % 2 ^ 64) in
     storeAt sinceColumn (storeAt heldColumn one p ((heldAt one p + (time - sinceAt ticks i)) % 2 ^ 64)) i time)
     ticks))

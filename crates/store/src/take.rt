@@ -10,12 +10,11 @@ ghost use Rattle.decide.specs.Known.{newCore, newName, newInstance};
 ghost use Rattle.store.specs.Store.{coreRow, targetRow, instanceRow, storeName, storeRow, storeSums, storeInstance, storeMark, storeNumber, takenNames, withRows, withTarget, withCore, withHeads, takenNums, settled, withTimes, withSums, takenTicks, stored};
 use decide::happening::Happening;
 use decide::known::one_new;
-use decide::plan::numbers_instance;
 use decide::sight::Sight;
-use decide::sight::tracked;
-use decide::sight::with_instances;
-use rules::numbers::CORE;
-use rules::numbers::SEMAPHORE;
+use rules::kind::numbers_instance;
+use rules::kind::tracked;
+use rules::kind::with_instances;
+use rules::numbers::*;
 use std::num::wrapping_add_u32;
 use std::num::wrapping_add_u64;
 use tables::entry::*;
@@ -28,7 +27,7 @@ fn new_core(s: Sight) -> u32
     ensures { λ r. ⌜ r ≡ newCore s ⌝ }
 {
     let row = s.source;
-    one_new(s.class != 0, row) as u32
+    one_new(s.class != NO_CORE, row) as u32
 }
 
 fn new_name(s: Sight, kind: u32) -> u32
@@ -214,10 +213,10 @@ fn store_core(nums: &mut [u32], class: u32, i: usize, j: usize)
     requires { ⌜ length (now nums) ≡ numsSize ⌝ }
     ensures { λ _. ⌜ now (nums .exit) ≡ withCore (now (nums .entry)) class i j ⌝ }
 {
-    if class == 0 {
+    if class == NO_CORE {
         return;
     }
-    if class == 2 {
+    if class == GIVES_CORE {
         store_mark(nums, i, 1);
         return;
     }
@@ -304,12 +303,12 @@ fn settle(ticks: &mut [u64], class: u32, i: usize, p: usize, time: u64)
         return;
     }
     let more = gap(time, ticks[SINCE + i]);
-    if class == 1 {
+    if class == TAKES_CORE {
         ticks[IDLE + i] = wrapping_add_u64(ticks[IDLE + i], more);
         ticks[SINCE + i] = time;
         return;
     }
-    if class != 2 {
+    if class != GIVES_CORE {
         return;
     }
     ticks[HELD + i] = wrapping_add_u64(ticks[HELD + i], more);

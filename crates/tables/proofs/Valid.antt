@@ -9,6 +9,7 @@ use lib.ListN.{length, drop, length-take}
 use Rattle.text.specs.Name.{isName}
 use Rattle.text.proofs.Names.{name-length}
 use Rattle.rules.specs.Words.{core, semaphore}
+use Rattle.rules.specs.Limits.{lastRefusal}
 use Rattle.rules.specs.Chart.{isStateOf}
 use Rattle.rules.specs.Charts.{chartOf}
 use Rattle.rules.specs.History.{hasInstances}
@@ -45,7 +46,7 @@ pub record InstanceRow (nums : List ℕ) (j : ℕ) : Type 0 where
 
 pub record Valid (names nums ticks : List ℕ) : Type 0 where
   pub sizes : Sizes names nums ticks
-  pub verdict : verdictNumber nums ≤ 14
+  pub verdict : verdictNumber nums ≤ lastRefusal
   pub verdict-line : verdictLine nums ≤ 1000000001
   pub lines : lineCount nums ≤ 1000000000
   pub scale : scaleEntry nums ≤ 5
@@ -70,10 +71,10 @@ sizes-mean names nums ticks =
     (λ s. (s .names-size, (s .nums-size, s .ticks-size)))
 
 heads-mean : (nums : List ℕ)
-    → Means (headsOk nums) ((verdictNumber nums ≤ 14) × ((verdictLine nums ≤ 1000000001) × ((lineCount nums ≤ 1000000000) × ((scaleEntry nums ≤ 5) × ((creatorEntry nums ≤ 1) × (dateEntry nums ≤ 1))))))
+    → Means (headsOk nums) ((verdictNumber nums ≤ lastRefusal) × ((verdictLine nums ≤ 1000000001) × ((lineCount nums ≤ 1000000000) × ((scaleEntry nums ≤ 5) × ((creatorEntry nums ≤ 1) × (dateEntry nums ≤ 1))))))
 unfolding headsOk
 heads-mean nums =
-    means-and (means-le (verdictNumber nums) 14)
+    means-and (means-le (verdictNumber nums) lastRefusal)
     (means-and (means-le (verdictLine nums) 1000000001)
     (means-and (means-le (lineCount nums) 1000000000)
     (means-and (means-le (scaleEntry nums) 5) (means-and (means-le (creatorEntry nums) 1) (means-le (dateEntry nums) 1)))))

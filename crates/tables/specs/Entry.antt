@@ -3,6 +3,7 @@
 use mathlib.Core.List.{List}
 use Prim.Native.Nat.{ℕ, _+_, _*_}
 use lib.ListN.{getD, set, take, drop}
+use Rattle.rules.specs.Limits.{nameLimit, instanceLimit}
 
 -- the three tables
 pub record Tables : Type 0 where
@@ -34,12 +35,12 @@ entryAt c t i = getD t (c .base + i) 0
 abbrev pub storeAt : Column → List ℕ → ℕ → ℕ → List ℕ
 storeAt c t i v = set t (c .base + i) v
 
--- how many rows there are: "tracked names .. | 256", "process and runnable instances | 1,024"; and "name, note | 1 to 64 bytes"
+-- how many rows there are: one for each name and each instance that may be tracked; and "name, note | 1 to 64 bytes"
 abbrev pub nameRows : ℕ
-nameRows = 256
+nameRows = nameLimit
 
 abbrev pub instanceRows : ℕ
-instanceRows = 1024
+instanceRows = instanceLimit
 
 abbrev pub nameRoom : ℕ
 nameRoom = 64

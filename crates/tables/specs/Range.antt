@@ -8,6 +8,7 @@ use lib.Dec.{eqb, leb, ltb}
 use lib.ListN.{length}
 use Rattle.text.specs.Name.{isName}
 use Rattle.rules.specs.Words.{core, semaphore}
+use Rattle.rules.specs.Limits.{coreLimit, lastRefusal}
 use Rattle.rules.specs.Chart.{isStateOf}
 use Rattle.rules.specs.Charts.{isProcess, chartOf}
 use Rattle.rules.specs.History.{hasInstances}
@@ -18,16 +19,16 @@ use Rattle.tables.specs.Entry.{kindAt, lengthAt, markAt, numberedAt, own
 unfoldable pub isSized : ℕ → ℕ → ℕ → Bool
 isSized names nums ticks = eqb names namesSize && (eqb nums numsSize && eqb ticks ticksSize)
 
--- the verdict is one of 0 to 14, at a line up to the one past the last; at most 1,000,000,000 lines; the line level's entries
+-- the verdict is one that is remembered, at a line up to the one past the last; at most 1,000,000,000 lines; the line level's entries
 unfoldable pub headsOk : List ℕ → Bool
 headsOk nums =
-    leb (verdictNumber nums) 14
+    leb (verdictNumber nums) lastRefusal
     && (leb (verdictLine nums) 1000000001
     && (leb (lineCount nums) 1000000000 && (leb (scaleEntry nums) 5 && (leb (creatorEntry nums) 1 && leb (dateEntry nums) 1))))
 
 -- "tracked names (cores, T, I, R, SEM) | 256, of them 64 cores"; "process and runnable instances | 1,024"
 unfoldable pub countsOk : List ℕ → Bool
-countsOk nums = leb (startedEntry nums) 1 && (leb (nameCount nums) nameRows && (leb (coreCount nums) 64 && leb (instanceCount nums) instanceRows))
+countsOk nums = leb (startedEntry nums) 1 && (leb (nameCount nums) nameRows && (leb (coreCount nums) coreLimit && leb (instanceCount nums) instanceRows))
 
 -- what the code needs before it looks at rows: every row that is counted is there
 pub record Counted (nums : List ℕ) : Type 0 where

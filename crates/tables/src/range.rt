@@ -5,11 +5,10 @@ ghost use lib.ListN.{length};
 ghost use Rattle.tables.specs.Range.{isSized, Counted, countsOk, headsOk, timesOk, holderOk, coreOk, markOk, sumsOk, bytesOk, nameOk, instanceOk, upTo, inRange, tableAnswer};
 ghost use Rattle.tables.specs.Entry.{namesSize, numsSize, ticksSize, nameRows, instanceRows};
 use crate::entry::*;
-use crate::state::is_process;
 use crate::state::of_semaphore;
 use crate::state::state_ok;
-use rules::numbers::CORE;
-use rules::numbers::SEMAPHORE;
+use rules::kind::is_process;
+use rules::numbers::*;
 use text::name::name;
 
 // Whether the three tables have their sizes.
@@ -30,7 +29,7 @@ fn heads_ok(nums: &[u32]) -> bool
     requires { ⌜ length (now nums) ≡ numsSize ⌝ }
     ensures { λ r. ⌜ r ≡ headsOk (now (nums .entry)) ⌝ }
 {
-    (nums[VERDICT] <= 14)
+    (nums[VERDICT] <= LAST_REFUSAL)
         & ((nums[VERDICT_LINE] <= 1000000001)
             & ((nums[LINES] <= 1000000000)
                 & ((nums[SCALE] <= 5) & ((nums[CREATOR] <= 1) & (nums[DATE] <= 1)))))
@@ -42,7 +41,8 @@ fn counts_ok(nums: &[u32]) -> bool
     ensures { λ r. ⌜ r ≡ countsOk (now (nums .entry)) ⌝ }
 {
     (nums[STARTED] <= 1)
-        & ((nums[NAMES] <= 256) & ((nums[CORES] <= 64) & (nums[INSTANCES] <= 1024)))
+        & ((nums[NAMES] <= NAME_LIMIT)
+            & ((nums[CORES] <= CORE_LIMIT) & (nums[INSTANCES] <= INSTANCE_LIMIT)))
 }
 
 // The first and the last time.
