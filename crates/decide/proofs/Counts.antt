@@ -13,7 +13,7 @@ use Rattle.tables.specs.declared.find.Found.{Found}
 use Rattle.tables.specs.declared.find.Found.the-variants.{At, Nothing}
 use Rattle.decide.specs.Known.{oneNew, leastCount}
 
--- a core's state is 2 more than the row of the instance that holds it
+-- a core's state is 2 more than the row of the process whose instance holds it
 pub row-named : (m j : ℕ) → 2 ≤ m → eqb (m - 2) j ≡ eqb m (j + 2)
 row-named m j h = by-test (eqb (m - 2) j) refl
   where

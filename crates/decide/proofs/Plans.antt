@@ -6,10 +6,10 @@ use mathlib.Core.List.{List}
 use Prim.Native.Nat.{ℕ, zero, suc, _+_}
 use native.Mathlib.Omega.{arith}
 use lib.Dec.{eqb, ltb, eqb·suc-zero}
-use borrow.Author.Tests.{ne-eqb, lt-leb}
+use borrow.Author.Tests.{eqb-true, ne-eqb, lt-leb}
 use Rattle.rules.specs.Lists.{ifZero}
 use Rattle.rules.specs.Chart.{stepFor, allowed}
-use Rattle.rules.specs.Charts.{chartOf}
+use Rattle.rules.specs.Charts.{isProcess, chartOf}
 use Rattle.rules.specs.Words.{semaphore}
 use Rattle.rules.specs.History.{activates}
 use Rattle.rules.specs.Core.{held, takes, onCore}
@@ -36,7 +36,8 @@ use Rattle.rules.specs.Refusals.{
   rules,
   answerTo,
 }
-use Rattle.rules.proofs.Tests.{instance-refl}
+use Rattle.rules.proofs.Tests.{clash, instance-refl}
+use Rattle.rules.proofs.CoreWords.{on-process}
 use Rattle.tables.specs.declared.find.Found.{Found}
 use Rattle.tables.specs.declared.find.Found.the-variants.{At, Nothing}
 use Rattle.tables.specs.Entry.{startedEntry, lastTime}
@@ -51,7 +52,7 @@ use Rattle.decide.specs.Known.{
   numberedIn,
   stateIn,
   another,
-  holds,
+  isHolder,
   coreIn,
   knownBy,
   timeFallsIn,
@@ -81,22 +82,32 @@ unseen-opened (suc n) = eqb·suc-zero n
 
 -- ---- the core rule: any core's state, and any class that takes it or not
 
+-- an event on a core is no semaphore's, so its instance has the line's number
+own-number : (e : Event) → onCore e ≡ true → (instanceOf e) .number ≡ e .targetInstance
+unfolding isProcess
+own-number e o = by-test (eqb (e .kind) semaphore) refl
+  where
+    by-test : (b : Bool) → eqb (e .kind) semaphore ≡ b → cond b 0 (e .targetInstance) ≡ e .targetInstance
+    by-test true q = absurd (clash (isProcess (e .kind)) (on-process e o) (rw (eqb-true (e .kind) semaphore q)))
+    by-test false q = refl
+
 pub another-differs : (x : Instance) → sameInstance (another x) x ≡ false
 another-differs x = rw (ne-eqb (suc (x .kind)) (x .kind) (λ q. omega arith))
 
-holds-none : (f : Found) → holds f 1 ≡ false
-holds-none Nothing = refl
-holds-none (At j) = ne-eqb 1 (j + 2) (λ q. omega arith)
+idle-unheld : (number : ℕ) (f : Found) (n : ℕ) → isHolder 1 number f n ≡ false
+idle-unheld number Nothing n = refl
+idle-unheld number (At p) n = rw (ne-eqb 1 (p + 2) (λ q. omega arith))
 
-module _ (class : ℕ) (f : Found) (x : Instance) (first : Bool) where
-  serves-in : (t : Bool) → eqb class 1 ≡ t → (mark : ℕ) → coreServes class mark f first ≡ serves (coreIn mark f x) t first x
+module _ (class number : ℕ) (f : Found) (x : Instance) (first : Bool) where
+  serves-in : (t : Bool) → eqb class 1 ≡ t → (mark : ℕ) →
+      coreServes class mark (isHolder mark number f (x .number)) first ≡ serves (coreIn mark number f x) t first x
   unfolding coreServes coreIn
   serves-in true q zero = rw q
   serves-in false q zero = rw q
   serves-in true q (suc zero) = rw q
-  serves-in false q (suc zero) = rw (q, holds-none f)
+  serves-in false q (suc zero) = rw (q, idle-unheld number f (x .number))
   serves-in t q (suc (suc m)) =
-      rw (q, eqb·suc-zero (suc m), ne-eqb (suc (suc m)) 1 (λ e. omega arith), lt-leb (suc (suc m)) 1 (omega arith)) (by-row t (holds f (suc (suc m))))
+      rw (q, eqb·suc-zero (suc m), ne-eqb (suc (suc m)) 1 (λ e. omega arith), lt-leb (suc (suc m)) 1 (omega arith)) (by-row t (isHolder (suc (suc m)) number f (x .number)))
     where
       by-row : (t b : Bool) → cond t false b ≡ serves (cond b (held x) (held (another x))) t first x
       by-row true true = refl
@@ -155,7 +166,7 @@ module _ (nums ticks : List ℕ) (s : Sight) (e : Event) where
     unfolding sourceClashIn sourceClash knownBy
     source-in = rw (on-in, clash-opened (kindIn nums (s .source)) 1)
 
-    core-in : coreBrokenIn nums s (e .kind) ≡ coreBroken (knownBy nums ticks s e) e
+    core-in : coreBrokenIn nums s (e .kind) (e .targetInstance) ≡ coreBroken (knownBy nums ticks s e) e
     unfolding coreBrokenIn coreBroken knownBy
     core-in = rw on-in (by-test (onCore e) refl)
       where
@@ -165,12 +176,17 @@ module _ (nums ticks : List ℕ) (s : Sight) (e : Event) where
         state : ℕ
         state = stateIn nums s (e .kind)
 
+        number : ℕ
+        number = numberIn nums (s .source)
+
         by-test : (b : Bool) → onCore e ≡ b →
-            b && not (coreServes (s .class) mark (s .instance) (eqb state 0)) ≡ b && not (serves (coreIn mark (s .instance) (instanceOf e)) (takes (e .word)) (unseen (opened state)) (instanceOf e))
+            b && not (coreServes (s .class) mark (isHolder mark number (s .target) (e .targetInstance)) (eqb state 0))
+            ≡ b && not (serves (coreIn mark number (s .target) (instanceOf e)) (takes (e .word)) (unseen (opened state)) (instanceOf e))
         by-test true o =
             ap not
-            (serves-in (s .class) (s .instance) (instanceOf e) (eqb state 0) (takes (e .word)) (rw c (class-takes e o)) mark
-            ∙ ap (λ (b : Bool). serves (coreIn mark (s .instance) (instanceOf e)) (takes (e .word)) b (instanceOf e)) (unseen-opened state))
+            (ap (λ (n : ℕ). coreServes (s .class) mark (isHolder mark number (s .target) n) (eqb state 0)) (sym (own-number e o))
+            ∙ serves-in (s .class) number (s .target) (instanceOf e) (eqb state 0) (takes (e .word)) (rw c (class-takes e o)) mark
+            ∙ ap (λ (b : Bool). serves (coreIn mark number (s .target) (instanceOf e)) (takes (e .word)) b (instanceOf e)) (unseen-opened state))
         by-test false o = refl
 
 -- ---- the answer as a plan

@@ -35,7 +35,7 @@ planBy nums ticks s e = ifZero (answerTo (knownBy nums ticks s e) e) (Take s (en
 abbrev pub movePlan : Move → List ℕ → Sight → ℕ → ℕ → ℕ → ℕ → Plan
 movePlan Off nums s k a n c = Refuse 11
 movePlan (To t) nums s k a n c =
-    cond (notNextIn nums s k a n) (Refuse 12) (cond (coreBrokenIn nums s k) (Refuse 13) (cond (countBrokenIn nums s k a c) (Refuse 14) (Take s t)))
+    cond (notNextIn nums s k a n) (Refuse 12) (cond (coreBrokenIn nums s k n) (Refuse 13) (cond (countBrokenIn nums s k a c) (Refuse 14) (Take s t)))
 
 unfoldable pub stepsPlan : List ℕ → Sight → ℕ → ℕ → ℕ → ℕ → Plan
 stepsPlan nums s k a n c = movePlan (moveBy (chartOf k) a (stateIn nums s k)) nums s k a n c

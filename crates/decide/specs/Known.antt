@@ -57,16 +57,17 @@ newInstance s k = oneNew (hasInstances k) (s .instance)
 abbrev pub numberKnown : List ℕ → Found → Option ℕ
 numberKnown nums f = cond (eqb (numberedIn nums f) 0) none (some (numberIn nums f))
 
--- the core as the tables have it: held by the event's own instance where the state names its row, and otherwise by another
+-- the core as the tables have it: held by the event's own instance where its state and its number name that one, and otherwise by another
 abbrev pub another : Instance → Instance
 another x = record { kind = suc (x .kind); name = x .name; number = x .number }
 
-abbrev pub holds : Found → ℕ → Bool
-holds Nothing mark = false
-holds (At j) mark = eqb mark (j + 2)
+-- a core's state and number name the instance n of the name in a row
+abbrev pub isHolder : ℕ → ℕ → Found → ℕ → Bool
+isHolder mark number Nothing n = false
+isHolder mark number (At p) n = eqb mark (p + 2) && eqb number n
 
-unfoldable pub coreIn : ℕ → Found → Instance → Core
-coreIn mark f x = cond (eqb mark 0) unknown (cond (eqb mark 1) idle (cond (holds f mark) (held x) (held (another x))))
+unfoldable pub coreIn : ℕ → ℕ → Found → Instance → Core
+coreIn mark number f x = cond (eqb mark 0) unknown (cond (eqb mark 1) idle (cond (isHolder mark number f (x .number)) (held x) (held (another x))))
 
 unfoldable pub knownBy : List ℕ → List ℕ → Sight → Event → Known
 knownBy nums ticks s e = record {
@@ -78,7 +79,7 @@ knownBy nums ticks s e = record {
   instances = instanceCount nums + newInstance s (e .kind);
   state = opened (stateIn nums s (e .kind));
   number = numberKnown nums (s .target);
-  core = coreIn (markIn nums (s .source)) (s .instance) (instanceOf e);
+  core = coreIn (markIn nums (s .source)) (numberIn nums (s .source)) (s .target) (instanceOf e);
   count = numberKnown nums (s .target);
 }
 
@@ -104,11 +105,15 @@ noRoomIn nums s k =
 unfoldable pub notNextIn : List ℕ → Sight → ℕ → ℕ → ℕ → Bool
 notNextIn nums s k a n = activates k a && (not (eqb (numberedIn nums (s .target)) 0) && not (eqb n (numberIn nums (s .target) + 1)))
 
-unfoldable pub coreServes : ℕ → ℕ → Found → Bool → Bool
-coreServes class mark f first = cond (eqb class 1) (leb mark 1) (cond (eqb mark 0) first (holds f mark))
+-- the event's instance holds the core, or is seen for the first time
+unfoldable pub coreServes : ℕ → ℕ → Bool → Bool → Bool
+coreServes class mark holder first = cond (eqb class 1) (leb mark 1) (cond (eqb mark 0) first holder)
 
-unfoldable pub coreBrokenIn : List ℕ → Sight → ℕ → Bool
-coreBrokenIn nums s k = not (eqb (s .class) 0) && not (coreServes (s .class) (markIn nums (s .source)) (s .instance) (eqb (stateIn nums s k) 0))
+unfoldable pub coreBrokenIn : List ℕ → Sight → ℕ → ℕ → Bool
+coreBrokenIn nums s k n =
+    let mark = markIn nums (s .source) in
+    not (eqb (s .class) 0)
+    && not (coreServes (s .class) mark (isHolder mark (numberIn nums (s .source)) (s .target) n) (eqb (stateIn nums s k) 0))
 
 unfoldable pub countFollowsIn : ℕ → ℕ → ℕ → Bool
 countFollowsIn c a n = cond (eqb a increment) (eqb n (c + 1)) (cond (eqb a decrement) (eqb (n + 1) c) (eqb n c))

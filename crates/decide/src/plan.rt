@@ -6,7 +6,7 @@ ghost use lib.ListN.{length};
 ghost use Rattle.rules.specs.History.{activates};
 ghost use Rattle.rules.specs.Refusals.{fixed};
 ghost use Rattle.decide.specs.Happening.{asEvent};
-ghost use Rattle.decide.specs.Known.{timeFallsIn, kindClash, sourceClashIn, targetClashIn, noRoomIn, notNextIn, coreServes, coreBrokenIn, countFollowsIn, leastCount, countBrokenIn};
+ghost use Rattle.decide.specs.Known.{timeFallsIn, kindClash, sourceClashIn, targetClashIn, noRoomIn, notNextIn, isHolder, coreServes, coreBrokenIn, countFollowsIn, leastCount, countBrokenIn};
 ghost use Rattle.decide.specs.Decide.{stepsPlan, planOf, decided};
 ghost use Rattle.tables.specs.Entry.{numsSize, ticksSize};
 use crate::happening::Happening;
@@ -137,20 +137,30 @@ fn not_next(nums: &[u32], s: Sight, h: Happening) -> bool
     h.number as u64 != number_in(nums, row) as u64 + 1
 }
 
-// Whether a core's state names the instance in row j.
-fn names_row(mark: u32, j: usize) -> bool
-    ensures { λ r. ⌜ r ≡ eqb mark (j + 2) ⌝ }
+// Whether a core's state names the process in row p.
+fn names_row(mark: u32, p: usize) -> bool
+    ensures { λ r. ⌜ r ≡ eqb mark (p + 2) ⌝ }
 {
     if mark < 2 {
         return false;
     }
-    mark as usize - 2 == j
+    mark as usize - 2 == p
 }
 
-// Whether a core in the state mark serves an event of the class: 0 unknown, 1 idle, 2 + j held by instance j. `first` tells whether the
-// instance is seen for the first time.
-fn core_serves(class: u32, mark: u32, instance: Found, first: bool) -> bool
-    ensures { λ r. ⌜ r ≡ coreServes class mark instance first ⌝ }
+// Whether a core's state and number name the instance n of the process in a row.
+fn is_holder(mark: u32, number: u32, process: Found, n: u32) -> bool
+    ensures { λ r. ⌜ r ≡ isHolder mark number process n ⌝ }
+{
+    let Found::At(p) = process else {
+        return false;
+    };
+    names_row(mark, p) & (number == n)
+}
+
+// Whether a core in the state mark serves an event of the class: 0 unknown, 1 idle, from 2 on held. `holder` tells whether the event's
+// instance holds it, `first` whether that is seen for the first time.
+fn core_serves(class: u32, mark: u32, holder: bool, first: bool) -> bool
+    ensures { λ r. ⌜ r ≡ coreServes class mark holder first ⌝ }
 {
     if class == 1 {
         return mark <= 1;
@@ -158,24 +168,23 @@ fn core_serves(class: u32, mark: u32, instance: Found, first: bool) -> bool
     if mark == 0 {
         return first;
     }
-    let Found::At(j) = instance else {
-        return false;
-    };
-    names_row(mark, j)
+    holder
 }
 
 // 13: whether the core rule is broken.
-fn core_broken(nums: &[u32], s: Sight, kind: u32) -> bool
+fn core_broken(nums: &[u32], s: Sight, kind: u32, number: u32) -> bool
     requires { ⌜ length (now nums) ≡ numsSize ⌝ }
-    ensures { λ r. ⌜ r ≡ coreBrokenIn (now (nums .entry)) s kind ⌝ }
+    ensures { λ r. ⌜ r ≡ coreBrokenIn (now (nums .entry)) s kind number ⌝ }
 {
     if s.class == 0 {
         return false;
     }
     let row = s.source;
-    let instance = s.instance;
+    let process = s.target;
+    let mark = mark_in(nums, row);
+    let holder = is_holder(mark, number_in(nums, row), process, number);
     let first = state_in(nums, s, kind) == 0;
-    !core_serves(s.class, mark_in(nums, row), instance, first)
+    !core_serves(s.class, mark, holder, first)
 }
 
 // Whether a semaphore's count follows the one before.
@@ -259,7 +268,7 @@ fn decide_steps(nums: &[u32], s: Sight, h: Happening) -> Plan
     if not_next(nums, s, h) {
         return Plan::Refuse(12);
     }
-    if core_broken(nums, s, h.kind) {
+    if core_broken(nums, s, h.kind, h.number) {
         return Plan::Refuse(13);
     }
     if count_broken(nums, s, h) {

@@ -20,7 +20,7 @@ use Rattle.tables.proofs.Stores.{same, other, entry}
 use Rattle.decide.specs.declared.happening.Happening.{Happening}
 use Rattle.decide.specs.declared.sight.Sight.{Sight}
 use Rattle.decide.specs.Known.{newCore, newName}
-use Rattle.store.specs.Store.{targetRow, storeRow, storeInstance, storeMark, storeNumber, withRows, withTarget, withCore, withHeads}
+use Rattle.store.specs.Store.{targetRow, storeRow, storeInstance, storeMark, storeHolder, storeNumber, withRows, withTarget, withCore, withHeads}
 use Rattle.store.proofs.Stores.{length-storeRow, length-storeMark, length-storeInstance}
 
 -- ---- one store
@@ -119,6 +119,19 @@ module _ (nums : List ℕ) (z : length nums ≡ numsSize) (i r : ℕ) (h : r < n
   unfolding storeNumber
   number-numbered v = row-if nameRows i (ltb i nameRows) refl _ nums (numberedColumn .base) r 1 h (λ k. simp (column nameRows, length-set, z))
 
+-- the stores of a core's holder, where its name has a row
+module _ (nums : List ℕ) (z : length nums ≡ numsSize) (i p n r : ℕ) (o : p < nameRows) (h : r < nameRows) where
+  both-rows : ltb i nameRows && ltb p nameRows ≡ ltb i nameRows
+  both-rows = rw (lt-ltb p nameRows o) (and-true (ltb i nameRows))
+
+  holder-mark : markAt (storeHolder nums i p n) r ≡ cond (eqb r i) (p + 2) (markAt nums r)
+  unfolding storeHolder
+  holder-mark = row-if nameRows i (ltb i nameRows && ltb p nameRows) both-rows _ nums (markColumn .base) r (p + 2) h (λ k. simp (column nameRows, length-set, z))
+
+  holder-number : numberAt (storeHolder nums i p n) r ≡ cond (eqb r i) n (numberAt nums r)
+  unfolding storeHolder
+  holder-number = row-if nameRows i (ltb i nameRows && ltb p nameRows) both-rows _ nums (numberColumn .base) r n h (λ k. simp (column nameRows, length-set, z))
+
 module _ (nums : List ℕ) (i j : ℕ) where
   row-beside : (kind n : ℕ) → Outside kindColumn numberedColumn j → getD (storeRow nums i kind n) j 0 ≡ getD nums j 0
   unfolding storeRow
@@ -127,6 +140,11 @@ module _ (nums : List ℕ) (i j : ℕ) where
   mark-beside : (v : ℕ) → Outside markColumn markColumn j → getD (storeMark nums i v) j 0 ≡ getD nums j 0
   unfolding storeMark
   mark-beside v out = kept-if (ltb i nameRows) _ nums j (λ t. let h = ltb-true i nameRows t in simp (beside markColumn markColumn nameRows))
+
+  holder-beside : (p n : ℕ) → Outside markColumn numberColumn j → getD (storeHolder nums i p n) j 0 ≡ getD nums j 0
+  unfolding storeHolder
+  holder-beside p n out =
+      kept-if (ltb i nameRows && ltb p nameRows) _ nums j (λ t. let h = ltb-true i nameRows (both (ltb i nameRows) _ t .0) in simp (beside markColumn numberColumn nameRows))
 
   number-beside : (v : ℕ) → Outside numberColumn numberedColumn j → getD (storeNumber nums i v) j 0 ≡ getD nums j 0
   unfolding storeNumber
@@ -259,25 +277,40 @@ module _ (nums : List ℕ) (z : length nums ≡ numsSize) (i j t : ℕ) (w : Hap
       (number-beside (storeMark nums i t) i (d + q) (w .count) (λ l u. omega arith) ∙ mark-beside nums i (d + q) t (λ l u. omega arith)))
       (λ e. two-beside (d + q) (λ l u. omega arith) ∙ made (hasInstances (w .kind)) (eqb q j) _ nums (d + q) v f)
 
--- ---- the state of the core
+-- ---- the state of the core, and the number of its holder
 
-module _ (nums : List ℕ) (class i j : ℕ) where
-  pub core-beside : (x : ℕ) → Outside markColumn markColumn x → getD (withCore nums class i j) x 0 ≡ getD nums x 0
+module _ (nums : List ℕ) (class i p n : ℕ) where
+  pub core-beside : (x : ℕ) → Outside markColumn numberColumn x → getD (withCore nums class i p n) x 0 ≡ getD nums x 0
   unfolding withCore
   core-beside x out =
       entry-if (eqb class 0) nums _ x (λ e. refl)
-      (λ e. entry-if (eqb class 2) (storeMark nums i 1) _ x (λ f. mark-beside nums i x 1 out)
-      (λ f. kept-if (ltb j instanceRows) (storeMark nums i (j + 2)) nums x (λ g. mark-beside nums i x (j + 2) out)))
+      (λ e. entry-if (eqb class 2) (storeMark nums i 1) (storeHolder nums i p n) x
+      (λ f. mark-beside nums i x 1 (λ l u. out (omega arith) (omega arith)))
+      (λ f. holder-beside nums i x p n out))
 
-  pub core-mark : length nums ≡ numsSize → (eqb class 0 ≡ false → j < instanceRows) → (r : ℕ) → r < nameRows →
-      markAt (withCore nums class i j) r ≡ cond (not (eqb class 0) && eqb r i) (cond (eqb class 2) 1 (j + 2)) (markAt nums r)
-  unfolding withCore
-  core-mark z k r h =
-      entry-if (eqb class 0) nums _ (markColumn .base + r) (λ e. rw e)
-      (λ e. rw (e, lt-ltb j instanceRows (k e))
-      (entry-if (eqb class 2) (storeMark nums i 1) (storeMark nums i (j + 2)) (markColumn .base + r)
-      (λ f. rw f (mark-mark nums z i r h 1))
-      (λ f. rw f (mark-mark nums z i r h (j + 2)))))
+  module _ (z : length nums ≡ numsSize) (k : eqb class 0 ≡ false → p < nameRows) (r : ℕ) (h : r < nameRows) where
+    -- a column of which the stores to the core's row are known
+    core-column : (d idle held : ℕ) →
+        (getD (storeMark nums i 1) (d + r) 0 ≡ cond (eqb r i) idle (getD nums (d + r) 0)) →
+        (p < nameRows → getD (storeHolder nums i p n) (d + r) 0 ≡ cond (eqb r i) held (getD nums (d + r) 0)) →
+        getD (withCore nums class i p n) (d + r) 0 ≡ cond (not (eqb class 0) && eqb r i) (cond (eqb class 2) idle held) (getD nums (d + r) 0)
+    unfolding withCore
+    core-column d idle held f g =
+        entry-if (eqb class 0) nums _ (d + r) (λ e. rw e)
+        (λ e. rw e (entry-if (eqb class 2) (storeMark nums i 1) (storeHolder nums i p n) (d + r) (λ t. rw t f) (λ t. rw t (g (k e)))))
+
+    pub core-mark : markAt (withCore nums class i p n) r ≡ cond (not (eqb class 0) && eqb r i) (cond (eqb class 2) 1 (p + 2)) (markAt nums r)
+    core-mark = core-column (markColumn .base) 1 (p + 2) (mark-mark nums z i r h 1) (λ o. holder-mark nums z i p n r o h)
+
+    pub core-number : numberAt (withCore nums class i p n) r ≡ cond (not (eqb class 0) && eqb r i) (cond (eqb class 2) (numberAt nums r) n) (numberAt nums r)
+    core-number =
+        core-column (numberColumn .base) (numberAt nums r) n
+        (mark-beside nums i (numberColumn .base + r) 1 (λ l u. omega arith) ∙ either-way (eqb r i))
+        (λ o. holder-number nums z i p n r o h)
+      where
+        either-way : (b : Bool) → numberAt nums r ≡ cond b (numberAt nums r) (numberAt nums r)
+        either-way true = refl
+        either-way false = refl
 
 -- ---- the single entries
 

@@ -29,7 +29,7 @@ use Rattle.store.specs.Store.{rowOr, coreRow, targetRow, instanceRow, storeName
 use Rattle.store.proofs.Stores.{length-storeName, length-withRows, length-withTarget, length-withCore}
 use Rattle.promises.proofs.Columns.{length-if, Outside, isNewCore, isNewTarget, Fills, Counts, row-kind, row-length, row-mark, row-number, row-numbered, number-number, number-numbered}
 use Rattle.promises.proofs.Columns.{instance-owner, instance-number, instance-state, rows-stored, rows-beside, target-beside, target-mark, target-number, target-instance}
-use Rattle.promises.proofs.Columns.{core-beside, core-mark, heads-beside, heads-stored}
+use Rattle.promises.proofs.Columns.{core-beside, core-mark, core-number, heads-beside, heads-stored}
 
 -- ---- all the stores
 
@@ -50,7 +50,7 @@ module _ (nums : List ℕ) (z : length nums ≡ numsSize) (s : Sight) (t : ℕ) 
   aimed = withTarget filled (targetRow nums s) (instanceRow nums s) t w
 
   abbrev cored : List ℕ
-  cored = withCore aimed (s .class) (coreRow nums s) (instanceRow nums s)
+  cored = withCore aimed (s .class) (coreRow nums s) (targetRow nums s) (w .number)
 
   filled-size : length filled ≡ numsSize
   filled-size = length-withRows nums s (w .kind) n m ∙ z
@@ -59,15 +59,15 @@ module _ (nums : List ℕ) (z : length nums ≡ numsSize) (s : Sight) (t : ℕ) 
   aimed-size = length-withTarget filled (targetRow nums s) (instanceRow nums s) t w ∙ filled-size
 
   cored-size : length cored ≡ numsSize
-  cored-size = length-withCore aimed (s .class) (coreRow nums s) (instanceRow nums s) ∙ aimed-size
+  cored-size = length-withCore aimed (s .class) (coreRow nums s) (targetRow nums s) (w .number) ∙ aimed-size
 
   -- a column is not reached by the stores after its own
   from-cored : (j : ℕ) → kindColumn .base ≤ j → getD (takenNums nums s t w n m) j 0 ≡ getD cored j 0
   unfolding takenNums
   from-cored j h = heads-beside cored _ _ _ j h
 
-  from-aimed : (j : ℕ) → kindColumn .base ≤ j → Outside markColumn markColumn j → getD (takenNums nums s t w n m) j 0 ≡ getD aimed j 0
-  from-aimed j h out = from-cored j h ∙ core-beside aimed (s .class) (coreRow nums s) (instanceRow nums s) j out
+  from-aimed : (j : ℕ) → kindColumn .base ≤ j → Outside markColumn numberColumn j → getD (takenNums nums s t w n m) j 0 ≡ getD aimed j 0
+  from-aimed j h out = from-cored j h ∙ core-beside aimed (s .class) (coreRow nums s) (targetRow nums s) (w .number) j out
 
   from-filled : (j : ℕ) → kindColumn .base ≤ j → j < markColumn .base → getD (takenNums nums s t w n m) j 0 ≡ getD filled j 0
   from-filled j h k =
@@ -84,35 +84,39 @@ module _ (nums : List ℕ) (z : length nums ≡ numsSize) (s : Sight) (t : ℕ) 
       lengthAt (takenNums nums s t w n m) r ≡ cond (isNewTarget nums s (w .kind) r) (m % 2 ^ 32) (cond (isNewCore nums s r) (n % 2 ^ 32) (lengthAt nums r))
   length-taken r h = from-filled (lengthColumn .base + r) (omega arith) (omega arith) ∙ rows-stored nums z s (w .kind) n m (lengthColumn .base) (λ k c. c % 2 ^ 32) row-length r h
 
-  pub mark-taken : (eqb (s .class) 0 ≡ false → instanceRow nums s < instanceRows) → (r : ℕ) → r < nameRows →
+  pub mark-taken : (eqb (s .class) 0 ≡ false → targetRow nums s < nameRows) → (r : ℕ) → r < nameRows →
       markAt (takenNums nums s t w n m) r
-      ≡ cond (not (eqb (s .class) 0) && eqb r (coreRow nums s)) (cond (eqb (s .class) 2) 1 (instanceRow nums s + 2))
+      ≡ cond (not (eqb (s .class) 0) && eqb r (coreRow nums s)) (cond (eqb (s .class) 2) 1 (targetRow nums s + 2))
       (cond (eqb (w .kind) semaphore && eqb r (targetRow nums s)) t (orNone nums s (w .kind) r (markAt nums r)))
   mark-taken k r h =
       from-cored (markColumn .base + r) (omega arith)
-      ∙ core-mark aimed (s .class) (coreRow nums s) (instanceRow nums s) aimed-size k r h
+      ∙ core-mark aimed (s .class) (coreRow nums s) (targetRow nums s) (w .number) aimed-size k r h
       ∙ rw (target-mark filled filled-size (targetRow nums s) (instanceRow nums s) t w r h, rows-stored nums z s (w .kind) n m (markColumn .base) (λ k c. 0) row-mark r h)
 
+  -- the count or number that the target is given, and otherwise the old entry
+  abbrev given : ℕ → ℕ → ℕ → ℕ → ℕ
+  given r count number old =
+      cond (eqb (w .kind) semaphore && eqb r (targetRow nums s)) count
+      (cond (activates (w .kind) (w .word) && eqb r (targetRow nums s)) number (orNone nums s (w .kind) r old))
+
   number-column : (d : ℕ) (value : ℕ → ℕ) → Fills d (λ k c. 0) → Counts d value → numberColumn .base ≤ d → d ≤ numberedColumn .base → (r : ℕ) → r < nameRows →
-      getD (takenNums nums s t w n m) (d + r) 0
-      ≡ cond (eqb (w .kind) semaphore && eqb r (targetRow nums s)) (value (w .count))
-      (cond (activates (w .kind) (w .word) && eqb r (targetRow nums s)) (value (w .number)) (orNone nums s (w .kind) r (getD nums (d + r) 0)))
+      getD aimed (d + r) 0 ≡ given r (value (w .count)) (value (w .number)) (getD nums (d + r) 0)
   number-column d value f c lo hi r h =
-      from-aimed (d + r) (omega arith) (λ l u. omega arith)
-      ∙ target-number filled filled-size (targetRow nums s) (instanceRow nums s) t w d value c lo hi r h
+      target-number filled filled-size (targetRow nums s) (instanceRow nums s) t w d value c lo hi r h
       ∙ rw (rows-stored nums z s (w .kind) n m d (λ k c. 0) f r h)
 
-  pub number-taken : (r : ℕ) → r < nameRows →
-      numberAt (takenNums nums s t w n m) r
-      ≡ cond (eqb (w .kind) semaphore && eqb r (targetRow nums s)) (w .count)
-      (cond (activates (w .kind) (w .word) && eqb r (targetRow nums s)) (w .number) (orNone nums s (w .kind) r (numberAt nums r)))
-  number-taken = number-column (numberColumn .base) (λ c. c) row-number number-number (omega arith) (omega arith)
+  pub number-taken : (eqb (s .class) 0 ≡ false → targetRow nums s < nameRows) → (r : ℕ) → r < nameRows →
+      let old = given r (w .count) (w .number) (numberAt nums r) in
+      numberAt (takenNums nums s t w n m) r ≡ cond (not (eqb (s .class) 0) && eqb r (coreRow nums s)) (cond (eqb (s .class) 2) old (w .number)) old
+  number-taken k r h =
+      from-cored (numberColumn .base + r) (omega arith)
+      ∙ core-number aimed (s .class) (coreRow nums s) (targetRow nums s) (w .number) aimed-size k r h
+      ∙ rw (number-column (numberColumn .base) (λ c. c) row-number number-number (omega arith) (omega arith) r h)
 
-  pub numbered-taken : (r : ℕ) → r < nameRows →
-      numberedAt (takenNums nums s t w n m) r
-      ≡ cond (eqb (w .kind) semaphore && eqb r (targetRow nums s)) 1
-      (cond (activates (w .kind) (w .word) && eqb r (targetRow nums s)) 1 (orNone nums s (w .kind) r (numberedAt nums r)))
-  numbered-taken = number-column (numberedColumn .base) (λ c. 1) row-numbered number-numbered (omega arith) (omega arith)
+  pub numbered-taken : (r : ℕ) → r < nameRows → numberedAt (takenNums nums s t w n m) r ≡ given r 1 1 (numberedAt nums r)
+  numbered-taken r h =
+      from-aimed (numberedColumn .base + r) (omega arith) (λ l u. omega arith)
+      ∙ number-column (numberedColumn .base) (λ c. 1) row-numbered number-numbered (omega arith) (omega arith) r h
 
   -- ---- by instance
 
@@ -139,7 +143,7 @@ module _ (nums : List ℕ) (z : length nums ≡ numsSize) (s : Sight) (t : ℕ) 
 
   cored-head : (j : ℕ) → j < kindColumn .base → getD cored j 0 ≡ getD nums j 0
   cored-head j h =
-      core-beside aimed (s .class) (coreRow nums s) (instanceRow nums s) j (λ l u. omega arith)
+      core-beside aimed (s .class) (coreRow nums s) (targetRow nums s) (w .number) j (λ l u. omega arith)
       ∙ target-beside filled filled-size (targetRow nums s) (instanceRow nums s) t w j (λ l u. omega arith)
       ∙ rows-beside nums z s (w .kind) n m j (λ l u. omega arith)
 

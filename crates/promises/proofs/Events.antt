@@ -75,7 +75,7 @@ module _ (h : List Event) (a : Accepted h) (met : AllMet h) (t : Tables) (s : Sh
         nums-size = nums-size-next h t s w source target state;
         ticks-size = ticks-size-next h t s w source target state;
         head = head-next h t s w source target state f;
-        each-name = each-name-next h met t s w source target f m state l;
+        each-name = each-name-next h a met t s w source target f m state l;
         each-instance = each-instance-next h a t s w source target f state l;
         each-ticks = each-ticks-next h a t s w source target f m state;
       }

@@ -38,6 +38,7 @@ module _ (h : List Event) (names nums nums' ticks : List ℕ) (g : AgreeFrom 6 n
         size = g (lengthColumn .base + i) (omega arith) ∙ s .size;
         kind = s .kind ∙ ap some (sym k);
         mark = rw (k, g (markColumn .base + i) (omega arith)) (s .mark);
+        holder = λ x q. g (numberColumn .base + i) (omega arith) ∙ s .holder x q;
         numbered = rw d (s .numbered);
         number = rw (d, g (numberColumn .base + i) (omega arith), k) (s .number);
       }

@@ -24,17 +24,17 @@ use Rattle.rules.proofs.Steps.{step-state}
 use Rattle.tables.specs.declared.find.Found.{Found}
 use Rattle.tables.specs.declared.find.Found.the-variants.{Nothing}
 use Rattle.tables.specs.Entry.{stateColumn}
-use Rattle.decide.specs.Known.{markIn, entryOf, stateIn, numberKnown, coreIn, knownBy}
+use Rattle.decide.specs.Known.{markIn, numberIn, entryOf, stateIn, numberKnown, coreIn, knownBy}
 use Rattle.decide.specs.Decide.{enters}
 use Rattle.decide.proofs.Classes.{class-on}
 use Rattle.judge.specs.Feed.{Tables}
-use Rattle.rules.proofs.Tracked.{target-is, source-is}
+use Rattle.rules.proofs.Tracked.{process-tracked, target-is, source-is}
 use Rattle.promises.specs.Places.{seek}
 use Rattle.promises.specs.Shown.{Shown, theSemaphore, numberOf}
 use Rattle.promises.specs.Taken.{sightIn}
 use Rattle.promises.proofs.Grown.{AllMet, instances-range, instances-tracked}
-use Rattle.promises.proofs.Untold.{process-instances, semaphore-tracked, activates-instances}
-use Rattle.promises.proofs.Told.{all-worded, Only, core-told, semaphore-told, number-told, state-told}
+use Rattle.promises.proofs.Untold.{semaphore-tracked, activates-instances}
+use Rattle.promises.proofs.Told.{all-worded, Only, core-told, holder-told, semaphore-told, number-told, state-told}
 use Rattle.promises.proofs.Holders.{serves-shown}
 
 -- ---- kinds
@@ -140,9 +140,11 @@ module _ (h : List Event) (a : Accepted h) (met : AllMet h) (t : Tables) (s : Sh
       x = instanceOf e
 
       by-test : (b : Bool) → onCore e ≡ b →
-          b && not (serves (coreIn (markIn (t .nums) (sightIn h e .source)) (sightIn h e .instance) x) (takes (e .word)) (unseen (opened (stateIn (t .nums) (sightIn h e) (e .kind)))) x)
+          b && not (serves (coreIn (markIn (t .nums) (sightIn h e .source)) (numberIn (t .nums) (sightIn h e .source)) (sightIn h e .target) x) (takes (e .word))
+          (unseen (opened (stateIn (t .nums) (sightIn h e) (e .kind)))) x)
           ≡ b && not (serves (coreAt (e .source) h) (takes (e .word)) (unseen (stateOf x h)) x)
       by-test true o =
-          rw (state-shown, source-asked h e o, core-told h a t s (e .source) (source-is h e f o), instance-asked h e (process-instances (e .kind) (on-process e o)))
-          (ap not (serves-shown h x (e .source) (takes (e .word)) (unseen (stateOf x h))))
+          let k = process-tracked (e .kind) (on-process e o) in
+          rw (state-shown, source-asked h e o, core-told h a t s (e .source) (source-is h e f o), target-asked h e k)
+          (ap not (serves-shown h a x (target-is h e f k) (e .source) _ (holder-told h a t s (e .source)) (takes (e .word)) (unseen (stateOf x h))))
       by-test false o = refl

@@ -18,26 +18,28 @@ use Rattle.rules.specs.Event.{Event, Instance, sameInstance, instanceOf, stateO
 use Rattle.rules.specs.Core.{Core, unknown, idle, held, becomes, gives, onCore, on, coreAt}
 use Rattle.rules.specs.History.{isTracked, names, kindOf, activates, lastNumber, lastCount}
 use Rattle.rules.specs.Rows.{opened}
+use Rattle.rules.specs.Verdict.{Accepted}
 use Rattle.rules.proofs.Tests.{both, and-true, clash, instance-true}
 use Rattle.rules.proofs.Changes.{state-other, core-other, core-own}
 use Rattle.rules.proofs.Answers.{Passed}
-use Rattle.rules.proofs.Tracked.{target-kind, two-names, source-kind, kind-stays, kind-named}
+use Rattle.rules.proofs.CoreWords.{on-process}
+use Rattle.rules.proofs.Tracked.{target-kind, two-names, source-kind, kind-stays, kind-named, named-kind}
 use Rattle.rules.proofs.Meets.{Met}
 use Rattle.tables.specs.Entry.{nameCount, nameAt, lengthAt, kindAt, markAt, numberAt, numberedAt}
 use Rattle.decide.specs.declared.happening.Happening.{Happening}
 use Rattle.decide.specs.Happening.{asEvent}
 use Rattle.store.specs.Store.{targetRow}
 use Rattle.judge.specs.Feed.{Tables}
-use Rattle.promises.specs.Places.{rowOf, instanceRowOf}
+use Rattle.promises.specs.Places.{rowOf}
 use Rattle.promises.specs.Shown.{coreMark, theSemaphore, MarkShown, numberOf, NameShown, Shown}
 use Rattle.promises.specs.Taken.{sightIn, takenBy}
-use Rattle.promises.proofs.Grown.{newSource, newTarget, instances-tracked, tracked-range, NameFrom, name-from, row-stays, source-row-new, instance-row-stays, AllMet, name-size}
+use Rattle.promises.proofs.Grown.{newSource, newTarget, instances-tracked, tracked-range, own-number, NameFrom, name-from, row-stays, source-row-new, AllMet, name-size}
 use Rattle.promises.proofs.Grown.NameFrom.{before, as-source, as-target}
 use Rattle.promises.proofs.Lookups.{new-core, new-name, target-row}
-use Rattle.promises.proofs.Untold.{semaphore-tracked, activates-instances, no-number, no-count}
-use Rattle.promises.proofs.Holders.{holder-listed}
+use Rattle.promises.proofs.Untold.{process-instances, semaphore-tracked, activates-instances, no-number, no-count, core-unnumbered}
+use Rattle.promises.proofs.Turns.{held-core, holder-named}
 use Rattle.promises.proofs.Entries.{name-kept, name-of-core, name-of-target}
-use Rattle.promises.proofs.Rows.{row-bound, at-new-core, at-new-target, orOld, kind-at, mark-at, number-at, numbered-at}
+use Rattle.promises.proofs.Rows.{row-bound, at-new-core, at-new-target, orOld, orGiven, kind-at, mark-at, number-at, numbered-at}
 
 -- ---- what is new, and what is not
 
@@ -84,6 +86,18 @@ given-shown true b c d x y = refl
 given-shown false true c d x y = refl
 given-shown false false c d x y = refl
 
+-- the number entry says nothing where there is none
+unnumbered-any : (b g : Bool) (d v y : ℕ) → (b ≡ true → d ≡ 0) → shownNumber d (cond b (cond g y v) y) ≡ shownNumber d y
+unnumbered-any true g d v y z = rw (z refl)
+unnumbered-any false g d v y z = refl
+
+none-shown : (d v : ℕ) → shownNumber d v ≡ none → d ≡ 0
+none-shown d v = by-test (eqb d 0) refl
+  where
+    by-test : (b : Bool) → eqb d 0 ≡ b → cond b none (some v) ≡ none → d ≡ 0
+    by-test true p q = eqb-true d 0 p
+    by-test false p q = let z : _≡_ {A = ℕ} 0 1 = cc in absurd (omega arith)
+
 one-at-most : (a b : Bool) (x : ℕ) → x ≤ 1 → cond a 1 (cond b 1 x) ≤ 1
 one-at-most true b x h = omega arith
 one-at-most false true x h = omega arith
@@ -124,7 +138,7 @@ number-grows h e n k q =
     by-test false false true j false y z = refl
     by-test false false false j i y z = refl
 
-module _ (h : List Event) (m : AllMet h) (t : Tables) (s : Shown h t) (w : Happening) (source target : List ℕ)
+module _ (h : List Event) (a : Accepted h) (m : AllMet h) (t : Tables) (s : Shown h t) (w : Happening) (source target : List ℕ)
     (f : Passed h (asEvent w source target)) (o : Met (asEvent w source target)) (state : ℕ)
     (l : opened state ≡ stateOf (instanceOf (asEvent w source target)) (asEvent w source target ∷ h)) where
   abbrev e : Event
@@ -203,15 +217,47 @@ module _ (h : List Event) (m : AllMet h) (t : Tables) (s : Shown h t) (w : Happe
 
     -- ---- its number
 
+    -- a core is given none
+    core-given : kindAt (after .nums) row ≡ core → (u v last : ℕ) → orGiven e n u v last ≡ last
+    core-given k u v last =
+        rw (no-target (eqb (w .kind) semaphore) (semaphore-tracked (w .kind)), no-target (activates (w .kind) (w .word)) (λ y. instances-tracked (w .kind) (activates-instances (w .kind) (w .word) y)))
+      where
+        no-target : (b : Bool) → (b ≡ true → isTracked (w .kind) ≡ true) → b && sameBytes n target ≡ false
+        no-target b i =
+            is-false _ (λ y.
+            let p = both b (sameBytes n target) y in
+            let r = tracked-range (w .kind) (i (p .0)) in
+            let z : w .kind ≡ core = sym (target-kinded (i (p .0)) (p .1)) ∙ k in
+            omega arith)
+
+    -- and has none, also where this line is its own
+    core-unnumbered-next : on n e ≡ true → numberedAt (after .nums) row ≡ 0
+    core-unnumbered-next x =
+        numbered-at h t s w source target f state n q
+        ∙ core-given (source-kinded x) 1 1 _
+        ∙ by-age (age h e n (two-names h e (f .kinds)) (name-from h e n q))
+      where
+        by-age : Age h e n → orOld h e n 0 0 (numberedAt (t .nums) row) ≡ 0
+        by-age (old p) =
+            let k : kindAt (t .nums) (rowOf h n) ≡ core = sym (kind-old p) ∙ source-kinded x in
+            old-same h e n p 0 0 (numberedAt (t .nums) row)
+            ∙ ap (numberedAt (t .nums)) (row-stays h e (f .kinds) n p)
+            ∙ none-shown _ (numberAt (t .nums) (rowOf h n)) (s .each-name n p .number ∙ ap (numberOf h n) k ∙ core-unnumbered n h)
+        by-age (new p z) = z (numberedAt (t .nums) row)
+
     number-next : shownNumber (numberedAt (after .nums) row) (numberAt (after .nums) row) ≡ numberOf (e ∷ h) n (kindAt (after .nums) row)
     number-next =
-        rw (numbered-at h t s w source target f state n q, number-at h t s w source target f state n q)
+        rw (number-at h t s w source target f state n q)
+        (unnumbered-any (on n e) (gives (w .word)) (numberedAt (after .nums) row) (w .number)
+        (orGiven e n (w .count) (w .number) (orOld h e n 0 0 (numberAt (t .nums) row)))
+        core-unnumbered-next
+        ∙ rw (numbered-at h t s w source target f state n q)
         (given-shown (eqb (w .kind) semaphore && sameBytes n target) (activates (w .kind) (w .word) && sameBytes n target) (w .count) (w .number) _ _
         ∙ ap
         (λ (r : Option ℕ). cond (eqb (w .kind) semaphore && sameBytes n target) (some (w .count))
         (cond (activates (w .kind) (w .word) && sameBytes n target) (some (w .number)) r))
         (by-age (age h e n (two-names h e (f .kinds)) (name-from h e n q)))
-        ∙ sym (number-grows h e n (kindAt (after .nums) row) target-kinded))
+        ∙ sym (number-grows h e n (kindAt (after .nums) row) target-kinded)))
       where
         by-age : Age h e n →
             shownNumber (orOld h e n 0 0 (numberedAt (t .nums) row)) (orOld h e n 0 0 (numberAt (t .nums) row)) ≡ numberOf h n (kindAt (after .nums) row)
@@ -232,14 +278,14 @@ module _ (h : List Event) (m : AllMet h) (t : Tables) (s : Shown h t) (w : Happe
 
     -- ---- its state
 
-    -- a holder keeps its row
+    -- a holder's name keeps its row
     core-mark-stays : (c : Core) → coreAt n h ≡ c → coreMark h c ≡ coreMark (e ∷ h) c
     core-mark-stays unknown p = refl
     core-mark-stays idle p = refl
-    core-mark-stays (held x) p = rw (instance-row-stays h e x (holder-listed n h x p))
+    core-mark-stays (held x) p = rw (row-stays h e (f .kinds) (x .name) (holder-named h a n x p))
 
     -- the event is one on the core
-    mark-of-core : on n e ≡ true → MarkShown (e ∷ h) n (kindAt (after .nums) row) (cond (gives (w .word)) 1 (instanceRowOf (e ∷ h) (instanceOf e) + 2))
+    mark-of-core : on n e ≡ true → MarkShown (e ∷ h) n (kindAt (after .nums) row) (cond (gives (w .word)) 1 (rowOf (e ∷ h) target + 2))
     mark-of-core x =
         let p = both (onCore e) (sameBytes n source) x in
         let k = source-kinded x in
@@ -250,7 +296,7 @@ module _ (h : List Event) (m : AllMet h) (t : Tables) (s : Shown h t) (w : Happe
           of-other = λ c d. absurd (clash _ (eq-eqb (kindAt (after .nums) row) core k) c);
         }
       where
-        by-word : (g : Bool) → cond g 1 (instanceRowOf (e ∷ h) (instanceOf e) + 2) ≡ coreMark (e ∷ h) (becomes g (instanceOf e))
+        by-word : (g : Bool) → cond g 1 (rowOf (e ∷ h) target + 2) ≡ coreMark (e ∷ h) (becomes g (instanceOf e))
         by-word true = refl
         by-word false = refl
 
@@ -301,12 +347,41 @@ module _ (h : List Event) (m : AllMet h) (t : Tables) (s : Shown h t) (w : Happe
       where
         by-tests : (x : Bool) → on n e ≡ x → (y : Bool) → eqb (w .kind) semaphore && sameBytes n target ≡ y → NameFrom h e n →
             MarkShown (e ∷ h) n (kindAt (after .nums) row)
-            (cond x (cond (gives (w .word)) 1 (instanceRowOf (e ∷ h) (instanceOf e) + 2)) (cond y state (orOld h e n 0 0 (markAt (t .nums) row))))
+            (cond x (cond (gives (w .word)) 1 (rowOf (e ∷ h) target + 2)) (cond y state (orOld h e n 0 0 (markAt (t .nums) row))))
         by-tests true x y v r = mark-of-core x
         by-tests false x true v r = mark-of-semaphore v
         by-tests false x false v (before p) = rw (kind-old p, old-same h e n p 0 0 (markAt (t .nums) row), row-stays h e (f .kinds) n p) (mark-of-old x v p)
         by-tests false x false v (as-source u p) = absurd (clash _ (and-true _ _ (both (onCore e) _ u .0) (eq-same n source p)) x)
         by-tests false x false v (as-target u p) = rw (new-target h e n u p 0 0 (markAt (t .nums) row)) (mark-of-new x v u p)
+
+    -- ---- its holder
+
+    holder-next : (x : Instance) → coreAt n (e ∷ h) ≡ held x → numberAt (after .nums) row ≡ x .number
+    holder-next x p = number-at h t s w source target f state n q ∙ by-test (on n e) refl (gives (w .word)) refl
+      where
+        becoming : on n e ≡ true → coreAt n (e ∷ h) ≡ becomes (gives (w .word)) (instanceOf e)
+        becoming o = let r = both (onCore e) (sameBytes n source) o in rw (same-eq n source (r .1)) (core-own e h (r .0))
+
+        by-test : (b : Bool) → on n e ≡ b → (g : Bool) → gives (w .word) ≡ g →
+            let last = orGiven e n (w .count) (w .number) (orOld h e n 0 0 (numberAt (t .nums) row)) in
+            cond b (cond g last (w .number)) last ≡ x .number
+        by-test true o true g =
+            let z : idle ≡ held x = ap (λ (b : Bool). becomes b (instanceOf e)) (sym g) ∙ sym (becoming o) ∙ p in
+            let y : _≡_ {A = ℕ} 0 1 = cc in
+            absurd (omega arith)
+        by-test true o false g =
+            let z : held (instanceOf e) ≡ held x = ap (λ (b : Bool). becomes b (instanceOf e)) (sym g) ∙ sym (becoming o) ∙ p in
+            let y : instanceOf e ≡ x = cc in
+            sym (own-number e (process-instances (w .kind) (on-process e (both (onCore e) (sameBytes n source) o .0)))) ∙ ap (λ (i : Instance). i .number) y
+        by-test false o g r =
+            let was = sym (core-other n e h o) ∙ p in
+            let c = held-core h a n x was in
+            let there = named-kind h n core c _ refl in
+            let k : some (kindAt (after .nums) row) ≡ some core = sym kind-next ∙ kind-stays h e (f .kinds) n core c in
+            core-given (let y : kindAt (after .nums) row ≡ core = cc in y) (w .count) (w .number) _
+            ∙ old-same h e n there 0 0 (numberAt (t .nums) row)
+            ∙ ap (numberAt (t .nums)) (row-stays h e (f .kinds) n there)
+            ∙ s .each-name n there .holder x was
 
     pub each-name-next : NameShown (e ∷ h) (after .names) (after .nums) row n
     each-name-next =
@@ -315,6 +390,7 @@ module _ (h : List Event) (m : AllMet h) (t : Tables) (s : Shown h t) (w : Happe
           size = named-next .1;
           kind = kind-next;
           mark = mark-next;
+          holder = holder-next;
           numbered = numbered-next;
           number = number-next;
         }

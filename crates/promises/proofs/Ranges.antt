@@ -27,7 +27,7 @@ use Rattle.rules.proofs.Tracked.{named-kind}
 use Rattle.rules.proofs.Totals.{core-total}
 use Rattle.rules.proofs.Charges.{charge-at-most}
 use Rattle.rules.proofs.Alone.{alone}
-use Rattle.tables.specs.Entry.{verdictNumber, verdictLine, lineCount, scaleEntry, creatorEntry, dateEntry, nameCount, instanceCount}
+use Rattle.tables.specs.Entry.{verdictNumber, verdictLine, lineCount, scaleEntry, creatorEntry, dateEntry, nameCount}
 use Rattle.tables.specs.Entry.{kindAt, markAt, ownerAt, stateAt, heldAt, idleAt, unknownAt, sinceAt, lastTime}
 use Rattle.tables.specs.Range.{holderOk, coreOk, markOk, maxSum}
 use Rattle.tables.proofs.Valid.{NameRow, InstanceRow, Valid}
@@ -37,12 +37,18 @@ use Rattle.promises.specs.Shown.{Shown, NameShown, coreMark, theSemaphor
 use Rattle.promises.proofs.Places.{place-bound}
 use Rattle.promises.proofs.Grown.{AllMet, name-kind, name-at, instance-at, instance-kind, core-known, named-well}
 use Rattle.promises.proofs.Told.{all-worded}
-use Rattle.promises.proofs.Holders.{holder-listed}
+use Rattle.promises.proofs.Turns.{holder-kind}
 use Rattle.promises.proofs.Bounds.{stored-state, started-one, first-last, last-most, span-most}
 
 -- ---- names
 
 module _ (h : List Event) (a : Accepted h) (met : AllMet h) (t : Tables) (s : Shown h t) where
+  -- the row of a name that has a kind is there and has that kind
+  name-of : (n : List ℕ) (k : ℕ) → kindOf n h ≡ some k → (rowOf h n < nameCount (t .nums)) × (kindAt (t .nums) (rowOf h n) ≡ k)
+  name-of n k q =
+      let listed = named-kind h n k q _ refl in
+      (omega (arith, s .head .names-counted, place-bound (sameBytes n) (names h) listed), let r = s .each-name n listed .kind in cc)
+
   -- the name that an instance belongs to is there and of the instance's kind
   record Owned (x : Instance) : Type 0 where
     there : ownerAt (t .nums) (instanceRowOf h x) < nameCount (t .nums)
@@ -51,25 +57,19 @@ module _ (h : List Event) (a : Accepted h) (met : AllMet h) (t : Tables) (s : Sh
 
   owned : (x : Instance) → any (sameInstance x) (instances h) ≡ true → Owned x
   owned x q =
-      let owner = s .each-instance x q .owner in
       let k = instance-kind h a x q in
-      let listed = named-kind h (x .name) (x .kind) (k .1) _ refl in
-      record {
-        there = omega (arith, owner, s .head .names-counted, place-bound (sameBytes (x .name)) (names h) listed);
-        kind = rw owner (let n = s .each-name (x .name) listed .kind in cc (k .1));
-        has-instances = k .0;
-      }
+      let o = name-of (x .name) (x .kind) (k .1) in
+      let owner = s .each-instance x q .owner in
+      record { there = rw owner (o .0); kind = rw owner (o .1); has-instances = k .0 }
 
   core-ok : (n : List ℕ) (c : Core) → coreAt n h ≡ c → (c ≡ unknown → ⊥) → coreOk (t .nums) (coreMark h c) ≡ true
   unfolding coreOk holderOk
   core-ok n unknown p k = absurd (k refl)
   core-ok n idle p k = refl
   core-ok n (held x) p k =
-      let q = holder-listed n h x p in
-      let o = owned x q in
-      let row : (instanceRowOf h x + 2) - 2 ≡ instanceRowOf h x = omega arith in
-      let below : instanceRowOf h x < instanceCount (t .nums) = omega (arith, s .head .instances-counted, place-bound (sameInstance x) (instances h) q) in
-      rw (le-ltb (instanceRowOf h x + 2) 2 (omega arith), row, lt-ltb _ _ below, lt-ltb _ _ (o .there), o .kind, alone h a .holder-occupies n x p .0)
+      let o = name-of (x .name) (x .kind) (holder-kind h a n x p) in
+      let row : (rowOf h (x .name) + 2) - 2 ≡ rowOf h (x .name) = omega arith in
+      rw (le-ltb (rowOf h (x .name) + 2) 2 (omega arith), row, lt-ltb _ _ (o .0), o .1, alone h a .holder-occupies n x p .0)
 
   mark-ok : (n : List ℕ) → any (sameBytes n) (names h) ≡ true → markOk (t .nums) (kindAt (t .nums) (rowOf h n)) (markAt (t .nums) (rowOf h n)) ≡ true
   unfolding markOk

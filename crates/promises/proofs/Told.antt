@@ -13,7 +13,7 @@ use Rattle.text.specs.Bytes.{sameBytes}
 use Rattle.rules.specs.Lists.{any}
 use Rattle.rules.specs.Words.{core, semaphore}
 use Rattle.rules.specs.Event.{Event, Instance, sameInstance, stateOf}
-use Rattle.rules.specs.Core.{coreAt}
+use Rattle.rules.specs.Core.{held, coreAt}
 use Rattle.rules.specs.History.{hasInstances, names, instances, kindOf, lastNumber, lastCount}
 use Rattle.rules.specs.Rows.{opened}
 use Rattle.rules.specs.Verdict.{Accepted}
@@ -23,12 +23,13 @@ use Rattle.rules.proofs.Seen.{Worded, first-seen}
 use Rattle.rules.proofs.Tests.{clash}
 use Rattle.rules.proofs.Tracked.{kind-named, named-kind}
 use Rattle.tables.specs.Entry.{Column, column, entryAt, nameRows, kindColumn, markColumn, numberColumn, numberedColumn, stateColumn, kindAt}
-use Rattle.decide.specs.Known.{entryOf, kindIn, markIn, numberKnown}
+use Rattle.decide.specs.Known.{entryOf, kindIn, markIn, numberIn, numberKnown}
 use Rattle.judge.specs.Feed.{Tables}
 use Rattle.promises.specs.Places.{place, seek, rowOf}
 use Rattle.promises.specs.Shown.{Shown, coreMark, theSemaphore, numberOf}
 use Rattle.promises.proofs.Places.{place-bound}
 use Rattle.promises.proofs.Grown.{AllMet, name-kind, core-unknown}
+use Rattle.promises.proofs.Turns.{held-core}
 use Rattle.promises.proofs.Untold.{semaphore-tracked, no-number, no-count, no-state}
 
 -- ---- an entry of the row that was found
@@ -86,6 +87,12 @@ module _ (h : List Event) (a : Accepted h) (t : Tables) (s : Shown h t) where
         by-test : (b : Bool) → any (sameBytes n) (names h) ≡ b → markIn (t .nums) (seek (sameBytes n) (names h)) ≡ coreMark h (coreAt n h)
         by-test true q = in-row (markColumn .base) q ∙ s .each-name n q .mark .of-core (eq-eqb _ core (kind-there core d q))
         by-test false q = in-none markColumn q ∙ sym (ap (coreMark h) (core-unknown n h a (λ p. clash _ (named-kind h n core p _ refl) q)))
+
+    -- the number of the instance that holds a core
+    pub holder-told : (x : Instance) → coreAt n h ≡ held x → numberIn (t .nums) (seek (sameBytes n) (names h)) ≡ x .number
+    holder-told x p =
+        let q = named-kind h n core (held-core h a n x p) _ refl in
+        in-row (numberColumn .base) q ∙ s .each-name n q .holder x p
 
     pub semaphore-told : Only (kindOf n h) semaphore → opened (markIn (t .nums) (seek (sameBytes n) (names h))) ≡ stateOf (theSemaphore n) h
     semaphore-told d = by-test (any (sameBytes n) (names h)) refl

@@ -38,8 +38,11 @@ idle-core h a c q = subst (Tracked c h) q (tracked c h a)
 pub held-core : (h : List Event) → Accepted h → (c : List ℕ) (x : Instance) → coreAt c h ≡ held x → kindOf c h ≡ some core
 held-core h a c x q = subst (Tracked c h) q (tracked c h a) .0
 
+pub holder-kind : (h : List Event) → Accepted h → (c : List ℕ) (x : Instance) → coreAt c h ≡ held x → kindOf (x .name) h ≡ some (x .kind)
+holder-kind h a c x q = subst (Tracked c h) q (tracked c h a) .1
+
 pub holder-named : (h : List Event) → Accepted h → (c : List ℕ) (x : Instance) → coreAt c h ≡ held x → any (sameBytes (x .name)) (names h) ≡ true
-holder-named h a c x q = named-kind h (x .name) (x .kind) (subst (Tracked c h) q (tracked c h a) .1) _ refl
+holder-named h a c x q = named-kind h (x .name) (x .kind) (holder-kind h a c x q) _ refl
 
 module _ (h : List Event) (a : Accepted h) (e : Event) (f : Passed h e) (o : onCore e ≡ true) where
   -- a source that is unknown as a core is no name yet

@@ -45,11 +45,11 @@ pub record HeadShown (h : List Event) (nums ticks : List ℕ) : Type 0 where
 
 -- ---- the row i of the name n
 
--- a core that is idle, or held by an instance
+-- a core that is idle, or held by an instance of the name in a row
 abbrev pub coreMark : List Event → Core → ℕ
 coreMark h unknown = 0
 coreMark h idle = 1
-coreMark h (held x) = instanceRowOf h x + 2
+coreMark h (held x) = rowOf h (x .name) + 2
 
 abbrev pub theSemaphore : List ℕ → Instance
 theSemaphore n = record { kind = semaphore; name = n; number = 0 }
@@ -69,6 +69,8 @@ pub record NameShown (h : List Event) (names nums : List ℕ) (i : ℕ) (n : Lis
   pub size : lengthAt nums i ≡ length n
   pub kind : kindOf n h ≡ some (kindAt nums i)
   pub mark : MarkShown h n (kindAt nums i) (markAt nums i)
+  -- a core has no number of its own, and in the entry that is free for it the number of the instance that holds it
+  pub holder : (x : Instance) → coreAt n h ≡ held x → numberAt nums i ≡ x .number
   pub numbered : numberedAt nums i ≤ 1
   pub number : cond (eqb (numberedAt nums i) 0) none (some (numberAt nums i)) ≡ numberOf h n (kindAt nums i)
 

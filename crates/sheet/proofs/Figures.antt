@@ -3,35 +3,34 @@ use mathlib.Core.Path.{_≡_, refl, sym, ap, subst, _∙_}
 use mathlib.Core.Bool.{Bool, true, false, not, _&&_, _||_, cond}
 use mathlib.Core.Option.{some}
 use mathlib.Core.List.{List, [], _∷_}
-use Prim.Native.Nat.{ℕ, zero, suc, _+_, _-_, _*_, _%_, _^_, _≤_}
+use Prim.Native.Nat.{ℕ, zero, suc, _+_, _*_, _%_, _^_, _≤_}
 use native.Mathlib.Nat.{mod-eq-of-lt}
 use native.Mathlib.Omega.{arith}
-use lib.Dec.{eqb, leb, ltb}
+use lib.Dec.{eqb, ltb}
 use lib.ListN.{length, drop}
 use lib.Seq.{drop-length}
-use borrow.Author.Tests.{eqb-false, eq-eqb, ne-eqb, le-leb, le-ltb}
+use borrow.Author.Tests.{eqb-false, eq-eqb, ne-eqb, le-ltb}
 use Rattle.text.specs.Bytes.{sameBytes}
 use Rattle.text.proofs.Words.{same-eq, same-refl, eq-same}
 use Rattle.rules.specs.Lists.{any, sumOver, oneIf}
 use Rattle.rules.specs.Words.{core}
 use Rattle.rules.specs.Charts.{isProcess}
-use Rattle.rules.specs.Event.{Event, Instance, sameInstance}
+use Rattle.rules.specs.Event.{Event, Instance}
 use Rattle.rules.specs.Core.{Core, unknown, idle, held, coreAt}
-use Rattle.rules.specs.History.{names, instances, kindOf}
+use Rattle.rules.specs.History.{names, kindOf}
 use Rattle.rules.specs.Verdict.{Accepted}
 use Rattle.rules.specs.Sheet.{isHeld, isIdle, isHeldBy, heldTicks, idleTicks, unknownTicks, charge, span}
 use Rattle.rules.proofs.Tests.{clash}
-use Rattle.rules.proofs.Answers.{all-fit}
 use Rattle.rules.proofs.Tracked.{named-kind}
 use Rattle.rules.proofs.Totals.{core-total}
 use Rattle.rules.proofs.Charges.{charge-at-most}
-use Rattle.tables.specs.Entry.{kindAt, markAt, ownerAt, heldAt, unknownAt}
+use Rattle.tables.specs.Entry.{kindAt, markAt, heldAt, unknownAt}
 use Rattle.judge.specs.Feed.{Tables}
-use Rattle.promises.specs.Places.{place, rowOf, instanceRowOf}
+use Rattle.promises.specs.Places.{place, rowOf}
 use Rattle.promises.specs.Shown.{Shown, CoreTicks, coreMark, openTicks, openCharge}
-use Rattle.promises.proofs.Places.{place-bound, place-one, Distinct, at-place}
-use Rattle.promises.proofs.Grown.{AllMet, names-distinct, instance-kind, core-unknown}
-use Rattle.promises.proofs.Holders.{holder-listed}
+use Rattle.promises.proofs.Places.{place-one, Distinct, at-place}
+use Rattle.promises.proofs.Grown.{AllMet, names-distinct, core-unknown}
+use Rattle.promises.proofs.Turns.{holder-named}
 use Rattle.promises.proofs.Bounds.{span-most}
 use Rattle.sheet.specs.Figure.{openAt, heldIn, idleIn, holds, chargeTo, chargeIn}
 
@@ -68,42 +67,29 @@ module _ {A : Type 0} (eq : A → A → Bool) (eq-true : (x y : A) → eq x y �
 idle-mark : (h : List Event) (c : Core) → oneIf (eqb (coreMark h c) 1) ≡ isIdle c
 idle-mark h unknown = refl
 idle-mark h idle = refl
-idle-mark h (held x) = rw (ne-eqb (instanceRowOf h x + 2) 1 (λ q. omega arith))
+idle-mark h (held x) = rw (ne-eqb (rowOf h (x .name) + 2) 1 (λ q. omega arith))
 
 held-mark : (h : List Event) (c : Core) → oneIf (not (ltb (coreMark h c) 2)) ≡ isHeld c
 held-mark h unknown = refl
 held-mark h idle = refl
-held-mark h (held x) = rw (le-ltb (instanceRowOf h x + 2) 2 (omega arith))
+held-mark h (held x) = rw (le-ltb (rowOf h (x .name) + 2) 2 (omega arith))
 
 module _ (h : List Event) (a : Accepted h) (t : Tables) (s : Shown h t) (p : List ℕ) (listed : any (sameBytes p) (names h) ≡ true) where
-  -- an instance's name has the row of p exactly if it is p
-  own-row : (x : Instance) → any (sameInstance x) (instances h) ≡ true → eqb (rowOf h (x .name)) (rowOf h p) ≡ sameBytes p (x .name)
-  own-row x q = by-same (sameBytes p (x .name)) refl
+  -- two states name one row exactly if it is of one name
+  own-row : (n : List ℕ) → any (sameBytes n) (names h) ≡ true → eqb (rowOf h n + 2) (rowOf h p + 2) ≡ sameBytes p n
+  own-row n q = by-same (sameBytes p n) refl
     where
-      its-name : any (sameBytes (x .name)) (names h) ≡ true
-      its-name = named-kind h (x .name) (x .kind) (instance-kind h a x q .1) _ refl
+      by-same : (b : Bool) → sameBytes p n ≡ b → eqb (rowOf h n + 2) (rowOf h p + 2) ≡ b
+      by-same true r = eq-eqb _ _ (ap (λ (m : List ℕ). rowOf h m + 2) (sym (same-eq p n r)))
+      by-same false r =
+          ne-eqb _ _ (λ (e : rowOf h n + 2 ≡ rowOf h p + 2).
+          clash _ (eq-same p n (place-one sameBytes same-eq same-refl p n (names h) listed q (omega arith))) r)
 
-      by-same : (b : Bool) → sameBytes p (x .name) ≡ b → eqb (rowOf h (x .name)) (rowOf h p) ≡ b
-      by-same true r = eq-eqb _ _ (ap (rowOf h) (sym (same-eq p (x .name) r)))
-      by-same false r = ne-eqb _ _ (λ e. clash _ (eq-same p (x .name) (place-one sameBytes same-eq same-refl p (x .name) (names h) listed its-name (sym e))) r)
-
-  -- the state of a core leads by the row of its holder to the row of the holder's name
-  holder-mark : (c : Core) → ((x : Instance) → c ≡ held x → any (sameInstance x) (instances h) ≡ true) →
-      oneIf (leb 2 (coreMark h c) && (leb (coreMark h c) 1025 && eqb (ownerAt (t .nums) (coreMark h c - 2)) (rowOf h p))) ≡ isHeldBy p c
-  holder-mark unknown l = refl
-  holder-mark idle l = refl
-  holder-mark (held x) l =
-      let q = l x refl in
-      let b = place-bound (sameInstance x) (instances h) q in
-      let fit = all-fit h a .instances-fit in
-      let row : instanceRowOf h x + 2 - 2 ≡ instanceRowOf h x = omega arith in
-      rw (
-        le-leb 2 (instanceRowOf h x + 2) (omega arith),
-        le-leb (instanceRowOf h x + 2) 1025 (omega arith),
-        row,
-        s .each-instance x q .owner,
-        own-row x q,
-      )
+  -- the state of a core names the row of its holder's name
+  holder-mark : (c : Core) → ((x : Instance) → c ≡ held x → any (sameBytes (x .name)) (names h) ≡ true) → oneIf (eqb (coreMark h c) (rowOf h p + 2)) ≡ isHeldBy p c
+  holder-mark unknown l = rw (ne-eqb 0 (rowOf h p + 2) (λ q. omega arith))
+  holder-mark idle l = rw (ne-eqb 1 (rowOf h p + 2) (λ q. omega arith))
+  holder-mark (held x) l = rw (own-row (x .name) (l x refl))
 
   holds-shown : (c : List ℕ) → any (sameBytes c) (names h) ≡ true → oneIf (holds (t .nums) (rowOf h p) (rowOf h c)) ≡ isHeldBy p (coreAt c h)
   unfolding holds
@@ -112,9 +98,8 @@ module _ (h : List Event) (a : Accepted h) (t : Tables) (s : Shown h t) (p : Lis
       m : ℕ
       m = markAt (t .nums) (rowOf h c)
 
-      by-kind : (b : Bool) → eqb (kindAt (t .nums) (rowOf h c)) core ≡ b →
-          oneIf (b && (leb 2 m && (leb m 1025 && eqb (ownerAt (t .nums) (m - 2)) (rowOf h p)))) ≡ isHeldBy p (coreAt c h)
-      by-kind true k = rw (s .each-name c q .mark .of-core k) (holder-mark (coreAt c h) (holder-listed c h))
+      by-kind : (b : Bool) → eqb (kindAt (t .nums) (rowOf h c)) core ≡ b → oneIf (b && eqb m (rowOf h p + 2)) ≡ isHeldBy p (coreAt c h)
+      by-kind true k = rw (s .each-name c q .mark .of-core k) (holder-mark (coreAt c h) (holder-named h a c))
       by-kind false k =
           sym (ap (isHeldBy p) (core-unknown c h a (λ z. eqb-false _ core k (let y : kindAt (t .nums) (rowOf h c) ≡ core = cc (z, s .each-name c q .kind) in y))))
 

@@ -19,7 +19,7 @@ use Rattle.decide.specs.declared.happening.Happening.{Happening}
 use Rattle.decide.specs.declared.sight.Sight.{Sight}
 use Rattle.decide.specs.Happening.{asEvent}
 use Rattle.decide.specs.Known.{newCore, newName, newInstance}
-use Rattle.store.specs.Store.{coreRow, targetRow, instanceRow, storeName, storeRow, storeSums, storeInstance, storeMark, storeNumber, takenNames, withRows, withTarget, withCore, withHeads, takenNums, settled, withTimes, withSums, takenTicks, stored}
+use Rattle.store.specs.Store.{coreRow, targetRow, instanceRow, storeName, storeRow, storeSums, storeInstance, storeMark, storeHolder, storeNumber, takenNames, withRows, withTarget, withCore, withHeads, takenNums, settled, withTimes, withSums, takenTicks, stored}
 
 -- ---- tables of the right sizes
 
@@ -53,7 +53,7 @@ heads-stored {a} {b} {d} {e} nums names cores instances p q r t =
 
 -- ---- the stores to nums after one another, with the rows and counts as they were before them
 
-pub nums-taken : {i p j x y z : ℕ} {a b d e : List ℕ} (nums : List ℕ) (s : Sight) (t : ℕ) (h : Happening) (n m : ℕ) → i ≡ coreRow nums s → p ≡ targetRow nums s → j ≡ instanceRow nums s → x ≡ newCore s → y ≡ newName s (h .kind) → z ≡ newInstance s (h .kind) → a ≡ withRows nums s (h .kind) n m → b ≡ withTarget a p j t h → d ≡ withCore b (s .class) i j → e ≡ withHeads d (x + y) x z → e ≡ takenNums nums s t h n m
+pub nums-taken : {i p j x y z : ℕ} {a b d e : List ℕ} (nums : List ℕ) (s : Sight) (t : ℕ) (h : Happening) (n m : ℕ) → i ≡ coreRow nums s → p ≡ targetRow nums s → j ≡ instanceRow nums s → x ≡ newCore s → y ≡ newName s (h .kind) → z ≡ newInstance s (h .kind) → a ≡ withRows nums s (h .kind) n m → b ≡ withTarget a p j t h → d ≡ withCore b (s .class) i p (h .number) → e ≡ withHeads d (x + y) x z → e ≡ takenNums nums s t h n m
 unfolding takenNums
 nums-taken nums s t h n m pi pp pj px py pz pa pb pd pe = pe ∙ rw (pd, pb, pa, pi, pp, pj, px, py, pz)
 
@@ -90,6 +90,10 @@ pub length-storeMark : (nums : List ℕ) (i mark : ℕ) → length (storeMark nu
 unfolding storeMark
 length-storeMark nums i mark = length-cond (ltb i 256) _ nums (simp length-set) refl
 
+pub length-storeHolder : (nums : List ℕ) (i p n : ℕ) → length (storeHolder nums i p n) ≡ length nums
+unfolding storeHolder
+length-storeHolder nums i p n = length-cond (ltb i 256 && ltb p 256) _ nums (simp length-set) refl
+
 pub length-storeNumber : (nums : List ℕ) (i n : ℕ) → length (storeNumber nums i n) ≡ length nums
 unfolding storeNumber
 length-storeNumber nums i n = length-cond (ltb i 256) _ nums (simp length-set) refl
@@ -124,12 +128,11 @@ length-withTarget nums i j t h =
     (λ m. length-storeNumber m i (h .number))
     (length-storeInstance nums j i (h .number) t))
 
-pub length-withCore : (nums : List ℕ) (class i j : ℕ) → length (withCore nums class i j) ≡ length nums
+pub length-withCore : (nums : List ℕ) (class i p n : ℕ) → length (withCore nums class i p n) ≡ length nums
 unfolding withCore
-length-withCore nums class i j =
+length-withCore nums class i p n =
     length-cond (eqb class 0) nums _ refl
-    (length-cond (eqb class 2) (storeMark nums i 1) _ (length-storeMark nums i 1)
-    (length-cond (ltb j 1024) (storeMark nums i (j + 2)) nums (length-storeMark nums i (j + 2)) refl))
+    (length-cond (eqb class 2) (storeMark nums i 1) (storeHolder nums i p n) (length-storeMark nums i 1) (length-storeHolder nums i p n))
 
 pub length-withHeads : (nums : List ℕ) (names cores instances : ℕ) → length (withHeads nums names cores instances) ≡ length nums
 unfolding withHeads

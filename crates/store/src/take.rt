@@ -7,7 +7,7 @@ ghost use lib.ListN.{length};
 ghost use Rattle.tables.specs.Entry.{tables, namesSize, numsSize, ticksSize};
 ghost use Rattle.decide.specs.Happening.{asEvent};
 ghost use Rattle.decide.specs.Known.{newCore, newName, newInstance};
-ghost use Rattle.store.specs.Store.{coreRow, targetRow, instanceRow, storeName, storeRow, storeSums, storeInstance, storeMark, storeNumber, takenNames, withRows, withTarget, withCore, withHeads, takenNums, settled, withTimes, withSums, takenTicks, stored};
+ghost use Rattle.store.specs.Store.{coreRow, targetRow, instanceRow, storeName, storeRow, storeSums, storeInstance, storeMark, storeHolder, storeNumber, takenNames, withRows, withTarget, withCore, withHeads, takenNums, settled, withTimes, withSums, takenTicks, stored};
 use decide::happening::Happening;
 use decide::known::one_new;
 use decide::plan::numbers_instance;
@@ -149,6 +149,21 @@ fn store_mark(nums: &mut [u32], i: usize, mark: u32)
     nums[MARK + i] = mark;
 }
 
+// The holder of a core: the row of its name, and its number.
+fn store_holder(nums: &mut [u32], i: usize, p: usize, number: u32)
+    requires { ⌜ length (now nums) ≡ numsSize ⌝ }
+    ensures { λ _. ⌜ now (nums .exit) ≡ storeHolder (now (nums .entry)) i p number ⌝ }
+{
+    if NAME_ROWS <= i {
+        return;
+    }
+    if NAME_ROWS <= p {
+        return;
+    }
+    nums[MARK + i] = p as u32 + 2;
+    nums[NUMBER + i] = number;
+}
+
 // A last number or count.
 fn store_number(nums: &mut [u32], i: usize, n: u32)
     requires { ⌜ length (now nums) ≡ numsSize ⌝ }
@@ -210,9 +225,9 @@ fn store_target(nums: &mut [u32], i: usize, j: usize, state: u32, h: Happening)
 }
 
 // What the core is from now on.
-fn store_core(nums: &mut [u32], class: u32, i: usize, j: usize)
+fn store_core(nums: &mut [u32], class: u32, i: usize, p: usize, number: u32)
     requires { ⌜ length (now nums) ≡ numsSize ⌝ }
-    ensures { λ _. ⌜ now (nums .exit) ≡ withCore (now (nums .entry)) class i j ⌝ }
+    ensures { λ _. ⌜ now (nums .exit) ≡ withCore (now (nums .entry)) class i p number ⌝ }
 {
     if class == 0 {
         return;
@@ -221,10 +236,7 @@ fn store_core(nums: &mut [u32], class: u32, i: usize, j: usize)
         store_mark(nums, i, 1);
         return;
     }
-    if INSTANCE_ROWS <= j {
-        return;
-    }
-    store_mark(nums, i, j as u32 + 2);
+    store_holder(nums, i, p, number);
 }
 
 // One line and so many names, cores and instances more, and an event was taken.
@@ -252,7 +264,7 @@ fn take_nums(nums: &mut [u32], s: Sight, state: u32, h: Happening, n: usize, m: 
     let instance = new_instance(s, h.kind);
     store_rows(nums, s, h.kind, n, m);
     store_target(nums, p, j, state, h);
-    store_core(nums, s.class, i, j);
+    store_core(nums, s.class, i, p, h.number);
     store_heads(nums, core + name, core, instance);
 }
 

@@ -77,7 +77,8 @@ coresIndex = 8
 abbrev pub instancesIndex : ℕ
 instancesIndex = 9
 
--- by name: its kind, its length, its state (a core's or a semaphore's), its last number or count, and whether it has one
+-- by name: its kind, its length, its state (a core's or a semaphore's), its last number or count (of a core the number of the instance that holds it),
+-- and whether it has a last one
 abbrev pub kindColumn : Column
 kindColumn = column 10 nameRows
 

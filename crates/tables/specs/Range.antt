@@ -39,11 +39,12 @@ pub record Counted (nums : List ℕ) : Type 0 where
 unfoldable pub timesOk : List ℕ → Bool
 timesOk ticks = leb (lastTime ticks) 72057594037927935 && leb (firstTime ticks) (lastTime ticks)
 
--- instance j can hold a core: it is there, and one of a process ("one process instance at a time")
+-- an instance of the name in row p can hold a core: the name is there, and a process's ("one process instance at a time")
 unfoldable pub holderOk : List ℕ → ℕ → Bool
-holderOk nums j = ltb j (instanceCount nums) && (ltb (ownerAt nums j) (nameCount nums) && isProcess (kindAt nums (ownerAt nums j)))
+holderOk nums p = ltb p (nameCount nums) && isProcess (kindAt nums p)
 
--- the state of a core: idle, 1, or held by instance j, 2 + j
+-- the state of a core: idle, 1, or held by an instance of the process in row p, 2 + p. The instance's number, which lies in the core's own entry of
+-- numbers, may be any, and whether that instance has a row is not asked: 16 asks what an entry is by itself and what it points to.
 unfoldable pub coreOk : List ℕ → ℕ → Bool
 coreOk nums mark = cond (ltb mark 2) (eqb mark 1) (holderOk nums (mark - 2))
 

@@ -53,22 +53,18 @@ fn times_ok(ticks: &[u64]) -> bool
     (ticks[LAST] <= 72057594037927935) & (ticks[FIRST] <= ticks[LAST])
 }
 
-// Whether instance j can hold a core: it is there, and belongs to a process.
-fn holder_ok(nums: &[u32], j: u32) -> bool
+// Whether an instance of the name in row p can hold a core: the name is there, and a process's.
+fn holder_ok(nums: &[u32], p: u32) -> bool
     requires { ⌜ Counted (now nums) ⌝ }
-    ensures { λ r. ⌜ r ≡ holderOk (now (nums .entry)) j ⌝ }
+    ensures { λ r. ⌜ r ≡ holderOk (now (nums .entry)) p ⌝ }
 {
-    if nums[INSTANCES] <= j {
+    if nums[NAMES] <= p {
         return false;
     }
-    let row = nums[OWNER + j as usize];
-    if nums[NAMES] <= row {
-        return false;
-    }
-    is_process(nums[KIND + row as usize])
+    is_process(nums[KIND + p as usize])
 }
 
-// The state of a core: idle (1), or held by instance j (2 + j).
+// The state of a core: idle (1), or held by an instance of the process in row p (2 + p).
 fn core_ok(nums: &[u32], mark: u32) -> bool
     requires { ⌜ Counted (now nums) ⌝ }
     ensures { λ r. ⌜ r ≡ coreOk (now (nums .entry)) mark ⌝ }

@@ -14,7 +14,11 @@ core-broken-spec =
     (λ c κs. search needs)
     (λ c κs. search needs)
     (λ c κs. search needs)
+    (λ c κs. search needs)
+    (λ c κs. search needs)
     (λ c.
-    let m = c .before in
-    let s = m .before in
-    rw (ne-eqb _ 0 (s .before .if1 .left), c .core-serves .ensures, m .mark-in .ensures, s .state-in .ensures)))
+    let s = c .before in
+    let h = s .before in
+    let n = h .before in
+    let m = n .before in
+    rw (ne-eqb _ 0 (m .before .if1 .left), c .core-serves .ensures, h .is-holder .ensures, n .number-in .ensures, m .mark-in .ensures, s .state-in .ensures)))
