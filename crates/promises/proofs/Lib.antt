@@ -12,6 +12,7 @@ pub mod Ranges
 pub mod Columns
 pub mod Entries
 pub mod Rows
+pub mod Ages
 pub mod Names
 pub mod Instances
 pub mod TickEntries

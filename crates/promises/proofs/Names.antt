@@ -1,29 +1,29 @@
 -- A line that is taken keeps the rows by name: after it each tracked name has its row, and the row has what the longer history says of the name.
-use mathlib.Core.Path.{_≡_, refl, sym, ap, subst, _∙_}
-use mathlib.Core.Bool.{Bool, true, false, not, _&&_, cond}
-use mathlib.Core.Option.{Option, none, some}
+use mathlib.Core.Path.{_≡_, refl, sym, ap, _∙_}
+use mathlib.Core.Bool.{Bool, true, false, _&&_, cond}
+use mathlib.Core.Option.{Option, some}
 use mathlib.Core.List.{List, _∷_}
 use Prim.Native.Nat.{ℕ, _+_, _≤_, _<_}
 use native.Mathlib.Omega.{arith}
 use lib.Dec.{eqb}
 use lib.ListN.{length}
-use borrow.Author.Tests.{eq-eqb, eqb-true, not-true}
+use borrow.Author.Tests.{eq-eqb, eqb-true}
 use Rattle.text.specs.Bytes.{sameBytes}
 use Rattle.text.proofs.Bools.{is-false}
 use Rattle.text.proofs.Names.{name-length}
 use Rattle.text.proofs.Words.{same-eq, eq-same}
-use Rattle.rules.specs.Lists.{any, oneIf, when, orElse}
+use Rattle.rules.specs.Lists.{any, oneIf}
 use Rattle.rules.specs.Words.{core, semaphore}
 use Rattle.rules.specs.Event.{Event, Instance, sameInstance, instanceOf, stateOf}
 use Rattle.rules.specs.Core.{Core, unknown, idle, held, becomes, gives, onCore, on, coreAt}
-use Rattle.rules.specs.History.{isTracked, names, kindOf, activates, lastNumber, lastCount}
+use Rattle.rules.specs.History.{isTracked, names, kindOf, activates}
 use Rattle.rules.specs.Rows.{opened}
 use Rattle.rules.specs.Verdict.{Accepted}
 use Rattle.rules.proofs.Tests.{both, and-true, clash, instance-true}
 use Rattle.rules.proofs.Changes.{state-other, core-other, core-own}
 use Rattle.rules.proofs.Answers.{Passed}
 use Rattle.rules.proofs.CoreWords.{on-process}
-use Rattle.rules.proofs.Tracked.{target-kind, two-names, source-kind, kind-stays, kind-named, named-kind}
+use Rattle.rules.proofs.Tracked.{target-kind, two-names, source-kind, kind-stays, named-kind}
 use Rattle.rules.proofs.Meets.{Met}
 use Rattle.tables.specs.Entry.{nameCount, nameAt, lengthAt, kindAt, markAt, numberAt, numberedAt}
 use Rattle.decide.specs.declared.happening.Happening.{Happening}
@@ -33,110 +33,15 @@ use Rattle.judge.specs.Feed.{Tables}
 use Rattle.promises.specs.Places.{rowOf}
 use Rattle.promises.specs.Shown.{coreMark, theSemaphore, MarkShown, numberOf, NameShown, Shown}
 use Rattle.promises.specs.Taken.{sightIn, takenBy}
-use Rattle.promises.proofs.Grown.{newSource, newTarget, instances-tracked, tracked-range, own-number, NameFrom, name-from, row-stays, source-row-new, AllMet, name-size}
+use Rattle.promises.proofs.Grown.{newTarget, instances-tracked, tracked-range, own-number, NameFrom, name-from, row-stays, source-row-new, AllMet, name-size}
 use Rattle.promises.proofs.Grown.NameFrom.{before, as-source, as-target}
 use Rattle.promises.proofs.Lookups.{new-core, new-name, target-row}
-use Rattle.promises.proofs.Untold.{process-instances, semaphore-tracked, activates-instances, no-number, no-count, core-unnumbered}
+use Rattle.promises.proofs.Untold.{process-instances, semaphore-tracked, activates-instances, core-unnumbered}
 use Rattle.promises.proofs.Turns.{held-core, holder-named}
 use Rattle.promises.proofs.Entries.{name-kept, name-of-core, name-of-target}
 use Rattle.promises.proofs.Rows.{row-bound, at-new-core, at-new-target, orOld, orGiven, kind-at, mark-at, number-at, numbered-at}
-
--- ---- what is new, and what is not
-
-module _ (h : List Event) (e : Event) (n : List ℕ) where
-  not-new : any (sameBytes n) (names h) ≡ true → (b : Bool) (k : List ℕ) → (b && not (any (sameBytes k) (names h))) && sameBytes n k ≡ false
-  not-new q b k =
-      is-false _
-      (λ p. let r = both (b && not (any (sameBytes k) (names h))) (sameBytes n k) p in
-      clash (any (sameBytes k) (names h)) (subst (λ (z : List ℕ). any (sameBytes z) (names h) ≡ true) (same-eq n k (r .1)) q) (not-true _ (both b _ (r .0) .1)))
-
-  old-same : any (sameBytes n) (names h) ≡ true → (u v old : ℕ) → orOld h e n u v old ≡ old
-  old-same q u v old = rw (not-new q (isTracked (e .kind)) (e .target), not-new q (onCore e) (e .source))
-
-  new-source : sameBytes (e .source) (e .target) ≡ false → newSource h e ≡ true → n ≡ e .source → (u v old : ℕ) → orOld h e n u v old ≡ v
-  new-source d w p u v old =
-      let x : sameBytes n (e .target) ≡ false = rw p d in
-      rw (x, w, eq-same n (e .source) p) (by-test (newTarget h e))
-    where
-      by-test : (b : Bool) → cond (b && false) u v ≡ v
-      by-test true = refl
-      by-test false = refl
-
-  new-target : newTarget h e ≡ true → n ≡ e .target → (u v old : ℕ) → orOld h e n u v old ≡ u
-  new-target w p u v old = rw (w, eq-same n (e .target) p)
-
-  -- a name was there, or it is new and has nothing yet
-  data Age : Type 0 where
-    old : any (sameBytes n) (names h) ≡ true → Age
-    new : any (sameBytes n) (names h) ≡ false → ((v : ℕ) → orOld h e n 0 0 v ≡ 0) → Age
-
-  age : (onCore e ≡ true → sameBytes (e .source) (e .target) ≡ false) → NameFrom h e n → Age
-  age d (before p) = old p
-  age d (as-source u p) = let b = both (onCore e) _ u in new (rw p (not-true _ (b .1))) (new-source (d (b .0)) u p 0 0)
-  age d (as-target u p) = new (rw p (not-true _ (both (isTracked (e .kind)) _ u .1))) (new-target u p 0 0)
-
--- ---- the number of a name
-
--- the number that two entries show
-abbrev shownNumber : ℕ → ℕ → Option ℕ
-shownNumber d v = cond (eqb d 0) none (some v)
-
-given-shown : (a b : Bool) (c d x y : ℕ) → shownNumber (cond a 1 (cond b 1 x)) (cond a c (cond b d y)) ≡ cond a (some c) (cond b (some d) (shownNumber x y))
-given-shown true b c d x y = refl
-given-shown false true c d x y = refl
-given-shown false false c d x y = refl
-
--- the number entry says nothing where there is none
-unnumbered-any : (b g : Bool) (d v y : ℕ) → (b ≡ true → d ≡ 0) → shownNumber d (cond b (cond g y v) y) ≡ shownNumber d y
-unnumbered-any true g d v y z = rw (z refl)
-unnumbered-any false g d v y z = refl
-
-none-shown : (d v : ℕ) → shownNumber d v ≡ none → d ≡ 0
-none-shown d v = by-test (eqb d 0) refl
-  where
-    by-test : (b : Bool) → eqb d 0 ≡ b → cond b none (some v) ≡ none → d ≡ 0
-    by-test true p q = eqb-true d 0 p
-    by-test false p q = let z : _≡_ {A = ℕ} 0 1 = cc in absurd (omega arith)
-
-one-at-most : (a b : Bool) (x : ℕ) → x ≤ 1 → cond a 1 (cond b 1 x) ≤ 1
-one-at-most true b x h = omega arith
-one-at-most false true x h = omega arith
-one-at-most false false x h = h
-
--- a name that is not listed has none
-none-told : (h : List Event) (n : List ℕ) (k : ℕ) → any (sameBytes n) (names h) ≡ false → none ≡ numberOf h n k
-none-told h n k q = let z = kind-named h n q in rw (no-count n h z, no-number k n h z) (by-test (eqb k semaphore))
-  where
-    by-test : (b : Bool) → _≡_ {A = Option ℕ} none (cond b none none)
-    by-test true = refl
-    by-test false = refl
-
--- an event gives a number of its kind
-number-grows : (h : List Event) (e : Event) (n : List ℕ) (k : ℕ) → (isTracked (e .kind) ≡ true → sameBytes n (e .target) ≡ true → k ≡ e .kind) →
-    numberOf (e ∷ h) n k
-    ≡ cond (eqb (e .kind) semaphore && sameBytes n (e .target)) (some (e .count))
-    (cond (activates (e .kind) (e .word) && sameBytes n (e .target)) (some (e .targetInstance)) (numberOf h n k))
-unfolding lastNumber lastCount
-number-grows h e n k q =
-    by-test (sameBytes n (e .target)) (eqb (e .kind) semaphore) (activates (e .kind) (e .word)) (eqb k semaphore) (eqb k (e .kind))
-    (λ c x. rw (q (semaphore-tracked (e .kind) c) x) c)
-    (λ c b x. let z = q (instances-tracked (e .kind) (activates-instances (e .kind) (e .word) b)) x in (eq-eqb k (e .kind) z, rw z c))
-  where
-    by-test : (x c b j i : Bool) → (c ≡ true → x ≡ true → j ≡ true) → (c ≡ false → b ≡ true → x ≡ true → (i ≡ true) × (j ≡ false)) →
-        cond j (orElse (when (c && x) (e .count)) (lastCount n h)) (orElse (when (b && (i && x)) (e .targetInstance)) (lastNumber k n h))
-        ≡ cond (c && x) (some (e .count)) (cond (b && x) (some (e .targetInstance)) (cond j (lastCount n h) (lastNumber k n h)))
-    by-test true true b true i y z = refl
-    by-test true true b false i y z = absurd (clash false (y refl refl) refl)
-    by-test true false true true i y z = absurd (clash true refl (z refl refl refl .1))
-    by-test true false true false true y z = refl
-    by-test true false true false false y z = absurd (clash false (z refl refl refl .0) refl)
-    by-test true false false j i y z = refl
-    by-test false true true j true y z = refl
-    by-test false true true j false y z = refl
-    by-test false true false j i y z = refl
-    by-test false false true j true y z = refl
-    by-test false false true j false y z = refl
-    by-test false false false j i y z = refl
+use Rattle.promises.proofs.Ages.{not-new, old-same, new-source, new-target, Age, age, shownNumber, given-shown, unnumbered-any, none-shown, one-at-most, none-told, number-grows}
+use Rattle.promises.proofs.Ages.Age.{old, new}
 
 module _ (h : List Event) (a : Accepted h) (m : AllMet h) (t : Tables) (s : Shown h t) (w : Happening) (source target : List ℕ)
     (f : Passed h (asEvent w source target)) (o : Met (asEvent w source target)) (state : ℕ)
