@@ -69,43 +69,43 @@ module _ (h : List Event) (a : Accepted h) (met : AllMet h) (t : Tables) (s : Sh
 
   -- ---- 9: the source is looked up where the event is on a core, and only there is it asked for
 
-  source-agrees : (v : Sight) → v .source ≡ sightIn h e .source → sourceClash (known v) e ≡ sourceClash (look h e) e
+  source-agrees : (v : Sight) → v .source ≡ sightIn h t e .source → sourceClash (known v) e ≡ sourceClash (look h e) e
   unfolding sourceClash knownBy
   source-agrees v q = by-test (onCore e) refl
     where
       by-test : (b : Bool) → onCore e ≡ b →
           b && (differs (opened (kindIn (t .nums) (v .source))) core || sameBytes (e .source) (e .target)) ≡ b && (differs (kindOf (e .source) h) core || sameBytes (e .source) (e .target))
-      by-test true o = rw (q, source-asked h e o, kind-told h a t s (e .source))
+      by-test true o = rw (q, source-asked h t e o, kind-told h a t s (e .source))
       by-test false o = refl
 
-  target-agrees : (v : Sight) → v .target ≡ sightIn h e .target → targetClash (known v) e ≡ targetClash (look h e) e
+  target-agrees : (v : Sight) → v .target ≡ sightIn h t e .target → targetClash (known v) e ≡ targetClash (look h e) e
   unfolding targetClash knownBy
   target-agrees v q = by-test (isTracked (e .kind)) refl
     where
       by-test : (b : Bool) → isTracked (e .kind) ≡ b → b && differs (opened (kindIn (t .nums) (v .target))) (e .kind) ≡ b && differs (kindOf (e .target) h) (e .kind)
-      by-test true k = rw (q, target-asked h e k, kind-told h a t s (e .target))
+      by-test true k = rw (q, target-asked h t e k, kind-told h a t s (e .target))
       by-test false k = refl
 
   module _ (f : secondKind (look h e) e ≡ false) where
     -- ---- 10
 
-    room-agrees : noRoom (known (sightIn h e)) e ≡ noRoom (look h e) e
+    room-agrees : noRoom (known (sightIn h t e)) e ≡ noRoom (look h e) e
     unfolding noRoom knownBy
     room-agrees = rw (names-more, cores-more, instances-more)
       where
         counted : HeadShown h (t .nums) (t .ticks)
         counted = s .head
 
-        names-more : nameCount (t .nums) + newCore (sightIn h e) + newName (sightIn h e) (e .kind) ≡ length (names (e ∷ h))
-        names-more = omega (arith, counted .names-counted, new-core h e, new-name h e, names-length h e f)
+        names-more : nameCount (t .nums) + newCore (sightIn h t e) + newName (sightIn h t e) (e .kind) ≡ length (names (e ∷ h))
+        names-more = omega (arith, counted .names-counted, new-core h t e, new-name h t e, names-length h e f)
 
-        cores-more : coreCount (t .nums) + newCore (sightIn h e) ≡ length (cores (e ∷ h))
-        cores-more = omega (arith, counted .cores-counted, new-core h e, cores-length h e f)
+        cores-more : coreCount (t .nums) + newCore (sightIn h t e) ≡ length (cores (e ∷ h))
+        cores-more = omega (arith, counted .cores-counted, new-core h t e, cores-length h e f)
 
-        instances-more : instanceCount (t .nums) + newInstance (sightIn h e) (e .kind) ≡ length (instances (e ∷ h))
-        instances-more = omega (arith, counted .instances-counted, new-instance h e, instances-length h e)
+        instances-more : instanceCount (t .nums) + newInstance (sightIn h t e) (e .kind) ≡ length (instances (e ∷ h))
+        instances-more = omega (arith, counted .instances-counted, new-instance h a met t s e f, instances-length h e)
 
-    rest-agrees : (v : Sight) → v ≡ sightIn h e → firstBroken rest (known v) e ≡ firstBroken rest (look h e) e
+    rest-agrees : (v : Sight) → v ≡ sightIn h t e → firstBroken rest (known v) e ≡ firstBroken rest (look h e) e
     rest-agrees v q =
         rw (q, room-agrees, chart-agrees h a met t s e f, number-agrees h a met t s e f, core-agrees h a met t s e f, count-agrees h a met t s e f)
 
@@ -122,4 +122,4 @@ module _ (h : List Event) (a : Accepted h) (met : AllMet h) (t : Tables) (s : Sh
           cond b 8 (cond d 9 (firstBroken rest (known (sightOf (t .names) (t .nums) e)) e)) ≡ cond b 8 (cond d 9 (firstBroken rest (look h e) e))
       by-nine true d q = refl
       by-nine false true q = refl
-      by-nine false false q = rest-agrees q (sightOf (t .names) (t .nums) e) (sight-shown h a met t s e q)
+      by-nine false false q = rest-agrees q (sightOf (t .names) (t .nums) e) (sight-shown h a met t s e)

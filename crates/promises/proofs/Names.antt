@@ -50,7 +50,7 @@ module _ (h : List Event) (a : Accepted h) (m : AllMet h) (t : Tables) (s : Show
   e = asEvent w source target
 
   abbrev after : Tables
-  after = takenBy t (sightIn h e) state w source target
+  after = takenBy t (sightIn h t e) state w source target
 
   module _ (n : List ℕ) (q : any (sameBytes n) (names (e ∷ h)) ≡ true) where
     abbrev row : ℕ
@@ -101,7 +101,7 @@ module _ (h : List Event) (a : Accepted h) (m : AllMet h) (t : Tables) (s : Show
         by-origin (before p) =
             let stays = row-stays h e (f .kinds) n p in
             let shown = s .each-name n p in
-            name-kept (t .names) (t .nums) (s .names-size) (s .nums-size) (sightIn h e) state w source target source-size target-size row n inside
+            name-kept (t .names) (t .nums) (s .names-size) (s .nums-size) (sightIn h t e) state w source target source-size target-size row n inside
             (at-new-target h t s e f n q ∙ not-new h e n p (isTracked (w .kind)) target)
             (at-new-core h t s e f n q ∙ not-new h e n p (onCore e) source)
             (name-size h m n p .1)
@@ -110,14 +110,14 @@ module _ (h : List Event) (a : Accepted h) (m : AllMet h) (t : Tables) (s : Show
         by-origin (as-source u p) =
             let at : row ≡ nameCount (t .nums) = ap (rowOf (e ∷ h)) p ∙ source-row-new h e (f .kinds) u ∙ sym (s .head .names-counted) in
             rw (at, p)
-            (name-of-core (t .names) (t .nums) (s .names-size) (s .nums-size) (sightIn h e) state w source target source-size target-size
-            (new-core h e ∙ ap oneIf u)
+            (name-of-core (t .names) (t .nums) (s .names-size) (s .nums-size) (sightIn h t e) state w source target source-size target-size
+            (new-core h t e ∙ ap oneIf u)
             (rw (← at) inside))
         by-origin (as-target u p) =
-            let at : row ≡ targetRow (t .nums) (sightIn h e) = ap (rowOf (e ∷ h)) p ∙ sym (target-row h t s e (f .kinds) (both (isTracked (w .kind)) _ u .0)) in
+            let at : row ≡ targetRow (t .nums) (sightIn h t e) = ap (rowOf (e ∷ h)) p ∙ sym (target-row h t s e (f .kinds) (both (isTracked (w .kind)) _ u .0)) in
             rw (at, p)
-            (name-of-target (t .names) (t .nums) (s .names-size) (s .nums-size) (sightIn h e) state w source target source-size target-size
-            (new-name h e ∙ ap oneIf u)
+            (name-of-target (t .names) (t .nums) (s .names-size) (s .nums-size) (sightIn h t e) state w source target source-size target-size
+            (new-name h t e ∙ ap oneIf u)
             (rw (← at) inside))
 
     -- ---- its number

@@ -16,7 +16,7 @@ use Rattle.rules.specs.Chart.{isStateOf}
 use Rattle.rules.specs.Charts.{chartOf}
 use Rattle.rules.specs.Event.{Event, Instance, sameInstance, wordsOf}
 use Rattle.rules.specs.Core.{Core, unknown, idle, held, coreAt}
-use Rattle.rules.specs.History.{hasInstances, names, instances, kindOf}
+use Rattle.rules.specs.History.{names, instances, kindOf}
 use Rattle.rules.specs.Refusals.{unseen}
 use Rattle.rules.specs.Rows.{opened}
 use Rattle.rules.specs.Verdict.{Accepted}
@@ -32,10 +32,10 @@ use Rattle.tables.specs.Entry.{kindAt, markAt, ownerAt, stateAt, heldAt, idleAt
 use Rattle.tables.specs.Range.{holderOk, coreOk, markOk, maxSum}
 use Rattle.tables.proofs.Valid.{NameRow, InstanceRow, Valid}
 use Rattle.judge.specs.Feed.{Tables}
-use Rattle.promises.specs.Places.{rowOf, instanceRowOf}
-use Rattle.promises.specs.Shown.{Shown, NameShown, coreMark, theSemaphore}
+use Rattle.promises.specs.Places.{rowOf}
+use Rattle.promises.specs.Shown.{Shown, NameShown, InstanceShown, coreMark, theSemaphore}
 use Rattle.promises.proofs.Places.{place-bound}
-use Rattle.promises.proofs.Grown.{AllMet, name-kind, name-at, instance-at, instance-kind, core-known, named-well}
+use Rattle.promises.proofs.Grown.{AllMet, name-kind, name-at, instance-kind, core-known, named-well}
 use Rattle.promises.proofs.Told.{all-worded}
 use Rattle.promises.proofs.Turns.{holder-kind}
 use Rattle.promises.proofs.Bounds.{stored-state, started-one, first-last, last-most, span-most}
@@ -48,19 +48,6 @@ module _ (h : List Event) (a : Accepted h) (met : AllMet h) (t : Tables) (s : Sh
   name-of n k q =
       let listed = named-kind h n k q _ refl in
       (omega (arith, s .head .names-counted, place-bound (sameBytes n) (names h) listed), let r = s .each-name n listed .kind in cc)
-
-  -- the name that an instance belongs to is there and of the instance's kind
-  record Owned (x : Instance) : Type 0 where
-    there : ownerAt (t .nums) (instanceRowOf h x) < nameCount (t .nums)
-    kind : kindAt (t .nums) (ownerAt (t .nums) (instanceRowOf h x)) ≡ x .kind
-    has-instances : hasInstances (x .kind) ≡ true
-
-  owned : (x : Instance) → any (sameInstance x) (instances h) ≡ true → Owned x
-  owned x q =
-      let k = instance-kind h a x q in
-      let o = name-of (x .name) (x .kind) (k .1) in
-      let owner = s .each-instance x q .owner in
-      record { there = rw owner (o .0); kind = rw owner (o .1); has-instances = k .0 }
 
   core-ok : (n : List ℕ) (c : Core) → coreAt n h ≡ c → (c ≡ unknown → ⊥) → coreOk (t .nums) (coreMark h c) ≡ true
   unfolding coreOk holderOk
@@ -150,16 +137,17 @@ module _ (h : List Event) (a : Accepted h) (met : AllMet h) (t : Tables) (s : Sh
         since = u .since-most;
       }
 
-  instance-row : (x : Instance) → any (sameInstance x) (instances h) ≡ true → InstanceRow (t .nums) (instanceRowOf h x)
-  instance-row x q =
-      let r = s .each-instance x q in
-      let o = owned x q in
-      let state = stateAt (t .nums) (instanceRowOf h x) in
-      let seen = not-none state (ap unseen (r .state) ∙ first-seen h (all-worded h met) x (o .has-instances) ∙ ap not q) in
+  instance-row : (j : ℕ) (x : Instance) → any (sameInstance x) (instances h) ≡ true → InstanceShown h (t .nums) j x → InstanceRow (t .nums) j
+  instance-row j x q r =
+      let k = instance-kind h a x q in
+      let o = name-of (x .name) (x .kind) (k .1) in
+      let kind : kindAt (t .nums) (ownerAt (t .nums) j) ≡ x .kind = rw (r .owner) (o .1) in
+      let state = stateAt (t .nums) j in
+      let seen = not-none state (ap unseen (r .state) ∙ first-seen h (all-worded h met) x (k .0) ∙ ap not q) in
       record {
-        owner = o .there;
-        owner-kind = rw (o .kind) (o .has-instances);
-        state = rw (o .kind) (rw seen at (stored-state (chartOf (x .kind)) (wordsOf x h) state (r .state)));
+        owner = rw (r .owner) (o .0);
+        owner-kind = rw kind (k .0);
+        state = rw kind (rw seen at (stored-state (chartOf (x .kind)) (wordsOf x h) state (r .state)));
       }
     where
       not-none : (n : ℕ) → unseen (opened n) ≡ false → eqb n 0 ≡ false
@@ -190,7 +178,5 @@ module _ (h : List Event) (a : Accepted h) (met : AllMet h) (t : Tables) (s : Sh
         name-row = λ i b.
             let n = name-at h i (omega (arith, b, counts .names-counted)) in
             subst (NameRow (t .names) (t .nums) (t .ticks)) (n .2) (name-row (n .0) (n .1));
-        instance-row = λ j b.
-            let x = instance-at h j (omega (arith, b, counts .instances-counted)) in
-            subst (InstanceRow (t .nums)) (x .2) (instance-row (x .0) (x .1));
+        instance-row = λ j b. let r = s .instance-rows .owned j b in instance-row j (r .0) (r .1) (r .2);
       }

@@ -3,7 +3,7 @@ use mathlib.Core.Path.{_≡_}
 use mathlib.Core.Bool.{true, false, cond}
 use mathlib.Core.Option.{Option, none, some}
 use mathlib.Core.List.{List, [], _∷_}
-use Prim.Native.Nat.{ℕ, _+_, _-_, _*_, _≤_}
+use Prim.Native.Nat.{ℕ, _+_, _-_, _*_, _≤_, _<_}
 use lib.Dec.{eqb}
 use lib.ListN.{length}
 use Rattle.text.specs.Bytes.{sameBytes}
@@ -19,7 +19,7 @@ use Rattle.rules.specs.Trace.{placeOf}
 use Rattle.tables.specs.Entry.{namesSize, numsSize, ticksSize, creatorEntry, dateEntry, startedEntry, nameCount, coreCount, instanceCount}
 use Rattle.tables.specs.Entry.{kindAt, lengthAt, markAt, numberAt, numberedAt, ownerAt, instanceAt, stateAt, firstTime, lastTime, heldAt, idleAt, unknownAt, sinceAt, nameAt}
 use Rattle.judge.specs.Feed.{Tables, placeIn}
-use Rattle.promises.specs.Places.{rowOf, instanceRowOf}
+use Rattle.promises.specs.Places.{rowOf}
 
 -- ---- the first and the last event time, 0 before the first event
 
@@ -77,9 +77,16 @@ pub record NameShown (h : List Event) (names nums : List ℕ) (i : ℕ) (n : Lis
 -- ---- the row j of the instance x
 
 pub record InstanceShown (h : List Event) (nums : List ℕ) (j : ℕ) (x : Instance) : Type 0 where
+  pub below : j < instanceCount nums
   pub owner : ownerAt nums j ≡ rowOf h (x .name)
   pub number : instanceAt nums j ≡ x .number
   pub state : opened (stateAt nums j) ≡ stateOf x h
+
+-- the rows of all instances, in any order: each instance has a row, each row that is counted is one's, and no two rows have the same name and number
+pub record InstancesShown (h : List Event) (nums : List ℕ) : Type 0 where
+  pub each : (x : Instance) → any (sameInstance x) (instances h) ≡ true → (j : ℕ) × InstanceShown h nums j x
+  pub owned : (j : ℕ) → j < instanceCount nums → (x : Instance) × (any (sameInstance x) (instances h) ≡ true) × InstanceShown h nums j x
+  pub kept : (i j : ℕ) → i < instanceCount nums → j < instanceCount nums → ownerAt nums i ≡ ownerAt nums j → instanceAt nums i ≡ instanceAt nums j → i ≡ j
 
 -- ---- the ticks in the row i of the name n: stored up to `since`, and from then on as the core stands
 
@@ -114,7 +121,7 @@ pub record Shown (h : List Event) (t : Tables) : Type 0 where
   pub ticks-size : length (t .ticks) ≡ ticksSize
   pub head : HeadShown h (t .nums) (t .ticks)
   pub each-name : (n : List ℕ) → any (sameBytes n) (names h) ≡ true → NameShown h (t .names) (t .nums) (rowOf h n) n
-  pub each-instance : (x : Instance) → any (sameInstance x) (instances h) ≡ true → InstanceShown h (t .nums) (instanceRowOf h x) x
+  pub instance-rows : InstancesShown h (t .nums)
   pub each-ticks : (n : List ℕ) → any (sameBytes n) (names h) ≡ true → TicksShown h (t .ticks) (rowOf h n) n
 
 -- of lines: the entries of the line level, and the events of the lines. The remembered verdict is apart.
