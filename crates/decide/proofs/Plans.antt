@@ -11,7 +11,7 @@ use Rattle.rules.specs.Lists.{ifZero}
 use Rattle.rules.specs.Chart.{stepFor, allowed}
 use Rattle.rules.specs.Charts.{isProcess, chartOf}
 use Rattle.rules.specs.Words.{semaphore}
-use Rattle.rules.specs.History.{activates}
+use Rattle.rules.specs.History.{hasInstances, activates}
 use Rattle.rules.specs.Core.{held, takes, onCore}
 use Rattle.rules.specs.Event.{Event, Instance, sameInstance, instanceOf}
 use Rattle.rules.specs.Rows.{opened, leadsTo, moveIf, moveBy}
@@ -82,14 +82,19 @@ unseen-opened (suc n) = eqb·suc-zero n
 
 -- ---- the core rule: any core's state, and any class that takes it or not
 
--- an event on a core is no semaphore's, so its instance has the line's number
-own-number : (e : Event) → onCore e ≡ true → (instanceOf e) .number ≡ e .targetInstance
-unfolding isProcess
-own-number e o = by-test (eqb (e .kind) semaphore) refl
+-- the instance of a line that is not a semaphore's has the line's number
+pub own-number : (e : Event) → hasInstances (e .kind) ≡ true → (instanceOf e) .number ≡ e .targetInstance
+unfolding hasInstances isProcess
+own-number e i = by-test (eqb (e .kind) semaphore) refl
   where
     by-test : (b : Bool) → eqb (e .kind) semaphore ≡ b → cond b 0 (e .targetInstance) ≡ e .targetInstance
-    by-test true q = absurd (clash (isProcess (e .kind)) (on-process e o) (rw (eqb-true (e .kind) semaphore q)))
+    by-test true q = absurd (clash (hasInstances (e .kind)) i (rw (eqb-true (e .kind) semaphore q)))
     by-test false q = refl
+
+-- an event on a core is a process's
+pub on-instances : (e : Event) → onCore e ≡ true → hasInstances (e .kind) ≡ true
+unfolding hasInstances
+on-instances e o = rw (on-process e o)
 
 pub another-differs : (x : Instance) → sameInstance (another x) x ≡ false
 another-differs x = rw (ne-eqb (suc (x .kind)) (x .kind) (λ q. omega arith))
@@ -184,7 +189,7 @@ module _ (nums ticks : List ℕ) (s : Sight) (e : Event) where
             ≡ b && not (serves (coreIn mark number (s .target) (instanceOf e)) (takes (e .word)) (unseen (opened state)) (instanceOf e))
         by-test true o =
             ap not
-            (ap (λ (n : ℕ). coreServes (s .class) mark (isHolder mark number (s .target) n) (eqb state 0)) (sym (own-number e o))
+            (ap (λ (n : ℕ). coreServes (s .class) mark (isHolder mark number (s .target) n) (eqb state 0)) (sym (own-number e (on-instances e o)))
             ∙ serves-in (s .class) number (s .target) (instanceOf e) (eqb state 0) (takes (e .word)) (rw c (class-takes e o)) mark
             ∙ ap (λ (b : Bool). serves (coreIn mark number (s .target) (instanceOf e)) (takes (e .word)) b (instanceOf e)) (unseen-opened state))
         by-test false o = refl

@@ -105,7 +105,7 @@ noRoomIn nums s k =
 unfoldable pub notNextIn : List ℕ → Sight → ℕ → ℕ → ℕ → Bool
 notNextIn nums s k a n = activates k a && (not (eqb (numberedIn nums (s .target)) 0) && not (eqb n (numberIn nums (s .target) + 1)))
 
--- the event's instance holds the core, or is seen for the first time
+-- whether a core serves an event of a class: `holder`, the event's instance holds it, and `first`, that instance is seen for the first time
 unfoldable pub coreServes : ℕ → ℕ → Bool → Bool → Bool
 coreServes class mark holder first = cond (eqb class 1) (leb mark 1) (cond (eqb mark 0) first holder)
 

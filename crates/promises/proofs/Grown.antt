@@ -70,10 +70,6 @@ pub instances-tracked : (k : ℕ) → hasInstances k ≡ true → isTracked k �
 unfolding isTracked
 instances-tracked k q = rw q
 
--- the instance of a line that is not a semaphore's has the line's number
-pub own-number : (e : Event) → hasInstances (e .kind) ≡ true → (instanceOf e) .number ≡ e .targetInstance
-own-number e q = let r = instances-range (e .kind) q in rw (ne-eqb (e .kind) semaphore (λ p. omega (arith, p)))
-
 one-longer : {A : Type 0} (b : Bool) (xs : List A) (x : A) → length (xs ++ keep b x []) ≡ length xs + oneIf b
 one-longer true xs x = length-append xs (x ∷ [])
 one-longer false xs x = length-append xs []

@@ -23,12 +23,13 @@ use Rattle.tables.specs.declared.find.Found.the-variants.{At, Nothing}
 use Rattle.tables.specs.Entry.{instanceCount, ownerAt, instanceAt, stateAt}
 use Rattle.decide.specs.declared.happening.Happening.{Happening}
 use Rattle.decide.specs.Happening.{asEvent}
+use Rattle.decide.proofs.Plans.{own-number}
 use Rattle.store.specs.Store.{rowOr, targetRow, instanceRow}
 use Rattle.judge.specs.Feed.{Tables}
 use Rattle.promises.specs.Places.{rowOf}
 use Rattle.promises.specs.Shown.{InstanceShown, InstancesShown, Shown}
 use Rattle.promises.specs.Taken.{sightIn, InstanceFound, takenBy}
-use Rattle.promises.proofs.Grown.{newInstance, own-number, instances-tracked, instances-length, InstanceFrom, instance-from, instance-stays, instance-listed, row-stays}
+use Rattle.promises.proofs.Grown.{newInstance, instances-tracked, instances-length, InstanceFrom, instance-from, instance-stays, instance-listed, row-stays}
 use Rattle.promises.proofs.Grown.{instance-kind, one-instance, AllMet}
 use Rattle.promises.proofs.Grown.InstanceFrom.{before, as-new}
 use Rattle.promises.proofs.Lookups.{sight-instance, target-row}

@@ -28,13 +28,14 @@ use Rattle.tables.proofs.Found.{first-at, first-none, last-at, last-none, name-
 use Rattle.decide.specs.Sight.{coreClass, lookIf, instanceIn, sightOf}
 use Rattle.decide.specs.Known.{oneNew, newCore, newName, newInstance as newRow}
 use Rattle.decide.proofs.Classes.{class-on}
+use Rattle.decide.proofs.Plans.{own-number}
 use Rattle.store.specs.Store.{rowOr, coreRow, targetRow}
 use Rattle.judge.specs.Feed.{Tables}
 use Rattle.promises.specs.Places.{place, seek, rowOf}
 use Rattle.promises.specs.Shown.{InstanceShown, Shown}
 use Rattle.promises.specs.Taken.{sightIn, InstanceFound}
 use Rattle.promises.proofs.Places.{place-bound}
-use Rattle.promises.proofs.Grown.{newSource, newTarget, newInstance, instances-tracked, own-number, name-kind, row-stays, source-row-new, target-row-new, name-at, instance-kind, one-instance, AllMet, name-size}
+use Rattle.promises.proofs.Grown.{newSource, newTarget, newInstance, instances-tracked, name-kind, row-stays, source-row-new, target-row-new, name-at, instance-kind, one-instance, AllMet, name-size}
 
 -- ---- a search over rows, where the rows are the places of a list
 

@@ -22,21 +22,21 @@ use Rattle.rules.specs.Verdict.{Accepted}
 use Rattle.rules.proofs.Tests.{both, and-true, clash, instance-true}
 use Rattle.rules.proofs.Changes.{state-other, core-other, core-own}
 use Rattle.rules.proofs.Answers.{Passed}
-use Rattle.rules.proofs.CoreWords.{on-process}
 use Rattle.rules.proofs.Tracked.{target-kind, two-names, source-kind, kind-stays, named-kind}
 use Rattle.rules.proofs.Meets.{Met}
 use Rattle.tables.specs.Entry.{nameCount, nameAt, lengthAt, kindAt, markAt, numberAt, numberedAt}
 use Rattle.decide.specs.declared.happening.Happening.{Happening}
 use Rattle.decide.specs.Happening.{asEvent}
+use Rattle.decide.proofs.Plans.{own-number, on-instances}
 use Rattle.store.specs.Store.{targetRow}
 use Rattle.judge.specs.Feed.{Tables}
 use Rattle.promises.specs.Places.{rowOf}
 use Rattle.promises.specs.Shown.{coreMark, theSemaphore, MarkShown, numberOf, NameShown, Shown}
 use Rattle.promises.specs.Taken.{sightIn, takenBy}
-use Rattle.promises.proofs.Grown.{newTarget, instances-tracked, tracked-range, own-number, NameFrom, name-from, row-stays, source-row-new, AllMet, name-size}
+use Rattle.promises.proofs.Grown.{newTarget, instances-tracked, tracked-range, NameFrom, name-from, row-stays, source-row-new, AllMet, name-size}
 use Rattle.promises.proofs.Grown.NameFrom.{before, as-source, as-target}
 use Rattle.promises.proofs.Lookups.{new-core, new-name, target-row}
-use Rattle.promises.proofs.Untold.{process-instances, semaphore-tracked, activates-instances, core-unnumbered}
+use Rattle.promises.proofs.Untold.{semaphore-tracked, activates-instances, core-unnumbered}
 use Rattle.promises.proofs.Turns.{held-core, holder-named}
 use Rattle.promises.proofs.Entries.{name-kept, name-of-core, name-of-target}
 use Rattle.promises.proofs.Rows.{row-bound, at-new-core, at-new-target, orOld, orGiven, kind-at, mark-at, number-at, numbered-at}
@@ -277,7 +277,7 @@ module _ (h : List Event) (a : Accepted h) (m : AllMet h) (t : Tables) (s : Show
         by-test true o false g =
             let z : held (instanceOf e) ≡ held x = ap (λ (b : Bool). becomes b (instanceOf e)) (sym g) ∙ sym (becoming o) ∙ p in
             let y : instanceOf e ≡ x = cc in
-            sym (own-number e (process-instances (w .kind) (on-process e (both (onCore e) (sameBytes n source) o .0)))) ∙ ap (λ (i : Instance). i .number) y
+            sym (own-number e (on-instances e (both (onCore e) (sameBytes n source) o .0))) ∙ ap (λ (i : Instance). i .number) y
         by-test false o g r =
             let was = sym (core-other n e h o) ∙ p in
             let c = held-core h a n x was in

@@ -22,10 +22,6 @@ use Rattle.promises.proofs.Grown.{instances-range, instances-tracked}
 
 -- ---- events that speak of tracked names
 
-pub process-instances : (k : ℕ) → isProcess k ≡ true → hasInstances k ≡ true
-unfolding hasInstances
-process-instances k q = rw q
-
 pub semaphore-tracked : (k : ℕ) → eqb k semaphore ≡ true → isTracked k ≡ true
 unfolding isTracked
 semaphore-tracked k q = rw q (by-test (hasInstances k))

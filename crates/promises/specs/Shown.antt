@@ -69,7 +69,7 @@ pub record NameShown (h : List Event) (names nums : List ℕ) (i : ℕ) (n : Lis
   pub size : lengthAt nums i ≡ length n
   pub kind : kindOf n h ≡ some (kindAt nums i)
   pub mark : MarkShown h n (kindAt nums i) (markAt nums i)
-  -- a core has no number of its own, and in the entry that is free for it the number of the instance that holds it
+  -- a core has no number of its own: the entry is free for that of the instance that holds it
   pub holder : (x : Instance) → coreAt n h ≡ held x → numberAt nums i ≡ x .number
   pub numbered : numberedAt nums i ≤ 1
   pub number : cond (eqb (numberedAt nums i) 0) none (some (numberAt nums i)) ≡ numberOf h n (kindAt nums i)
