@@ -20,7 +20,7 @@ use Rattle.run.proofs.Behind.{part-all}
 use Rattle.bundle.specs.declared.container.Entry.{Entry}
 use Rattle.bundle.specs.declared.container.Entry.the-variants.{Trace, Untold}
 use Rattle.bundle.specs.declared.container.Ended.the-variants.{Whole, Broken}
-use Rattle.bundle.specs.Container.{lengthIn, entryOf, entryFrom, endFrom, containerEnd}
+use Rattle.bundle.specs.Container.{lengthIn, headerEntry, entryFrom, endFrom, containerEnd}
 
 -- ---- what a header gives, by the tests of the code
 
@@ -52,7 +52,7 @@ module _ (s : List ℕ) (at e : ℕ) (found : e ≡ findFrom 10 s at) where
     rest-byte : (n : ℕ) → getD rest n 0 ≡ getD s (e + 1 + n) 0
     rest-byte n = rw (part-all s (e + 1) (omega arith)) (getD-drop (e + 1) s n 0)
 
-    by-length : entryFrom s at ≡ entryOf s e w
+    by-length : entryFrom s at ≡ headerEntry s e w
     unfolding entryFrom
     by-length = rw (← found, lt-ltb e (length s) h, ← given)
 
@@ -79,7 +79,7 @@ byte-inside s i e = ⊎-elim (λ h. h) (λ h. absurd (omega (arith, e, List·get
 abbrev Inside : List ℕ → ℕ → ℕ → ℕ → Type 0
 Inside s at e size = (at ≤ e) × (e + 1 + size < length s)
 
-entry-inside : (s : List ℕ) (at e : ℕ) (w : Number) {end size : ℕ} → at ≤ e → entryOf s e w ≡ Trace end size → Inside s at end size
+entry-inside : (s : List ℕ) (at e : ℕ) (w : Number) {end size : ℕ} → at ≤ e → headerEntry s e w ≡ Trace end size → Inside s at end size
 entry-inside s at e (Value n) {end} {size} h p = by-byte (eqb (getD s (e + 1 + n) 0) 10) refl p
   where
     by-byte : (b : Bool) → eqb (getD s (e + 1 + n) 0) 10 ≡ b → cond b (Trace e n) Untold ≡ Trace end size → Inside s at end size
@@ -95,7 +95,7 @@ pub trace-inside : (s : List ℕ) (at : ℕ) {w : Entry} {end size : ℕ} → w 
 unfolding entryFrom
 trace-inside s at {w} {end} {size} e p = by-end (ltb (findFrom 10 s at) (length s)) (sym e ∙ p)
   where
-    by-end : (b : Bool) → cond b (entryOf s (findFrom 10 s at) (lengthIn (take (findFrom 10 s at - at) (drop at s)))) Untold ≡ Trace end size → Inside s at end size
+    by-end : (b : Bool) → cond b (headerEntry s (findFrom 10 s at) (lengthIn (take (findFrom 10 s at - at) (drop at s)))) Untold ≡ Trace end size → Inside s at end size
     by-end true z = entry-inside s at (findFrom 10 s at) (lengthIn (take (findFrom 10 s at - at) (drop at s))) (find-ge 10 s at) z
     by-end false z = absurd (let x : _≡_ {A = ℕ} 0 1 = cc in omega arith)
 

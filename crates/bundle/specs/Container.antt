@@ -25,13 +25,13 @@ lengthIn header =
     cond (startsWith header (bytes "trace ")) (cond (ltb (labelEnd header) (length header)) (numberOf (drop (labelEnd header + 1) header) 4294967295) Bad) Bad
 
 -- A header that ends at an index, by its length: the trace is followed by a byte 10, and past the end of the bytes there is none.
-abbrev pub entryOf : List ℕ → ℕ → Number → Entry
-entryOf s end (Value n) = cond (eqb (getD s (end + 1 + n) 0) 10) (Trace end n) Untold
-entryOf s end Bad = Untold
+abbrev pub headerEntry : List ℕ → ℕ → Number → Entry
+headerEntry s end (Value n) = cond (eqb (getD s (end + 1 + n) 0) 10) (Trace end n) Untold
+headerEntry s end Bad = Untold
 
 -- what stands from an index on: a trace with the end of its header and its length, or nothing that can be told
 unfoldable pub entryFrom : List ℕ → ℕ → Entry
-entryFrom s at = let end = findFrom 10 s at in cond (ltb end (length s)) (entryOf s end (lengthIn (take (end - at) (drop at s)))) Untold
+entryFrom s at = let end = findFrom 10 s at in cond (ltb end (length s)) (headerEntry s end (lengthIn (take (end - at) (drop at s)))) Untold
 
 -- The n traces before an index and those from there on. Each takes two bytes at least, so that there are no more of them than bytes; the first
 -- argument counts these down.

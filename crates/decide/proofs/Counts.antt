@@ -8,12 +8,14 @@ use lib.Dec.{eqb, leb, leb·zero}
 use borrow.Author.Tests.{eqb-true, eqb-false, eq-eqb, ne-eqb}
 use Rattle.rules.specs.Lists.{member}
 use Rattle.rules.specs.Words.{increment, lock-used, full, overfull, unlock-full, used}
-use Rattle.rules.specs.Refusals.{fixed}
+use Rattle.rules.specs.Refusals.{countAllowed}
+use Rattle.rules.specs.Words.{free, unlock, lock}
 use Rattle.tables.specs.declared.find.Found.{Found}
 use Rattle.tables.specs.declared.find.Found.the-variants.{At, Nothing}
-use Rattle.decide.specs.Known.{oneNew, leastCount}
+use Rattle.decide.specs.Known.{oneNew}
+use Rattle.decide.specs.PlanCode.{leastCount}
 
--- a core's state is 2 more than the row of the instance that holds it
+-- a core's state is 2 more than the row of the process whose instance holds it
 pub row-named : (m j : ℕ) → 2 ≤ m → eqb (m - 2) j ≡ eqb m (j + 2)
 row-named m j h = by-test (eqb (m - 2) j) refl
   where
@@ -30,8 +32,8 @@ one-at-most true (At i) e = omega arith
 one-at-most true Nothing e = omega arith
 
 -- but for the three words that fix the count
-pub least-fits : (a n : ℕ) → eqb a 16 ≡ false → eqb a 17 ≡ false → eqb a 18 ≡ false → leb (leastCount a) n ≡ fixed a n
-unfolding leastCount fixed
+pub least-fits : (a n : ℕ) → eqb a free ≡ false → eqb a unlock ≡ false → eqb a lock ≡ false → leb (leastCount a) n ≡ countAllowed a n
+unfolding leastCount countAllowed
 least-fits a n p q r = rw (p, q, r) (by-test (eqb a increment) (member a (used ∷ unlock-full ∷ lock-used ∷ full ∷ [])) (eqb a overfull))
   where
     by-test : (i m o : Bool) → leb (cond (i || m) 1 (cond o 2 0)) n ≡ cond i (leb 1 n) (cond m (leb 1 n) (cond o (leb 2 n) true))

@@ -5,11 +5,13 @@ use mathlib.Core.List.{List}
 use Prim.Native.Nat.{ℕ, zero, suc, _≤_}
 use native.Mathlib.Omega.{arith}
 use lib.ListN.{length}
+use Rattle.line.proofs.Lowest.{lowest-has}
+use Rattle.rules.specs.Limits.{lastRefusal}
 use Rattle.rules.specs.Lists.{ifZero}
 use Rattle.rules.specs.Event.{Event}
-use Rattle.rules.specs.Refusals.{Known, timeFalls, secondKind, noRoom, offChart, notNext, coreBroken, countBroken, rules, answerTo}
-use Rattle.tables.specs.Range.{isSized}
-use Rattle.tables.proofs.Valid.{Sizes, sizes-mean}
+use Rattle.rules.specs.Refusals.{Known, eventTests, answerTo}
+use Rattle.tables.specs.Sized.{Sized, isSized}
+use Rattle.tables.proofs.Valid.{sizes-mean}
 use Rattle.decide.specs.declared.sight.Sight.{Sight}
 use Rattle.decide.specs.declared.plan.Plan.the-variants.{Refuse, Take}
 use Rattle.decide.specs.Sight.{sightOf}
@@ -18,29 +20,20 @@ use Rattle.decide.specs.Decide.{planAnswer, enters, planBy, planOf, deci
 
 -- ---- tables of the right sizes
 
-pub decided-sized : {names nums ticks : List ℕ} (e : Event) → Sizes names nums ticks → decided names nums ticks e ≡ planOf names nums ticks e
+pub decided-sized : {names nums ticks : List ℕ} (e : Event) → Sized names nums ticks → decided names nums ticks e ≡ planOf names nums ticks e
 unfolding decided
 decided-sized {names} {nums} {ticks} e s = rw (sizes-mean names nums ticks .shows s)
 
 -- ---- an answer is 0 or from 8 to 14
 
 abbrev Ranged : ℕ → Type 0
-Ranged a = 1 ≤ a → (8 ≤ a) × (a ≤ 14)
-
-ranged : (b : Bool) (n a : ℕ) → 8 ≤ n → n ≤ 14 → Ranged a → Ranged (cond b n a)
-ranged true n a l u r = λ h. (l, u)
-ranged false n a l u r = r
+Ranged a = 1 ≤ a → (8 ≤ a) × (a ≤ lastRefusal)
 
 answer-ranged : (k : Known) (e : Event) → Ranged (answerTo k e)
-unfolding answerTo rules
+unfolding answerTo eventTests
 answer-ranged k e =
-    ranged (timeFalls k e) 8 _ (omega arith) (omega arith)
-    (ranged (secondKind k e) 9 _ (omega arith) (omega arith)
-    (ranged (noRoom k e) 10 _ (omega arith) (omega arith)
-    (ranged (offChart k e) 11 _ (omega arith) (omega arith)
-    (ranged (notNext k e) 12 _ (omega arith) (omega arith)
-    (ranged (coreBroken k e) 13 _ (omega arith) (omega arith)
-    (ranged (countBroken k e) 14 0 (omega arith) (omega arith) (λ h. absurd (omega arith))))))))
+    lowest-has Ranged (eventTests k e) (λ h. absurd (omega arith))
+    (λ h. omega arith, (λ h. omega arith, (λ h. omega arith, (λ h. omega arith, (λ h. omega arith, (λ h. omega arith, (λ h. omega arith, tt)))))))
 
 -- ---- the number of a plan: what the rules answer at what the tables say, and 15 for a table of a wrong size
 
@@ -66,7 +59,7 @@ module _ (names nums ticks : List ℕ) (e : Event) where
       by-size false = refl
 
   -- by tables of the right sizes a refusal is by one of 8 to 14
-  pub plan-refuses : 1 ≤ planAnswer (planOf names nums ticks e) → (8 ≤ planAnswer (planOf names nums ticks e)) × (planAnswer (planOf names nums ticks e) ≤ 14)
+  pub plan-refuses : 1 ≤ planAnswer (planOf names nums ticks e) → (8 ≤ planAnswer (planOf names nums ticks e)) × (planAnswer (planOf names nums ticks e) ≤ lastRefusal)
   plan-refuses = rw plan-answer (answer-ranged (knownBy nums ticks (sightOf names nums e) e) e)
 
   -- and a line that is taken carries what was looked up and the state entered

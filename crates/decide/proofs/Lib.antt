@@ -1,6 +1,4 @@
 -- The laws of what is decided, which the proofs of this crate and of the crates above it cite.
-pub mod Ranges
-pub mod Classes
 pub mod Counts
 pub mod Plans
 pub mod Decided

@@ -6,13 +6,14 @@ use mathlib.Core.List.{List}
 use Prim.Native.Nat.{ℕ, zero, suc, _+_}
 use native.Mathlib.Omega.{arith}
 use lib.Dec.{eqb, ltb, eqb·suc-zero}
-use borrow.Author.Tests.{ne-eqb, lt-leb}
+use borrow.Author.Tests.{eqb-true, ne-eqb, lt-leb}
 use Rattle.rules.specs.Lists.{ifZero}
 use Rattle.rules.specs.Chart.{stepFor, allowed}
-use Rattle.rules.specs.Charts.{chartOf}
+use Rattle.rules.specs.Charts.{isProcess, chartOf}
 use Rattle.rules.specs.Words.{semaphore}
 use Rattle.rules.specs.History.{activates}
-use Rattle.rules.specs.Core.{held, takes, onCore}
+use Rattle.rules.specs.Core.{held, takes, onCore, coreClass}
+use Rattle.rules.specs.History.{hasInstances}
 use Rattle.rules.specs.Event.{Event, Instance, sameInstance, instanceOf}
 use Rattle.rules.specs.Rows.{opened, leadsTo, moveIf, moveBy}
 use Rattle.rules.specs.Refusals.{
@@ -31,29 +32,25 @@ use Rattle.rules.specs.Refusals.{
   notNext,
   coreBroken,
   countFollows,
-  fixed,
+  countAllowed,
   countBroken,
-  rules,
+  eventTests,
   answerTo,
 }
 use Rattle.rules.proofs.Tests.{instance-refl}
+use Rattle.rules.proofs.CoreClasses.{class-on, class-takes}
+use Rattle.rules.proofs.Tests.{clash}
+use Rattle.rules.proofs.CoreWords.{on-process}
 use Rattle.tables.specs.declared.find.Found.{Found}
 use Rattle.tables.specs.declared.find.Found.the-variants.{At, Nothing}
 use Rattle.tables.specs.Entry.{startedEntry, lastTime}
 use Rattle.decide.specs.declared.sight.Sight.{Sight}
 use Rattle.decide.specs.declared.plan.Plan.{Plan}
 use Rattle.decide.specs.declared.plan.Plan.the-variants.{Refuse, Take}
-use Rattle.decide.specs.Sight.{coreClass, sightOf}
-use Rattle.decide.specs.Known.{
-  kindIn,
-  markIn,
-  numberIn,
-  numberedIn,
-  stateIn,
-  another,
-  holds,
-  coreIn,
-  knownBy,
+use Rattle.decide.specs.Sight.{sightOf}
+use Rattle.decide.specs.Known.{kindIn, markIn, numberIn, numberedIn, stateIn, another, isHolder, coreIn, knownBy}
+use Rattle.decide.specs.Decide.{enters, planBy, planOf}
+use Rattle.decide.specs.PlanCode.{
   timeFallsIn,
   kindClash,
   sourceClashIn,
@@ -64,9 +61,10 @@ use Rattle.decide.specs.Known.{
   coreBrokenIn,
   countFollowsIn,
   countBrokenIn,
+  movePlan,
+  stepsPlan,
+  testsPlan,
 }
-use Rattle.decide.specs.Decide.{enters, planBy, movePlan, stepsPlan, testsPlan, planOf}
-use Rattle.decide.proofs.Classes.{class-on, class-takes}
 
 -- ---- entries that are 0 for none
 
@@ -81,22 +79,37 @@ unseen-opened (suc n) = eqb·suc-zero n
 
 -- ---- the core rule: any core's state, and any class that takes it or not
 
+-- the instance of a line that is not a semaphore's has the line's number
+pub own-number : (e : Event) → hasInstances (e .kind) ≡ true → (instanceOf e) .number ≡ e .targetInstance
+unfolding hasInstances isProcess
+own-number e i = by-test (eqb (e .kind) semaphore) refl
+  where
+    by-test : (b : Bool) → eqb (e .kind) semaphore ≡ b → cond b 0 (e .targetInstance) ≡ e .targetInstance
+    by-test true q = absurd (clash (hasInstances (e .kind)) i (rw (eqb-true (e .kind) semaphore q)))
+    by-test false q = refl
+
+-- an event on a core is a process's
+pub on-instances : (e : Event) → onCore e ≡ true → hasInstances (e .kind) ≡ true
+unfolding hasInstances
+on-instances e o = rw (on-process e o)
+
 pub another-differs : (x : Instance) → sameInstance (another x) x ≡ false
 another-differs x = rw (ne-eqb (suc (x .kind)) (x .kind) (λ q. omega arith))
 
-holds-none : (f : Found) → holds f 1 ≡ false
-holds-none Nothing = refl
-holds-none (At j) = ne-eqb 1 (j + 2) (λ q. omega arith)
+idle-unheld : (number : ℕ) (f : Found) (n : ℕ) → isHolder 1 number f n ≡ false
+idle-unheld number Nothing n = refl
+idle-unheld number (At p) n = rw (ne-eqb 1 (p + 2) (λ q. omega arith))
 
-module _ (class : ℕ) (f : Found) (x : Instance) (first : Bool) where
-  serves-in : (t : Bool) → eqb class 1 ≡ t → (mark : ℕ) → coreServes class mark f first ≡ serves (coreIn mark f x) t first x
+module _ (class number : ℕ) (f : Found) (x : Instance) (first : Bool) where
+  serves-in : (t : Bool) → eqb class 1 ≡ t → (mark : ℕ) →
+      coreServes class mark (isHolder mark number f (x .number)) first ≡ serves (coreIn mark number f x) t first x
   unfolding coreServes coreIn
   serves-in true q zero = rw q
   serves-in false q zero = rw q
   serves-in true q (suc zero) = rw q
-  serves-in false q (suc zero) = rw (q, holds-none f)
+  serves-in false q (suc zero) = rw (q, idle-unheld number f (x .number))
   serves-in t q (suc (suc m)) =
-      rw (q, eqb·suc-zero (suc m), ne-eqb (suc (suc m)) 1 (λ e. omega arith), lt-leb (suc (suc m)) 1 (omega arith)) (by-row t (holds f (suc (suc m))))
+      rw (q, eqb·suc-zero (suc m), ne-eqb (suc (suc m)) 1 (λ e. omega arith), lt-leb (suc (suc m)) 1 (omega arith)) (by-row t (isHolder (suc (suc m)) number f (x .number)))
     where
       by-row : (t b : Bool) → cond t false b ≡ serves (cond b (held x) (held (another x))) t first x
       by-row true true = refl
@@ -136,7 +149,7 @@ module _ (nums ticks : List ℕ) (s : Sight) (e : Event) where
   unfolding countBrokenIn countBroken countFollowsIn countFollows knownBy
   count-in =
       ap (λ (b : Bool). eqb (e .kind) semaphore && b)
-      (by-test (eqb (numberedIn nums (s .target)) 0) (fixed (e .word) (e .count)) (countFollowsIn (numberIn nums (s .target)) (e .word) (e .count)) refl)
+      (by-test (eqb (numberedIn nums (s .target)) 0) (countAllowed (e .word) (e .count)) (countFollowsIn (numberIn nums (s .target)) (e .word) (e .count)) refl)
     where
       by-test : (z f g : Bool) → countFollowsIn (numberIn nums (s .target)) (e .word) (e .count) ≡ g →
           not f || (not z && not g) ≡ not (countFollows (cond z none (some (numberIn nums (s .target)))) (e .word) (e .count) && f)
@@ -155,7 +168,7 @@ module _ (nums ticks : List ℕ) (s : Sight) (e : Event) where
     unfolding sourceClashIn sourceClash knownBy
     source-in = rw (on-in, clash-opened (kindIn nums (s .source)) 1)
 
-    core-in : coreBrokenIn nums s (e .kind) ≡ coreBroken (knownBy nums ticks s e) e
+    core-in : coreBrokenIn nums s (e .kind) (e .targetInstance) ≡ coreBroken (knownBy nums ticks s e) e
     unfolding coreBrokenIn coreBroken knownBy
     core-in = rw on-in (by-test (onCore e) refl)
       where
@@ -165,12 +178,17 @@ module _ (nums ticks : List ℕ) (s : Sight) (e : Event) where
         state : ℕ
         state = stateIn nums s (e .kind)
 
+        number : ℕ
+        number = numberIn nums (s .source)
+
         by-test : (b : Bool) → onCore e ≡ b →
-            b && not (coreServes (s .class) mark (s .instance) (eqb state 0)) ≡ b && not (serves (coreIn mark (s .instance) (instanceOf e)) (takes (e .word)) (unseen (opened state)) (instanceOf e))
+            b && not (coreServes (s .class) mark (isHolder mark number (s .target) (e .targetInstance)) (eqb state 0))
+            ≡ b && not (serves (coreIn mark number (s .target) (instanceOf e)) (takes (e .word)) (unseen (opened state)) (instanceOf e))
         by-test true o =
             ap not
-            (serves-in (s .class) (s .instance) (instanceOf e) (eqb state 0) (takes (e .word)) (rw c (class-takes e o)) mark
-            ∙ ap (λ (b : Bool). serves (coreIn mark (s .instance) (instanceOf e)) (takes (e .word)) b (instanceOf e)) (unseen-opened state))
+            (ap (λ (n : ℕ). coreServes (s .class) mark (isHolder mark number (s .target) n) (eqb state 0)) (sym (own-number e (on-instances e o)))
+            ∙ serves-in (s .class) number (s .target) (instanceOf e) (eqb state 0) (takes (e .word)) (rw c (class-takes e o)) mark
+            ∙ ap (λ (b : Bool). serves (coreIn mark number (s .target) (instanceOf e)) (takes (e .word)) b (instanceOf e)) (unseen-opened state))
         by-test false o = refl
 
 -- ---- the answer as a plan
@@ -208,7 +226,7 @@ module _ (nums ticks : List ℕ) (s : Sight) (e : Event) (c : s .class ≡ coreC
       by-test false = refl
 
   pub tests-plan : testsPlan nums ticks s e ≡ planBy nums ticks s e
-  unfolding testsPlan planBy answerTo rules secondKind
+  unfolding testsPlan planBy answerTo eventTests secondKind
   tests-plan =
       let t = enters nums s e in
       rw (time-in nums ticks s e, source-in nums ticks s e c, target-in nums ticks s e, room-in nums ticks s e)

@@ -1,6 +1,6 @@
 -- How tight the contracts of what is looked up and decided are: no second answer, and wrong answers that they shut out.
 use mathlib.Core.Path.{_≡_, refl, ap}
-use mathlib.Core.Bool.{Bool, true, false, not, cond}
+use mathlib.Core.Bool.{Bool, true, false, cond}
 use mathlib.Core.List.{List, []}
 use Prim.Native.Nat.{ℕ}
 use native.Mathlib.Omega.{arith}
@@ -11,20 +11,19 @@ use Rattle.words.specs.declared.kind.Kind.the-variants.{Runnable}
 use Rattle.words.specs.declared.action.Action.the-variants.{Start}
 use Rattle.line.specs.declared.event.Event.{Event as ReadEvent}
 use Rattle.line.specs.Event.{eventOf}
-use Rattle.rules.specs.Words.{runnable, semaphore, task, activate, mtalimitexceeded, start}
+use Rattle.rules.specs.Words.{runnable, task, start}
 use Rattle.rules.specs.Charts.{isProcess}
-use Rattle.rules.specs.Core.{takes}
+use Rattle.rules.specs.Core.{takes, coreClass}
 use Rattle.rules.specs.Event.{Event}
-use Rattle.rules.specs.History.{hasInstances, isTracked, activates}
 use Rattle.tables.specs.declared.find.Found.{Found}
 use Rattle.tables.specs.declared.find.Found.the-variants.{At, Nothing}
 use Rattle.tables.specs.Find.{findName}
-use Rattle.tables.specs.Range.{isSized}
+use Rattle.tables.specs.Sized.{isSized}
 use Rattle.decide.specs.declared.happening.Happening.{Happening}
 use Rattle.decide.specs.declared.sight.Sight.{Sight}
 use Rattle.decide.specs.declared.plan.Plan.{Plan}
 use Rattle.decide.specs.Happening.{happeningOf}
-use Rattle.decide.specs.Sight.{coreClass, sightOf}
+use Rattle.decide.specs.Sight.{sightOf}
 use Rattle.decide.specs.Known.{oneNew}
 use Rattle.decide.specs.Decide.{planAnswer, planOf, decided}
 use Rattle.decide.proofs.Decided.{plan-refuses}
@@ -82,34 +81,6 @@ pub look-not-by-word :
 unfolding sightOf coreClass isProcess takes
 look-not-by-word = shut-out (λ s. eqb (s .class) 0) ([], [], started runnable) refl refl
 
--- ---- `with_instances`, `tracked`
-
-pub with-instances-unique : (k : ℕ) (x y : Bool) → x ≡ hasInstances k → y ≡ hasInstances k → x ≡ y
-with-instances-unique = unique hasInstances
-
--- semaphores have none
-pub with-instances-not-as-tracked : ShutsOut hasInstances isTracked
-unfolding hasInstances isTracked isProcess
-with-instances-not-as-tracked = shut-out not semaphore refl refl
-
--- runnables have some
-pub with-instances-not-processes : ShutsOut hasInstances isProcess
-unfolding hasInstances isProcess
-with-instances-not-processes = shut-out (λ b. b) runnable refl refl
-
-pub tracked-unique : (k : ℕ) (x y : Bool) → x ≡ isTracked k → y ≡ isTracked k → x ≡ y
-tracked-unique = unique isTracked
-
--- semaphores are tracked
-pub tracked-not-by-instances : ShutsOut isTracked hasInstances
-unfolding isTracked hasInstances isProcess
-tracked-not-by-instances = shut-out (λ b. b) semaphore refl refl
-
--- types that are not judged are not
-pub tracked-not-always : ShutsOut isTracked (λ k. true)
-unfolding isTracked hasInstances isProcess
-tracked-not-always = shut-out not 0 refl refl
-
 -- ---- `one_new`
 
 pub one-new-unique : (needed : Bool) (f : Found) (x y : ℕ) → x ≡ oneNew needed f → y ≡ oneNew needed f → x ≡ y
@@ -125,24 +96,6 @@ one-new-not-unneeded = shut-out (λ n. eqb n 0) (false, Nothing) refl refl
 -- nor one that is there
 pub one-new-not-found : ShutsOut news (λ (needed, f). cond needed 1 0)
 one-new-not-found = shut-out (λ n. eqb n 0) (true, At 0) refl refl
-
--- ---- `numbers_instance`
-
-pub numbers-unique : (k a : ℕ) (x y : Bool) → x ≡ activates k a → y ≡ activates k a → x ≡ y
-numbers-unique k = unique (activates k)
-
-abbrev numbers : ℕ × ℕ → Bool
-numbers (k, a) = activates k a
-
--- mtalimitexceeded numbers a process's instance too
-pub numbers-not-by-activate : ShutsOut numbers (λ (k, a). eqb a activate)
-unfolding activates isProcess
-numbers-not-by-activate = shut-out (λ b. b) (task, mtalimitexceeded) refl refl
-
--- start numbers no process's instance
-pub numbers-not-by-start : ShutsOut numbers (λ (k, a). eqb a start)
-unfolding activates isProcess
-numbers-not-by-start = shut-out not (task, start) refl refl
 
 -- ---- `decide`
 

@@ -1,9 +1,10 @@
 -- An event line as the rules see it.
 use mathlib.Core.List.{List}
 use Prim.Native.Nat.{ℕ}
+use Rattle.words.specs.Action.{actionCode}
 use Rattle.line.specs.declared.event.Event.{Event as ReadEvent}
 use Rattle.rules.specs.Event.{Event}
-use Rattle.rules.specs.Lines.{kindNumber, wordNumber}
+use Rattle.rules.specs.Lines.{kindNumber}
 use Rattle.decide.specs.declared.happening.Happening.{Happening}
 
 abbrev pub happeningOf : ReadEvent → ℕ → Happening
@@ -11,7 +12,7 @@ happeningOf e count = record {
   time = e .time;
   from = e .«source_instance»;
   kind = kindNumber (e .kind);
-  word = wordNumber (e .action);
+  word = actionCode (e .action);
   number = e .«target_instance»;
   count = count;
 }

@@ -3,3 +3,4 @@ pub mod Happening
 pub mod Sight
 pub mod Known
 pub mod Decide
+pub mod PlanCode

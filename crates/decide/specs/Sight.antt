@@ -3,8 +3,7 @@ use mathlib.Core.Bool.{Bool, true, false, not, cond}
 use mathlib.Core.List.{List}
 use Prim.Native.Nat.{ℕ}
 use lib.Dec.{eqb, ltb}
-use Rattle.rules.specs.Charts.{isProcess}
-use Rattle.rules.specs.Core.{takes, gives, keeps}
+use Rattle.rules.specs.Core.{no-core, coreClass}
 use Rattle.rules.specs.Event.{Event}
 use Rattle.rules.specs.History.{hasInstances, isTracked}
 use Rattle.tables.specs.declared.find.Found.{Found}
@@ -12,10 +11,6 @@ use Rattle.tables.specs.declared.find.Found.the-variants.{At, Nothing}
 use Rattle.tables.specs.Entry.{nameRows}
 use Rattle.tables.specs.Find.{findName, findInstance}
 use Rattle.decide.specs.declared.sight.Sight.{Sight}
-
--- what an event does to a core: 1 takes it, 2 gives it back, 3 keeps it, 0 nothing
-unfoldable pub coreClass : ℕ → ℕ → ℕ
-coreClass k a = cond (isProcess k) (cond (takes a) 1 (cond (gives a) 2 (cond (keeps a) 3 0))) 0
 
 abbrev pub lookIf : Bool → Found → Found
 lookIf true f = f
@@ -31,7 +26,7 @@ sightOf names nums e =
     let t = lookIf (isTracked (e .kind)) (findName names nums (e .target)) in
     record {
       class = coreClass (e .kind) (e .word);
-      source = lookIf (not (eqb (coreClass (e .kind) (e .word)) 0)) (findName names nums (e .source));
+      source = lookIf (not (eqb (coreClass (e .kind) (e .word)) no-core)) (findName names nums (e .source));
       target = t;
       instance = instanceIn nums (hasInstances (e .kind)) t (e .targetInstance);
     }

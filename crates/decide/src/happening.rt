@@ -3,7 +3,7 @@ ghost use mathlib.Core.Path.{_≡_};
 ghost use Rattle.decide.specs.Happening.{happeningOf};
 use line::event::Event;
 use rules::lines::kind_number;
-use rules::lines::word_number;
+use words::code::action_code;
 
 pub struct Happening {
     pub time: u64,
@@ -24,7 +24,7 @@ pub fn to_rules(e: Event, count: u32) -> Happening
         time: e.time,
         from: e.source_instance,
         kind: kind_number(kind),
-        word: word_number(action),
+        word: action_code(action),
         number: e.target_instance,
         count,
     }

@@ -1,4 +1,5 @@
-// What becomes of an event line: what is looked up in the lent tables for it, and what is decided from that. Nothing is stored.
+// What becomes of an event line. In come the lent tables and the event; out goes its refusal, or what was looked up for it and the state that it leads to.
+// Nothing is stored.
 pub mod happening;
 pub mod known;
 pub mod plan;

@@ -3,11 +3,11 @@ ghost use mathlib.Core.Path.{_≡_};
 ghost use Prim.Native.Nat.{_+_};
 ghost use lib.Dec.{eqb};
 ghost use lib.ListN.{length};
-ghost use Rattle.rules.specs.History.{activates};
-ghost use Rattle.rules.specs.Refusals.{fixed};
+ghost use Rattle.rules.specs.Refusals.{countAllowed};
 ghost use Rattle.decide.specs.Happening.{asEvent};
-ghost use Rattle.decide.specs.Known.{timeFallsIn, kindClash, sourceClashIn, targetClashIn, noRoomIn, notNextIn, coreServes, coreBrokenIn, countFollowsIn, leastCount, countBrokenIn};
-ghost use Rattle.decide.specs.Decide.{stepsPlan, planOf, decided};
+ghost use Rattle.decide.specs.Decide.{planOf, decided};
+ghost use Rattle.decide.specs.PlanCode.{timeFallsIn, kindClash, sourceClashIn, targetClashIn, noRoomIn, notNextIn, coreServes, coreBrokenIn, countFollowsIn, leastCount, countBrokenIn, stepsPlan};
+ghost use Rattle.decide.specs.Known.{isHolder};
 ghost use Rattle.tables.specs.Entry.{numsSize, ticksSize};
 use crate::happening::Happening;
 use crate::known::kind_in;
@@ -18,16 +18,16 @@ use crate::known::one_new;
 use crate::known::state_in;
 use crate::sight::Sight;
 use crate::sight::look;
-use crate::sight::tracked;
-use crate::sight::with_instances;
 use rules::chart::Move;
 use rules::chart::chart_step;
+use rules::kind::*;
 use rules::numbers::CORE;
 use rules::numbers::*;
 use tables::entry::*;
 use tables::find::Found;
 use tables::range::sized;
 use text::bytes::same;
+use words::code::*;
 
 // What becomes of an event line: it is refused, or taken with what was looked up and the state that its semaphore or instance enters.
 pub enum Plan {
@@ -61,7 +61,7 @@ fn source_clash(nums: &[u32], s: Sight, source: &[u8], target: &[u8]) -> bool
     requires { ⌜ length (now nums) ≡ numsSize ⌝ }
     ensures { λ r. ⌜ r ≡ sourceClashIn (now (nums .entry)) s (now (source .entry)) (now (target .entry)) ⌝ }
 {
-    if s.class == 0 {
+    if s.class == NO_CORE {
         return false;
     }
     let row = s.source;
@@ -91,35 +91,16 @@ fn no_room(nums: &[u32], s: Sight, kind: u32) -> bool
     let source_row = s.source;
     let target_row = s.target;
     let instance_row = s.instance;
-    let core = one_new(s.class != 0, source_row);
+    let core = one_new(s.class != NO_CORE, source_row);
     let name = one_new(tracked(kind), target_row);
     let instance = one_new(with_instances(kind), instance_row);
-    if 256 < nums[NAMES] as u64 + core + name {
+    if (NAME_LIMIT as u64) < nums[NAMES] as u64 + core + name {
         return true;
     }
-    if 64 < nums[CORES] as u64 + core {
+    if (CORE_LIMIT as u64) < nums[CORES] as u64 + core {
         return true;
     }
-    1024 < nums[INSTANCES] as u64 + instance
-}
-
-// Whether an event is one that numbers its instance: activate or mtalimitexceeded of a process, start of a runnable.
-pub fn numbers_instance(kind: u32, word: u32) -> bool
-    ensures { λ r. ⌜ r ≡ activates kind word ⌝ }
-{
-    if kind == RUNNABLE {
-        return word == START;
-    }
-    if kind < TASK {
-        return false;
-    }
-    if INTERRUPT < kind {
-        return false;
-    }
-    if word == ACTIVATE {
-        return true;
-    }
-    word == MTALIMITEXCEEDED
+    (INSTANCE_LIMIT as u64) < nums[INSTANCES] as u64 + instance
 }
 
 // 12: whether the instance number is not the next.
@@ -137,45 +118,54 @@ fn not_next(nums: &[u32], s: Sight, h: Happening) -> bool
     h.number as u64 != number_in(nums, row) as u64 + 1
 }
 
-// Whether a core's state names the instance in row j.
-fn names_row(mark: u32, j: usize) -> bool
-    ensures { λ r. ⌜ r ≡ eqb mark (j + 2) ⌝ }
+// Whether a core's state names the process in row p.
+fn names_row(mark: u32, p: usize) -> bool
+    ensures { λ r. ⌜ r ≡ eqb mark (p + 2) ⌝ }
 {
     if mark < 2 {
         return false;
     }
-    mark as usize - 2 == j
+    mark as usize - 2 == p
 }
 
-// Whether a core in the state mark serves an event of the class: 0 unknown, 1 idle, 2 + j held by instance j. `first` tells whether the
-// instance is seen for the first time.
-fn core_serves(class: u32, mark: u32, instance: Found, first: bool) -> bool
-    ensures { λ r. ⌜ r ≡ coreServes class mark instance first ⌝ }
+// Whether a core's state and number name the instance n of the process in a row.
+fn is_holder(mark: u32, number: u32, process: Found, n: u32) -> bool
+    ensures { λ r. ⌜ r ≡ isHolder mark number process n ⌝ }
 {
-    if class == 1 {
+    let Found::At(p) = process else {
+        return false;
+    };
+    names_row(mark, p) & (number == n)
+}
+
+// Whether a core in the state mark serves an event of the class: 0 unknown, 1 idle, from 2 on held. `holder` tells whether the event's
+// instance holds it, `first` whether that is seen for the first time.
+fn core_serves(class: u32, mark: u32, holder: bool, first: bool) -> bool
+    ensures { λ r. ⌜ r ≡ coreServes class mark holder first ⌝ }
+{
+    if class == TAKES_CORE {
         return mark <= 1;
     }
     if mark == 0 {
         return first;
     }
-    let Found::At(j) = instance else {
-        return false;
-    };
-    names_row(mark, j)
+    holder
 }
 
 // 13: whether the core rule is broken.
-fn core_broken(nums: &[u32], s: Sight, kind: u32) -> bool
+fn core_broken(nums: &[u32], s: Sight, kind: u32, number: u32) -> bool
     requires { ⌜ length (now nums) ≡ numsSize ⌝ }
-    ensures { λ r. ⌜ r ≡ coreBrokenIn (now (nums .entry)) s kind ⌝ }
+    ensures { λ r. ⌜ r ≡ coreBrokenIn (now (nums .entry)) s kind number ⌝ }
 {
-    if s.class == 0 {
+    if s.class == NO_CORE {
         return false;
     }
     let row = s.source;
-    let instance = s.instance;
+    let process = s.target;
+    let mark = mark_in(nums, row);
+    let holder = is_holder(mark, number_in(nums, row), process, number);
     let first = state_in(nums, s, kind) == 0;
-    !core_serves(s.class, mark_in(nums, row), instance, first)
+    !core_serves(s.class, mark, holder, first)
 }
 
 // Whether a semaphore's count follows the one before.
@@ -215,7 +205,7 @@ fn least_count(word: u32) -> u32
 
 // Whether a count is one that its event may bear.
 fn count_fits(word: u32, count: u32) -> bool
-    ensures { λ r. ⌜ r ≡ fixed word count ⌝ }
+    ensures { λ r. ⌜ r ≡ countAllowed word count ⌝ }
 {
     if word == FREE {
         return count == 0;
@@ -259,7 +249,7 @@ fn decide_steps(nums: &[u32], s: Sight, h: Happening) -> Plan
     if not_next(nums, s, h) {
         return Plan::Refuse(12);
     }
-    if core_broken(nums, s, h.kind) {
+    if core_broken(nums, s, h.kind, h.number) {
         return Plan::Refuse(13);
     }
     if count_broken(nums, s, h) {

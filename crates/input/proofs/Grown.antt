@@ -9,12 +9,12 @@ use lib.ListN.{length, take, length-append}
 use Rattle.walk.specs.Lines.{restOf}
 use Rattle.rules.specs.Lists.{ifZero}
 use Rattle.judge.specs.Feed.{Tables, fedChunk}
-use Rattle.promises.specs.Fed.{joined}
 use Rattle.run.specs.Chunk.{Progress, going, stopped, readOn, atInputEnd}
+use Rattle.promises.specs.Fed.{joined}
 use Rattle.input.specs.declared.reads.Step.{Step}
 use Rattle.input.specs.declared.reads.Step.the-variants.{More, Stop, End, Error}
 use Rattle.input.specs.declared.reads.Input.the-variants.{Read, Failed, Refused}
-use Rattle.input.specs.Reads.{bufferSize, ARead, OneMore, Stepped, AllReads, SoFar, Came, BrokeOff, inputRefusal, Taken}
+use Rattle.input.specs.Reads.{bufferSize, ARead, OneMore, Stepped, AllReads, ReadSoFar, Came, BrokeOff, inputRefusal, Taken}
 
 -- ---- a list of reads that grows at its end
 
@@ -64,15 +64,15 @@ module _ (have : ℕ) (t : Tables) (b : List ℕ) (u : Tables) (c : List ℕ) {r
 
 -- ---- the reads so far, of n bytes, with the first `have` bytes of the buffer carried over
 
-pub none-yet : (t : Tables) → SoFar 0 t t []
+pub none-yet : (t : Tables) → ReadSoFar 0 t t []
 unfolding readOn
 none-yet t = record { reads = []; each = tt; counted = refl; goes-on = refl }
 
 -- where reading breaks off
-pub broke-off : {n : ℕ} {t u : Tables} {rest : List ℕ} → SoFar n t u rest → BrokeOff t u
+pub broke-off : {n : ℕ} {t u : Tables} {rest : List ℕ} → ReadSoFar n t u rest → BrokeOff t u
 broke-off {n} {rest = rest} s = record { bytes = n; rest = rest; before = s }
 
-module _ {n : ℕ} {t u : Tables} (have : ℕ) (b : List ℕ) (s : SoFar n t u (take have b)) (v : Tables) (c : List ℕ) where
+module _ {n : ℕ} {t u : Tables} (have : ℕ) (b : List ℕ) (s : ReadSoFar n t u (take have b)) (v : Tables) (c : List ℕ) where
   -- and one more, of k bytes
   module _ {k : ℕ} {p : Progress} (m : OneMore k have u b p) where
     abbrev more : List (List ℕ)
@@ -87,7 +87,7 @@ module _ {n : ℕ} {t u : Tables} (have : ℕ) (b : List ℕ) (s : SoFar n t u (
     more-come : readOn t [] more ≡ p
     more-come = read-append (s .reads) (m .read ∷ []) t [] (s .goes-on) ∙ m .comes-to
 
-  pub came-more : {r : Step} {k left : ℕ} → r ≡ More k left → Stepped r have u b v c → (left ≤ 1024) × SoFar (n + k) t v (take left c)
+  pub came-more : {r : Step} {k left : ℕ} → r ≡ More k left → Stepped r have u b v c → (left ≤ 1024) × ReadSoFar (n + k) t v (take left c)
   came-more e w =
       let m = as-more have u b v c e w in
       (m .0, record { reads = more (m .1); each = more-each (m .1); counted = more-counted (m .1); goes-on = more-come (m .1) })

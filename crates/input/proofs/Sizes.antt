@@ -7,9 +7,9 @@ use native.Mathlib.Omega.{arith}
 use lib.Dec.{eqb, leb}
 use lib.ListN.{length}
 use borrow.Author.Tests.{eq-eqb, eqb-true}
-use Rattle.tables.specs.Range.{isSized, tableAnswer}
+use Rattle.tables.specs.Sized.{Sized, isSized}
 use Rattle.tables.proofs.Means.{Means, means-le, means-eq, means-and}
-use Rattle.tables.proofs.Valid.{Sizes, sizes-mean}
+use Rattle.tables.proofs.Valid.{sizes-mean}
 use Rattle.tables.proofs.Zeros.{fresh-answer}
 use Rattle.judge.specs.Feed.{Tables, freshTables}
 use Rattle.run.specs.Report.{textMost}
@@ -35,7 +35,7 @@ fresh-taken b e = rw (eq-eqb (length b) bufferSize e) fresh-answer
 
 module _ (l : Lent) where
   abbrev pub RightSizes : Type 0
-  RightSizes = Sizes (l .tables .names) (l .tables .nums) (l .tables .ticks) × ((length (l .buffer) ≡ bufferSize) × (textMost ≤ length (l .output)))
+  RightSizes = Sized (l .tables .names) (l .tables .nums) (l .tables .ticks) × ((length (l .buffer) ≡ bufferSize) × (textMost ≤ length (l .output)))
 
   abbrev test : Bool
   test =

@@ -8,18 +8,18 @@ use borrow.Author.Tests.{le-leb}
 use Rattle.text.specs.Put.{written}
 use Rattle.text.proofs.Writes.{length-written}
 use Rattle.walk.specs.Lines.{linesOf}
+use Rattle.tables.specs.Sized.{Sized}
 use Rattle.tables.specs.Fresh.{Cleared, clearedOf}
-use Rattle.tables.proofs.Valid.{Sizes, sizes-mean}
+use Rattle.tables.proofs.Valid.{sizes-mean}
 use Rattle.judge.specs.Feed.{Tables, tables, freshTables}
-use Rattle.promises.specs.Fed.{joined}
 use Rattle.sheet.specs.declared.sheet.Printed.{Printed}
 use Rattle.sheet.specs.declared.sheet.Printed.the-variants.{Done, NotPrinted}
 use Rattle.sheet.specs.Sheet.{Sheeted, sheeted}
-use Rattle.run.specs.Chunk.{readOn, atInputEnd}
 use Rattle.run.specs.Report.{reportWritten, textMost}
-use Rattle.run.proofs.Reading.{written-right}
 use Rattle.run.proofs.Buffered.{front}
-use Rattle.run.proofs.Fits.{text-fits}
+use Rattle.promises.specs.Fed.{joined}
+use Rattle.promises.proofs.Reading.{written-right}
+use Rattle.promises.proofs.Printed.{text-fits}
 use Rattle.input.specs.declared.reads.Input.{Input}
 use Rattle.input.specs.declared.reads.Input.the-variants.{Read, Failed, Refused}
 use Rattle.input.specs.Reads.{bufferSize, Came, BrokeOff, Taken}
@@ -33,7 +33,7 @@ use Rattle.input.proofs.Sizes.{fresh-taken, RightSizes, right-sizes}
 abbrev left : Cleared → Tables
 left x = tables (x .names) (x .nums) (x .ticks)
 
-pub fresh-start : {names nums ticks : List ℕ} {x : Cleared} → Sizes names nums ticks → x ≡ clearedOf names nums ticks → left x ≡ freshTables
+pub fresh-start : {names nums ticks : List ℕ} {x : Cleared} → Sized names nums ticks → x ≡ clearedOf names nums ticks → left x ≡ freshTables
 unfolding clearedOf
 fresh-start {names} {nums} {ticks} s e = ap left e ∙ rw (sizes-mean names nums ticks .shows s)
 

@@ -4,29 +4,30 @@ use mathlib.Core.Path.{_≡_, refl, sym, ap, subst, _∙_}
 use mathlib.Core.Bool.{Bool, true, false, cond}
 use mathlib.Core.Logic.{⊎-elim}
 use mathlib.Core.List.{List, [], _∷_, _++_}
-use Prim.Native.Nat.{ℕ, zero, suc, _+_, _<_}
+use Prim.Native.Nat.{ℕ, _<_}
 use native.Mathlib.Omega.{arith}
 use lib.Dec.{eqb}
-use lib.ListN.{length, length-append}
+use lib.ListN.{length, length-append, length-reverse}
 use Rattle.text.specs.Bytes.{toByte}
 use Rattle.text.specs.Put.{written}
 use Rattle.text.proofs.Bools.{lt-or-ge}
 use Rattle.walk.specs.Lines.{lastLine, linesOf}
 use Rattle.walk.proofs.Cuts.{cut-whole, none-whole, none-rest}
+use Rattle.bill.specs.Text.{sheetText}
+use Rattle.bill.specs.Verdict.{acceptedText, refusedText}
+use Rattle.bill.proofs.VerdictLine.{length-accepted, length-refused}
 use Rattle.rules.specs.declared.place.Place.{Place}
-use Rattle.rules.specs.Lists.{ifZero}
 use Rattle.rules.specs.Sheet.{sheet, span}
 use Rattle.rules.specs.Lines.{eventsOf}
-use Rattle.rules.specs.Trace.{placeOf, answerAt, takenLines, verdictOn}
+use Rattle.rules.specs.Trace.{placeOf, answerAt, takenLines, verdictOn, refusalOn}
+use Rattle.rules.specs.Text.{traceText}
 use Rattle.judge.specs.Feed.{Tables, placeIn, freshTables}
-use Rattle.promises.specs.Fed.{refusalOn, joined}
-use Rattle.promises.proofs.Judged.{after-lines, shows-taken}
-use Rattle.sheet.specs.Text.{sheetText}
 use Rattle.run.specs.Chunk.{going, stopped, readOn, atInputEnd}
-use Rattle.run.specs.Report.{acceptedText, refusedText, traceText}
-use Rattle.run.proofs.Printed.{printed}
-use Rattle.run.proofs.Texts.{length-accepted, length-refused}
-use Rattle.run.proofs.Reading.{all-read, printed-right, stopped-right}
+use Rattle.promises.specs.Fed.{joined}
+use Rattle.rules.proofs.First.{none-refused}
+use Rattle.promises.proofs.Judged.{after-lines, shows-taken}
+use Rattle.promises.proofs.Printed.{printed}
+use Rattle.promises.proofs.Reading.{all-read, printed-right, stopped-right}
 use Rattle.input.specs.declared.reads.Input.{Input}
 use Rattle.input.specs.declared.reads.Input.the-variants.{Read, Failed, Refused}
 use Rattle.input.specs.Reads.{Came, BrokeOff, inputRefusal, Taken}
@@ -70,15 +71,8 @@ lines-none s e =
     ⊎-elim (λ h. absurd (omega (arith, rw (cut-whole s h) at e))) (λ h. one-line s (rw (none-whole s h, none-rest s h) at e)) (lt-or-ge (toByte 10 s) (length s))
 
 -- which is taken or refused
-none-refused : (ls h : List (List ℕ)) → refusalOn h ls .0 ≡ 0 → length (takenLines h ls) ≡ length h + length ls
-unfolding refusalOn takenLines
-none-refused [] h e = omega arith
-none-refused (l ∷ ls) h e = by-answer (answerAt h l) _ _ (none-refused ls (l ∷ h)) e
-  where
-    by-answer : (n : ℕ) (r : ℕ × ℕ) (ks : List (List ℕ)) → (r .0 ≡ 0 → length ks ≡ suc (length h) + length ls) → (ifZero n r (n, length h + 1)) .0 ≡ 0 →
-        length (ifZero n ks h) ≡ length h + suc (length ls)
-    by-answer zero r ks f z = omega (arith, f z)
-    by-answer (suc n) r ks f z = absurd (omega (arith, z))
+all-taken : (ls : List (List ℕ)) → refusalOn [] ls .0 ≡ 0 → length (takenLines [] ls) ≡ length ls
+all-taken ls e = ap length (none-refused answerAt ls [] e) ∙ length-reverse ls
 
 -- so it shows in the tables: no bytes that came are dropped, an unfinished last line neither
 pub nothing-dropped : {n : ℕ} → Came n freshTables freshTables → n ≡ 0
@@ -89,7 +83,7 @@ nothing-dropped {n} c =
     let both = shows-taken ls in
     let number : refusalOn [] ls .0 ≡ 0 = sym (ap (λ (v : ℕ × ℕ). v .0) (rw (← fresh) at (both .remembers))) in
     let lines : 0 ≡ length (takenLines [] ls) = ap (λ (p : Place). p .lines) (rw (← fresh) at (both .shows .place)) in
-    sym (c .counted) ∙ lines-none (joined (c .reads)) (omega (arith, none-refused ls [] number, lines))
+    sym (c .counted) ∙ lines-none (joined (c .reads)) (omega (arith, all-taken ls number, lines))
 
 -- ---- `text_of_input`
 

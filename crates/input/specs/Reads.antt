@@ -8,8 +8,8 @@ use lib.Dec.{eqb}
 use lib.ListN.{length, take, getD}
 use Rattle.tables.specs.Range.{tableAnswer}
 use Rattle.judge.specs.Feed.{Tables}
-use Rattle.promises.specs.Fed.{joined}
 use Rattle.run.specs.Chunk.{Progress, going, stopped, readOn, atInputEnd}
+use Rattle.promises.specs.Fed.{joined}
 use Rattle.input.specs.declared.reads.Got.{Got}
 use Rattle.input.specs.declared.reads.Got.the-variants.{Bytes, End, Error}
 use Rattle.input.specs.declared.reads.Step.{Step}
@@ -60,7 +60,7 @@ AllReads [] = Unit {0}
 AllReads (r ∷ rs) = ARead 0 r × AllReads rs
 
 -- some reads, of n bytes together, lead from the tables t to u, and reading goes on with the rest carried over
-pub record SoFar (n : ℕ) (t u : Tables) (rest : List ℕ) : Type 0 where
+pub record ReadSoFar (n : ℕ) (t u : Tables) (rest : List ℕ) : Type 0 where
   pub reads : List (List ℕ)
   pub each : AllReads reads
   pub counted : length (joined reads) ≡ n
@@ -77,7 +77,7 @@ pub record Came (n : ℕ) (t u : Tables) : Type 0 where
 pub record BrokeOff (t u : Tables) : Type 0 where
   pub bytes : ℕ
   pub rest : List ℕ
-  pub before : SoFar bytes t u rest
+  pub before : ReadSoFar bytes t u rest
 
 -- ---- the answer
 

@@ -8,10 +8,11 @@ use lib.Dec.{eqb, leb}
 use lib.ListN.{length, take}
 use Rattle.text.specs.Put.{written}
 use Rattle.walk.specs.Lines.{linesOf}
-use Rattle.tables.specs.Range.{isSized}
+use Rattle.rules.specs.Text.{traceText}
+use Rattle.tables.specs.Sized.{isSized}
 use Rattle.judge.specs.Feed.{Tables, tables, freshTables}
+use Rattle.run.specs.Report.{textMost}
 use Rattle.promises.specs.Fed.{joined}
-use Rattle.run.specs.Report.{traceText, textMost}
 use Rattle.input.specs.Reads.{bufferSize, AllReads, Came, BrokeOff, Numbered}
 use Rattle.input.specs.declared.whole.Answer.{Answer}
 use Rattle.input.specs.declared.whole.Answer.the-variants.{Text, Unread, Refused}

@@ -6,24 +6,28 @@ use mathlib.Core.List.{List, [], _∷_, _++_}
 use Prim.Native.Nat.{ℕ, zero, suc, _+_, _-_, _≤_, _<_}
 use native.Mathlib.Omega.{arith}
 use lib.Dec.{eqb}
-use lib.ListN.{length, set, take, drop, replicate, length-set, length-drop, length-replicate}
+use lib.ListN.{length, set, take, drop, replicate, length-set, length-drop}
 use lib.Seq.{take-all}
 use borrow.Author.Tests.{eq-eqb, ne-eqb}
 use Rattle.walk.specs.Lines.{wholeLines, usedUp, restOf, lastLine, linesOf}
 use Rattle.walk.proofs.Chunks.{size, rest-drop}
 use Rattle.walk.proofs.Nexts.{Stepped, Rested}
+use Rattle.fields.specs.Part.{fieldOf}
 use Rattle.line.specs.declared.event.Event.{Event as ReadEvent}
 use Rattle.line.specs.declared.reading.Reading.{Reading}
 use Rattle.line.specs.declared.reading.Reading.the-variants.{Version, Comment, TimeScale, Creator, CreationDate, EventLine, Refused}
-use Rattle.line.specs.Part.{fieldOf}
 use Rattle.line.specs.Reading.{readLine}
+use Rattle.bill.specs.declared.verdict.Verdict.{Verdict}
+use Rattle.bill.specs.Scale.{scaleNumber}
 use Rattle.rules.specs.declared.place.Place.{Place}
-use Rattle.rules.specs.Trace.{scaleNumber, placed}
+use Rattle.rules.specs.PlaceCode.{answerByReading}
 use Rattle.rules.proofs.Tests.{if-some}
-use Rattle.tables.specs.Entry.{namesSize, numsSize, ticksSize, verdictNumber}
-use Rattle.tables.specs.Range.{isSized, tableAnswer}
+use Rattle.tables.specs.Entry.{namesSize, numsSize, ticksSize, scaleIndex, creatorIndex, dateIndex, verdictNumber}
+use Rattle.tables.specs.Sized.{Sized, isSized}
+use Rattle.tables.specs.Range.{tableAnswer}
 use Rattle.tables.specs.Fresh.{Cleared, cleared, clearedOf}
-use Rattle.tables.proofs.Valid.{Sizes, valid, sizes-mean}
+use Rattle.tables.proofs.Valid.{valid, sizes-mean}
+use Rattle.tables.proofs.Zeros.{fresh-valid}
 use Rattle.decide.specs.declared.happening.Happening.{Happening}
 use Rattle.decide.specs.declared.plan.Plan.{Plan}
 use Rattle.decide.specs.declared.plan.Plan.the-variants.{Refuse, Take}
@@ -33,7 +37,6 @@ use Rattle.decide.specs.Decide.{planOf, decided}
 use Rattle.decide.proofs.Decided.{decided-sized}
 use Rattle.store.specs.Store.{stored}
 use Rattle.store.proofs.Stores.{stored-sized, length-takenNames, length-takenNums, length-takenTicks}
-use Rattle.judge.specs.declared.feed.Verdict.{Verdict}
 use Rattle.judge.specs.Feed.{Tables, tables, After, after, placeIn, remembered, counted, carried, eventLined, readLined, placedLine, lined, fedLine, allLined, chunked, fedChunk, verdict, verdictIn, verdictOf, freshTables, AfterTrace, traced, judgedTrace}
 
 -- ---- sizes
@@ -87,9 +90,9 @@ length-entry nums i v = length-counted (set nums i v) ∙ length-set nums i v
 readLined-alike : (r : Reading) (t : Tables) (l : List ℕ) → Alike t (readLined r t l .left)
 readLined-alike Version t l = only-nums t (counted (t .nums)) (length-counted (t .nums))
 readLined-alike Comment t l = only-nums t (counted (t .nums)) (length-counted (t .nums))
-readLined-alike (TimeScale s) t l = only-nums t (counted (set (t .nums) 3 (scaleNumber s))) (length-entry (t .nums) 3 (scaleNumber s))
-readLined-alike Creator t l = only-nums t (counted (set (t .nums) 4 1)) (length-entry (t .nums) 4 1)
-readLined-alike CreationDate t l = only-nums t (counted (set (t .nums) 5 1)) (length-entry (t .nums) 5 1)
+readLined-alike (TimeScale s) t l = only-nums t (counted (set (t .nums) scaleIndex (scaleNumber s))) (length-entry (t .nums) scaleIndex (scaleNumber s))
+readLined-alike Creator t l = only-nums t (counted (set (t .nums) creatorIndex 1)) (length-entry (t .nums) creatorIndex 1)
+readLined-alike CreationDate t l = only-nums t (counted (set (t .nums) dateIndex 1)) (length-entry (t .nums) dateIndex 1)
 readLined-alike (EventLine e count) t l = eventLined-alike t l e count
 readLined-alike (Refused n) t l = same t
 
@@ -105,7 +108,7 @@ either-alike false t x y p q = q
 pub lined-alike : (t : Tables) (l : List ℕ) → Alike t (lined t l .left)
 unfolding lined
 lined-alike t l =
-    let n = placed (placeIn (t .nums)) (readLine l) in
+    let n = answerByReading (placeIn (t .nums)) (readLine l) in
     either-alike (eqb (verdictNumber (t .nums)) 0) t (placedLine n t l) (after (verdictNumber (t .nums)) (t .names) (t .nums) (t .ticks)) (placedLine-alike n t l) (same t)
 
 pub allLined-alike : (t : Tables) (ls : List (List ℕ)) → Alike t (allLined t ls)
@@ -113,18 +116,19 @@ unfolding allLined
 allLined-alike t [] = same t
 allLined-alike t (l ∷ ls) = chain (lined-alike t l) (allLined-alike (lined t l .left) ls)
 
--- the sizes that the format gives
-abbrev pub Sized : Tables → Type 0
-Sized t = (length (t .names) ≡ namesSize) × ((length (t .nums) ≡ numsSize) × (length (t .ticks) ≡ ticksSize))
+pub alike-sized : {t u : Tables} → Alike t u → Sized (t .names) (t .nums) (t .ticks) → Sized (u .names) (u .nums) (u .ticks)
+alike-sized a s = record { names-size = a .names-kept ∙ s .names-size; nums-size = a .nums-kept ∙ s .nums-size; ticks-size = a .ticks-kept ∙ s .ticks-size }
 
-pub alike-sized : {t u : Tables} → Alike t u → Sized t → Sized u
-alike-sized a s = (a .names-kept ∙ s .0, (a .nums-kept ∙ s .1 .0, a .ticks-kept ∙ s .1 .1))
+pub sized-alike : (t u : Tables) → Sized (t .names) (t .nums) (t .ticks) → Sized (u .names) (u .nums) (u .ticks) → Alike t u
+sized-alike t u s z =
+    record {
+      names-kept = z .names-size ∙ sym (s .names-size);
+      nums-kept = z .nums-size ∙ sym (s .nums-size);
+      ticks-kept = z .ticks-size ∙ sym (s .ticks-size);
+    }
 
-pub sized-alike : (t u : Tables) → Sized t → Sized u → Alike t u
-sized-alike t u s z = record { names-kept = z .0 ∙ sym (s .0); nums-kept = z .1 .0 ∙ sym (s .1 .0); ticks-kept = z .1 .1 ∙ sym (s .1 .1) }
-
-pub fresh-sized : {t : Tables} → t ≡ freshTables → Sized t
-fresh-sized e = rw e (length-replicate {A = ℕ} namesSize 0, (length-replicate {A = ℕ} numsSize 0, length-replicate {A = ℕ} ticksSize 0))
+pub fresh-sized : {t : Tables} → t ≡ freshTables → Sized (t .names) (t .nums) (t .ticks)
+fresh-sized e = rw e (fresh-valid .sizes)
 
 -- what a call left is as its contract says
 left-alike : {t : Tables} {x y : After} → x ≡ y → Alike t (y .left) → Alike t (x .left)
@@ -139,21 +143,19 @@ same-tables p q r = rw (p, q, r)
 -- ---- an event line
 
 module _ (t : Tables) where
-  sizes : Sized t → Sizes (t .names) (t .nums) (t .ticks)
-  sizes z = record { names-size = z .0; nums-size = z .1 .0; ticks-size = z .1 .1 }
-
   pub refused-carried : {p : Plan} {r n : ℕ} {m : List ℕ} (h : Happening) (source target : List ℕ) → p ≡ Refuse n → r ≡ n → m ≡ remembered (t .nums) n
       → after r (t .names) m (t .ticks) ≡ carried p t h source target
   refused-carried h source target p r m = rw (p, r, m)
 
-  pub taken-carried : {p : Plan} {s : Sight} {state : ℕ} {u : Tables} (h : Happening) (source target : List ℕ) → Sized t → p ≡ Take s state
+  pub taken-carried : {p : Plan} {s : Sight} {state : ℕ} {u : Tables} (h : Happening) (source target : List ℕ) → Sized (t .names) (t .nums) (t .ticks) → p ≡ Take s state
       → u ≡ stored t s state h source target → after 0 (u .names) (u .nums) (u .ticks) ≡ carried p t h source target
-  taken-carried {s = s} {state} h source target z p q = rw (p, q, stored-sized t s state h source target (sizes z))
+  taken-carried {s = s} {state} h source target z p q = rw (p, q, stored-sized t s state h source target z)
 
-  pub carried-lined : {p : Plan} {h : Happening} {source target : List ℕ} (l : List ℕ) (e : ReadEvent) (count : ℕ) → Sized t → h ≡ happeningOf e count → source ≡ fieldOf l 2 → target ≡ fieldOf l 5
+  pub carried-lined : {p : Plan} {h : Happening} {source target : List ℕ} (l : List ℕ) (e : ReadEvent) (count : ℕ) → Sized (t .names) (t .nums) (t .ticks) → h ≡ happeningOf e count
+      → source ≡ fieldOf l 2 → target ≡ fieldOf l 5
       → p ≡ decided (t .names) (t .nums) (t .ticks) (asEvent h source target) → carried p t h source target ≡ eventLined t l e count
   unfolding eventLined
-  carried-lined {h = h} {source} {target} l e count z ph ps pt pp = rw (pp, decided-sized (asEvent h source target) (sizes z), ph, ps, pt)
+  carried-lined {h = h} {source} {target} l e count z ph ps pt pp = rw (pp, decided-sized (asEvent h source target) z, ph, ps, pt)
 
 -- ---- a line
 
@@ -162,7 +164,7 @@ module _ (t : Tables) (l : List ℕ) where
   unfolding lined
   verdict-again h = rw (ne-eqb (verdictNumber (t .nums)) 0 h)
 
-  pub placed-lined : {p : Place} {r : Reading} {n : ℕ} → verdictNumber (t .nums) ≡ 0 → p ≡ placeIn (t .nums) → r ≡ readLine l → n ≡ placed p r → placedLine n t l ≡ lined t l
+  pub placed-lined : {p : Place} {r : Reading} {n : ℕ} → verdictNumber (t .nums) ≡ 0 → p ≡ placeIn (t .nums) → r ≡ readLine l → n ≡ answerByReading p r → placedLine n t l ≡ lined t l
   unfolding lined
   placed-lined h pp pr pn = rw (eq-eqb (verdictNumber (t .nums)) 0 h, pn, pp, pr)
 
@@ -180,10 +182,8 @@ module _ (t : Tables) where
   abbrev answer : ℕ
   answer = tableAnswer (t .names) (t .nums) (t .ticks)
 
-  pub sized : {r : ℕ} → r ≡ answer → r ≡ 0 → Sized t
-  sized e z =
-      let v = valid (t .names) (t .nums) (t .ticks) (sym e ∙ z) .sizes in
-      (v .names-size, (v .nums-size, v .ticks-size))
+  pub sized : {r : ℕ} → r ≡ answer → r ≡ 0 → Sized (t .names) (t .nums) (t .ticks)
+  sized e z = valid (t .names) (t .nums) (t .ticks) (sym e ∙ z) .sizes
 
   pub refused-fed : {r : ℕ} (l : List ℕ) → r ≡ answer → (r ≡ 0 → ⊥) → after r (t .names) (t .nums) (t .ticks) ≡ fedLine t l
   unfolding fedLine
@@ -302,10 +302,8 @@ module _ (t : Tables) where
     unfolding clearedOf
     fresh-start e z = fresh-by fits e z
 
-  pub fits-sized : fits ≡ true → Sized t
-  fits-sized f =
-      let z = sizes-mean (t .names) (t .nums) (t .ticks) .holds f in
-      (z .names-size, (z .nums-size, z .ticks-size))
+  pub fits-sized : fits ≡ true → Sized (t .names) (t .nums) (t .ticks)
+  fits-sized f = sizes-mean (t .names) (t .nums) (t .ticks) .holds f
 
   pub judged-trace : {u : Tables} {v : Verdict} (s : List ℕ) → fits ≡ true → u ≡ allLined freshTables (linesOf s) → v ≡ verdictIn (u .nums) (u .ticks)
       → traced v (u .names) (u .nums) (u .ticks) ≡ judgedTrace t s

@@ -5,17 +5,20 @@ use Prim.Native.Nat.{ℕ, _+_, _-_, _%_, _^_}
 use lib.Dec.{eqb}
 use lib.ListN.{length, set, replicate}
 use Rattle.walk.specs.Lines.{wholeLines, usedUp, linesOf}
+use Rattle.fields.specs.Part.{fieldOf}
 use Rattle.line.specs.declared.event.Event.{Event as ReadEvent}
 use Rattle.line.specs.declared.reading.Reading.{Reading}
 use Rattle.line.specs.declared.reading.Reading.the-variants.{Version, Comment, TimeScale, Creator, CreationDate, EventLine, Refused}
-use Rattle.line.specs.Part.{fieldOf}
 use Rattle.line.specs.Reading.{readLine}
+use Rattle.bill.specs.declared.verdict.Verdict.{Verdict}
+use Rattle.bill.specs.Scale.{scaleNumber}
 use Rattle.rules.specs.declared.place.Place.{Place}
 use Rattle.rules.specs.Lists.{ifZero}
-use Rattle.rules.specs.Trace.{scaleNumber, placed}
+use Rattle.rules.specs.PlaceCode.{answerByReading}
 pub use Rattle.tables.specs.Entry.{Tables, tables}
 use Rattle.tables.specs.Entry.{verdictIndex, verdictLineIndex, linesIndex, scaleIndex, creatorIndex, dateIndex, namesSize, numsSize, ticksSize, verdictNumber, verdictLine, lineCount, scaleEntry, creatorEntry, dateEntry, startedEntry, firstTime, lastTime}
-use Rattle.tables.specs.Range.{isSized, tableAnswer}
+use Rattle.tables.specs.Sized.{isSized}
+use Rattle.tables.specs.Range.{tableAnswer}
 use Rattle.decide.specs.declared.happening.Happening.{Happening}
 use Rattle.decide.specs.declared.plan.Plan.{Plan}
 use Rattle.decide.specs.declared.plan.Plan.the-variants.{Refuse, Take}
@@ -23,7 +26,6 @@ use Rattle.decide.specs.Happening.{happeningOf, asEvent}
 use Rattle.decide.specs.Decide.{planOf}
 use Rattle.store.specs.Store.{takenNames, takenNums, takenTicks}
 use Rattle.judge.specs.declared.feed.Fed.{Fed}
-use Rattle.judge.specs.declared.feed.Verdict.{Verdict}
 
 -- an answer with the three tables afterwards
 pub record After : Type 0 where
@@ -82,7 +84,7 @@ placedLine n t l = ifZero n (readLined (readLine l) t l) (after n (t .names) (re
 -- "Further lines get that verdict again."
 unfoldable pub lined : Tables → List ℕ → After
 lined t l =
-    cond (eqb (verdictNumber (t .nums)) 0) (placedLine (placed (placeIn (t .nums)) (readLine l)) t l)
+    cond (eqb (verdictNumber (t .nums)) 0) (placedLine (answerByReading (placeIn (t .nums)) (readLine l)) t l)
     (after (verdictNumber (t .nums)) (t .names) (t .nums) (t .ticks))
 
 -- "the judge tests 15 and 16 before all others"; "15 and 16 write nothing and are not remembered"

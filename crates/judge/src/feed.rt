@@ -3,16 +3,22 @@ ghost use mathlib.Core.Path.{_≡_};
 ghost use Prim.Native.Nat.{_-_, _<_};
 ghost use lib.ListN.{length, set};
 ghost use Rattle.walk.specs.Lines.{wholeLines, usedUp};
-ghost use Rattle.tables.specs.Entry.{firstTime, lastTime, namesSize, numsSize, ticksSize};
+ghost use Rattle.fields.specs.Part.{commasOf};
+ghost use Rattle.tables.specs.Entry.{firstTime, lastTime, numsSize, ticksSize};
+ghost use Rattle.tables.specs.Sized.{Sized};
 ghost use Rattle.judge.specs.Feed.{tables, after, placeIn, remembered, counted, eventLined, readLined, lined, fedLine, allLined, chunked, fedChunk, verdictIn, verdictOf, traced, judgedTrace};
+use bill::scale::scale_number;
+use bill::verdict::Verdict;
 use decide::happening::to_rules;
 use decide::plan::Plan;
 use decide::plan::decide;
+use fields::between;
+use fields::part::Commas;
 use line::event::Event;
+use line::read_split;
 use line::reading::Reading;
 use rules::place::Place;
 use rules::place::answer_in_place;
-use rules::place::scale_number;
 use std::num::wrapping_add_u32;
 use store::take::take;
 use tables::clear;
@@ -25,14 +31,6 @@ use walk::reader::line_from;
 pub struct Fed {
     pub answer: u32,
     pub used: usize,
-}
-
-// The verdict, with the time scale's number and the span.
-pub struct Verdict {
-    pub number: u32,
-    pub line: u32,
-    pub scale: u32,
-    pub span: u64,
 }
 
 // What the lines taken say of the next line's place.
@@ -78,21 +76,22 @@ fn count_entry(nums: &mut [u32], at: usize, value: u32) -> u32
     count_line(nums)
 }
 
-// An event line: decided from the tables as they are, then stored or remembered as refused.
+// An event line with its commas: decided from the tables as they are, then stored or remembered as refused.
 fn event_in(
     names: &mut [u8],
     nums: &mut [u32],
     ticks: &mut [u64],
     l: &[u8],
+    c: Commas,
     e: Event,
     count: u32,
 ) -> u32
-    requires { ⌜ (length (now names) ≡ namesSize) × ((length (now nums) ≡ numsSize) × (length (now ticks) ≡ ticksSize)) ⌝ }
+    requires { ⌜ Sized (now names) (now nums) (now ticks) × (c ≡ commasOf (now l)) ⌝ }
     ensures { λ r. ⌜ after r (now (names .exit)) (now (nums .exit)) (now (ticks .exit)) ≡ eventLined (tables (now (names .entry)) (now (nums .entry)) (now (ticks .entry))) (now (l .entry)) e count ⌝ }
 {
     let h = to_rules(e, count);
-    let source = line::field(l, 2);
-    let target = line::field(l, 5);
+    let source = between(l, c.c1, c.c2);
+    let target = between(l, c.c4, c.c5);
     let p = decide(names, nums, ticks, h, source, target);
     match p {
         Plan::Refuse(n) => remember(nums, n),
@@ -103,9 +102,16 @@ fn event_in(
     }
 }
 
-// A line that none of 1 to 7 refuses.
-fn read_in(names: &mut [u8], nums: &mut [u32], ticks: &mut [u64], l: &[u8], r: Reading) -> u32
-    requires { ⌜ (length (now names) ≡ namesSize) × ((length (now nums) ≡ numsSize) × (length (now ticks) ≡ ticksSize)) ⌝ }
+// A line that none of 1 to 7 refuses, with its commas.
+fn read_in(
+    names: &mut [u8],
+    nums: &mut [u32],
+    ticks: &mut [u64],
+    l: &[u8],
+    c: Commas,
+    r: Reading,
+) -> u32
+    requires { ⌜ Sized (now names) (now nums) (now ticks) × (c ≡ commasOf (now l)) ⌝ }
     ensures { λ n. ⌜ after n (now (names .exit)) (now (nums .exit)) (now (ticks .exit)) ≡ readLined r (tables (now (names .entry)) (now (nums .entry)) (now (ticks .entry))) (now (l .entry)) ⌝ }
 {
     match r {
@@ -114,26 +120,28 @@ fn read_in(names: &mut [u8], nums: &mut [u32], ticks: &mut [u64], l: &[u8], r: R
         Reading::TimeScale(scale) => count_entry(nums, SCALE, scale_number(scale)),
         Reading::Creator => count_entry(nums, CREATOR, 1),
         Reading::CreationDate => count_entry(nums, DATE, 1),
-        Reading::EventLine(e, count) => event_in(names, nums, ticks, l, e, count),
+        Reading::EventLine(e, count) => event_in(names, nums, ticks, l, c, e, count),
         Reading::Refused(_) => 0,
     }
 }
 
 // A line against tables of the right sizes.
 fn line_in(names: &mut [u8], nums: &mut [u32], ticks: &mut [u64], l: &[u8]) -> u32
-    requires { ⌜ (length (now names) ≡ namesSize) × ((length (now nums) ≡ numsSize) × (length (now ticks) ≡ ticksSize)) ⌝ }
+    requires { ⌜ Sized (now names) (now nums) (now ticks) ⌝ }
     ensures { λ r. ⌜ after r (now (names .exit)) (now (nums .exit)) (now (ticks .exit)) ≡ lined (tables (now (names .entry)) (now (nums .entry)) (now (ticks .entry))) (now (l .entry)) ⌝ }
 {
     let v = nums[VERDICT];
     if v != 0 {
         return v;
     }
-    let r = line::read(l);
+    let s = read_split(l);
+    let c = s.commas;
+    let r = s.reading;
     let n = answer_in_place(place_in(nums), r);
     if n != 0 {
         return remember(nums, n);
     }
-    read_in(names, nums, ticks, l, r)
+    read_in(names, nums, ticks, l, c, r)
 }
 
 // One line without its end.
@@ -149,7 +157,7 @@ pub fn feed(names: &mut [u8], nums: &mut [u32], ticks: &mut [u64], l: &[u8]) -> 
 
 // Every whole line of a chunk in turn, and how many bytes they took.
 fn lines_in(names: &mut [u8], nums: &mut [u32], ticks: &mut [u64], chunk: &[u8]) -> usize
-    requires { ⌜ (length (now names) ≡ namesSize) × ((length (now nums) ≡ numsSize) × (length (now ticks) ≡ ticksSize)) ⌝ }
+    requires { ⌜ Sized (now names) (now nums) (now ticks) ⌝ }
     ensures { λ r. ⌜ (r ≡ usedUp (now (chunk .entry))) × (tables (now (names .exit)) (now (nums .exit)) (now (ticks .exit)) ≡ allLined (tables (now (names .entry)) (now (nums .entry)) (now (ticks .entry))) (wholeLines (now (chunk .entry)))) ⌝ }
 {
     let mut at = 0;

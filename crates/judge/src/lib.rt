@@ -1,3 +1,3 @@
-// The judge over lent tables: one line decided from the tables as they are, and then stored.
+// The judge over lent tables. In come the tables and a line, a chunk or a whole trace; out go the number or the verdict, and the tables after it.
 pub mod feed;
 pub mod fresh;

@@ -21,12 +21,12 @@ use Rattle.words.specs.declared.pair.Pair.the-variants.{Known, Unknown}
 use Rattle.words.specs.declared.scale.ScaleFound.{ScaleFound}
 use Rattle.words.specs.declared.scale.ScaleFound.the-variants.{ThisScale, NoScale}
 use Rattle.words.specs.Pair.{namedBy}
+use Rattle.fields.specs.Part.{partsOf, fieldOf}
 use Rattle.line.specs.declared.note.Note.{Note}
 use Rattle.line.specs.declared.note.Note.the-variants.{Means, Wrong}
 use Rattle.line.specs.declared.event.Event.{Event}
 use Rattle.line.specs.declared.reading.Reading.{Reading}
 use Rattle.line.specs.declared.reading.Reading.the-variants.{Version, Comment, Creator, CreationDate, Refused}
-use Rattle.line.specs.Part.{partsOf, fieldOf}
 use Rattle.line.specs.Note.{maxInstance, noteOf, isWrong}
 use Rattle.line.specs.Rule.{ruleBroken}
 use Rattle.line.specs.Parameter.{isVersion, isVersionLine, isComment, timeScale, isCreator, isCreationDate, scaleOr, otherReading, parameterReading}

@@ -5,12 +5,12 @@ use Prim.Native.Nat.{ℕ, suc, _≤_, _<_}
 use native.Mathlib.Omega.{arith}
 use lib.Dec.{ltb}
 use lib.ListN.{length, take}
-use Rattle.line.specs.declared.part.Commas.{Commas}
+use Rattle.fields.specs.declared.part.Commas.{Commas}
+use Rattle.fields.specs.Part.{partFrom, commaAt, commasOf}
+use Rattle.fields.proofs.Parts.{field-first, field-place, parts-fit, parts-few, parts-many, parts-eight}
 use Rattle.line.specs.declared.reading.Reading.the-variants.{Refused}
-use Rattle.line.specs.Part.{partFrom, commaAt, commasOf}
 use Rattle.line.specs.Event.{fieldsReading, eventReading}
 use Rattle.text.proofs.Finds.{find-le}
-use Rattle.line.proofs.Parts.{field-first, field-place, parts-fit, parts-few, parts-many, parts-eight}
 
 module _ (l : List ℕ) (c : Commas) (e : c ≡ commasOf l) where
   -- the first field ends in the line

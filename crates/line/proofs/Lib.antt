@@ -1,5 +1,4 @@
 -- The laws of a line, which the proofs of this crate and of the crates above it cite.
-pub mod Parts
 pub mod Dates
 pub mod Notes
 pub mod Lines

@@ -19,7 +19,7 @@ use Rattle.line.specs.declared.writing.Written.the-variants.{Done, NotWr
 use Rattle.line.specs.Note.{noteOf, isWrong}
 use Rattle.line.specs.Rule.{ruleBroken}
 use Rattle.line.specs.Answer.{test, lowest}
-use Rattle.line.specs.Writing.{textOf, hasSizes, hasInstances, recordRefusal, Wrote, wrote, writeText, writeLine, writtenAnswer}
+use Rattle.line.specs.Writing.{textOf, hasSizes, hasInstances, recordRefusal, Wrote, wrote, writeText, writeLine, writtenAnswer, writerNumbers}
 
 -- ---- what holds of each way in which a text is written or not holds of writing it
 
@@ -78,10 +78,10 @@ module _ (e : Event) (source target note out : List ℕ) where
       let text = textOf e source target note in
       text-case text out (λ w. length (w .output) ≡ length out) (λ room. length-written out 0 text) (recordRefusal e source target note) (λ k. refl)
 
--- ---- "The writer gives 0, 5, 6, 7 or 15"
+-- ---- the numbers that the writer gives
 
 abbrev pub isGiven : ℕ → Bool
-isGiven n = any (eqb n) (0 ∷ 5 ∷ 6 ∷ 7 ∷ 15 ∷ [])
+isGiven n = any (eqb n) writerNumbers
 
 tests-given : (five six seven : Bool) (text out : List ℕ) → isGiven (writtenAnswer (writeText (lowest (test 5 five ∷ test 6 six ∷ test 7 seven ∷ [])) text out .answer)) ≡ true
 unfolding writtenAnswer

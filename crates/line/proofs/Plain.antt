@@ -16,11 +16,11 @@ use borrow.Author.Tests.{lt-ltb, le-ltb, le-leb, lt-leb, leb-true, ne-eqb}
 use Rattle.text.specs.Name.{isNameByte, allNameBytes}
 use Rattle.text.proofs.Bools.{and-l, and-r, lt-or-ge}
 use Rattle.text.proofs.Pieces.{without}
-use Rattle.line.specs.declared.part.Commas.{Commas}
-use Rattle.line.specs.Part.{fieldOf, partFrom, allPlain, commaAt, commasOf}
-use Rattle.line.specs.Event.{PlainFields}
+use Rattle.fields.specs.declared.part.Commas.{Commas}
+use Rattle.fields.specs.Part.{fieldOf, partFrom, commaAt, commasOf}
+use Rattle.fields.proofs.Parts.{noComma, field-clean, field-place}
+use Rattle.line.specs.Event.{allPlain, PlainFields}
 use Rattle.line.specs.Reading.{hasBreak}
-use Rattle.line.proofs.Parts.{noComma, field-clean, field-place}
 
 -- ---- a turn of `all_plain`, and its end
 

@@ -22,6 +22,8 @@ use Rattle.words.specs.Kind.{kindWord}
 use Rattle.words.specs.Action.{wordOf, isOf}
 use Rattle.words.specs.Pair.{namedBy}
 use Rattle.words.proofs.Found.{pair-words}
+use Rattle.fields.specs.Part.{partsOf, fieldOf}
+use Rattle.fields.proofs.Parts.{field-missing}
 use Rattle.line.specs.declared.note.Note.{Note}
 use Rattle.line.specs.declared.note.Note.the-variants.{Means, Wrong}
 use Rattle.line.specs.declared.event.Event.{Event}
@@ -29,14 +31,12 @@ use Rattle.line.specs.declared.event.Numbers.{Numbers}
 use Rattle.line.specs.declared.event.Numbers.the-variants.{Are, Wrong as NoNumbers}
 use Rattle.line.specs.declared.reading.Reading.{Reading}
 use Rattle.line.specs.declared.reading.Reading.the-variants.{Version, Comment, TimeScale, Creator, CreationDate, EventLine, Refused}
-use Rattle.line.specs.Part.{partsOf, fieldOf}
 use Rattle.line.specs.Note.{maxInstance, noteOf}
 use Rattle.line.specs.Rule.{ruleBroken}
 use Rattle.line.specs.Parameter.{isVersion, isVersionLine, isComment, timeScale, isCreator, isCreationDate, scaleOr, otherReading, parameterReading}
 use Rattle.line.specs.Event.{maxTime, numbersAs, numbersOf, hasNames, ruled, knownReading, numbersReading, fieldsReading, eventReading}
 use Rattle.line.specs.Reading.{hasBreak, isEventLine, readLine}
 use Rattle.line.specs.Writing.{isEmpty}
-use Rattle.line.proofs.Parts.{field-missing}
 
 -- what document 01 asks of a record, an event with its source, target and note, and the count that the note means
 pub record Allowed (e : Event) (source target note : List ℕ) (count : ℕ) : Type 0 where

@@ -16,11 +16,11 @@ use Rattle.text.proofs.Names.{name-byte, name-length, name-bytes, digits-names}
 use Rattle.words.specs.Kind.{kindWord}
 use Rattle.words.specs.Action.{wordOf}
 use Rattle.words.proofs.Found.{kind-name, word-name}
+use Rattle.fields.specs.Part.{partsOf}
+use Rattle.fields.proofs.Parts.{parts-join, parts-last, joined, name-clean}
 use Rattle.line.specs.declared.event.Event.{Event}
-use Rattle.line.specs.Part.{partsOf}
 use Rattle.line.specs.Reading.{hasBreak, isEventLine}
 use Rattle.line.specs.Writing.{nameField, numberField, noteText, textOf, isEmpty}
-use Rattle.line.proofs.Parts.{parts-join, parts-last, joined, name-clean}
 use Rattle.line.proofs.Said.{Allowed}
 
 -- ---- the parts of a record

@@ -13,14 +13,13 @@ use Rattle.words.specs.declared.pair.Pair.the-variants.{Known, Unknown}
 use Rattle.words.specs.declared.scale.ScaleFound.{ScaleFound}
 use Rattle.words.specs.declared.scale.ScaleFound.the-variants.{ThisScale, NoScale}
 use Rattle.words.specs.Pair.{namedBy}
-use Rattle.line.specs.Part.{partsOf, fieldOf}
+use Rattle.fields.specs.Part.{partsOf, fieldOf}
 use Rattle.line.specs.Note.{maxInstance, noteOf, isWrong}
 use Rattle.line.specs.Rule.{ruleBroken}
 use Rattle.line.specs.Parameter.{isVersion, isVersionLine, isComment, timeScale, isCreator, isCreationDate}
 use Rattle.line.specs.Event.{maxTime}
 use Rattle.line.specs.Reading.{hasBreak, isEventLine}
-use Rattle.line.specs.Answer.{Test, test}
-use Rattle.words.specs.Named.{any}
+use Rattle.line.specs.Answer.{Test, test, holds}
 
 -- 1: "line too long, byte 10 or 13 inside"
 unfoldable pub refuses1 : List ℕ → Bool
@@ -98,4 +97,4 @@ readerTests l =
 
 -- whether the condition of number n holds
 unfoldable pub conditionOf : ℕ → List ℕ → Bool
-conditionOf n l = any (λ t. eqb (t .number) n && t .applies) (readerTests l)
+conditionOf n l = holds n (readerTests l)

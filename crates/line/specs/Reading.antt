@@ -4,8 +4,10 @@ use mathlib.Core.Bool.{Bool, true, false, not, _||_, cond}
 use mathlib.Core.List.{List, [], _∷_}
 use lib.Dec.{eqb, ltb}
 use lib.ListN.{length}
+use Rattle.fields.specs.Part.{commasOf}
 use Rattle.line.specs.declared.reading.Reading.{Reading}
 use Rattle.line.specs.declared.reading.Reading.the-variants.{Version, Comment, TimeScale, Creator, CreationDate, EventLine, Refused}
+use Rattle.line.specs.declared.reading.Split.{Split}
 use Rattle.line.specs.Event.{eventReading}
 use Rattle.line.specs.Parameter.{parameterReading}
 
@@ -21,6 +23,10 @@ isEventLine (x ∷ l) = not (eqb x 35)
 
 unfoldable pub readLine : List ℕ → Reading
 readLine l = cond (ltb 1023 (length l) || hasBreak l) (Refused 1) (cond (isEventLine l) (eventReading l) (parameterReading l))
+
+-- what a line is, and the places of its commas, whatever it is
+abbrev pub splitLine : List ℕ → Split
+splitLine l = record { reading = readLine l; commas = commasOf l }
 
 -- the number of document 01's table that a reading is
 unfoldable pub answerOf : Reading → ℕ

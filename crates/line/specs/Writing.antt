@@ -78,3 +78,7 @@ writeLine e source target note out = writeText (recordRefusal e source target no
 unfoldable pub writtenAnswer : Written → ℕ
 writtenAnswer (Done n) = 0
 writtenAnswer (NotWritten n) = n
+
+-- "The writer gives 0, 5, 6, 7 or 15"
+abbrev pub writerNumbers : List ℕ
+writerNumbers = 0 ∷ 5 ∷ 6 ∷ 7 ∷ 15 ∷ []

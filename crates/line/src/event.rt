@@ -2,14 +2,14 @@
 ghost use mathlib.Core.Path.{_≡_};
 ghost use mathlib.Core.Bool.{Bool, true};
 ghost use Rattle.text.specs.Name.{allNameBytes, isName};
-ghost use Rattle.line.specs.Part.{allPlain};
-ghost use Rattle.line.specs.Event.{PlainFields, numbersOf, hasNames, fieldsReading, knownReading, eventReading};
+ghost use Rattle.fields.specs.Part.{commasOf};
+ghost use Rattle.line.specs.Event.{allPlain, PlainFields, numbersOf, hasNames, fieldsReading, knownReading, eventReading};
 use crate::note::Note;
 use crate::note::note_of;
-use crate::part::between;
-use crate::part::split;
 use crate::reading::Reading;
 use crate::rule::rule_broken;
+use fields::between;
+use fields::part::Commas;
 use text::name::name;
 use text::number::Number;
 use text::number::read_number;
@@ -134,12 +134,11 @@ fn read_fields(
     read_known(kind, action, time, source, from, target, to, note)
 }
 
-// What an event line says, which may be known to be plain. It is split at its commas once.
-pub(crate) fn read_event(line: &[u8], plain: bool) -> Reading
-    requires { ⌜ (plain ≡ true → allPlain (now line) ≡ true) ⌝ }
+// What an event line says that has these commas and may be known to be plain.
+pub(crate) fn read_event(line: &[u8], c: Commas, plain: bool) -> Reading
+    requires { ⌜ (c ≡ commasOf (now line)) × (plain ≡ true → allPlain (now line) ≡ true) ⌝ }
     ensures { λ r. ⌜ r ≡ eventReading (now (line .entry)) ⌝ }
 {
-    let c = split(line);
     let n = line.len();
     let c1 = c.c1;
     let c2 = c.c2;

@@ -3,11 +3,11 @@ pub mod date;
 pub mod event;
 pub mod note;
 pub mod parameter;
-pub mod part;
 pub mod reading;
 pub mod rule;
 pub mod writing;
 
-pub use part::field;
+pub use fields::field;
 pub use reading::read;
+pub use reading::read_split;
 pub use writing::write;

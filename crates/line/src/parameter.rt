@@ -1,6 +1,6 @@
 // Lines that start with `#`: the version, comments and parameters.
 ghost use mathlib.Core.Path.{_≡_};
-ghost use Rattle.line.specs.Parameter.{isVersion, isVersionLine, isComment, timeScale, isCreator, isCreationDate, parameterReading, otherReading};
+ghost use Rattle.line.specs.Parameter.{isVersionLine, timeScale, isCreator, isCreationDate, parameterReading, otherReading};
 use crate::date::moment;
 use crate::reading::Reading;
 use text::bytes::same;

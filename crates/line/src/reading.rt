@@ -1,11 +1,14 @@
 // Reading one line.
 ghost use mathlib.Core.Path.{_≡_};
 ghost use mathlib.Core.Bool.{true};
-ghost use Rattle.line.specs.Part.{allPlain};
-ghost use Rattle.line.specs.Reading.{readLine, hasBreak, isEventLine};
+ghost use Rattle.fields.specs.Part.{commasOf};
+ghost use Rattle.line.specs.Event.{allPlain};
+ghost use Rattle.line.specs.Reading.{readLine, splitLine, hasBreak, isEventLine};
 use crate::event::Event;
 use crate::event::read_event;
 use crate::parameter::read_parameter;
+use fields::part::Commas;
+use fields::split;
 use words::scale::Scale;
 
 // What a line is. An event line's count is what the note of a semaphore's line means, and 0 on any other.
@@ -17,6 +20,12 @@ pub enum Reading {
     CreationDate,
     EventLine(Event, u32),
     Refused(u8),
+}
+
+// What a line is, and where its commas stand: so whoever asks for its parts need not look for them again.
+pub struct Split {
+    pub reading: Reading,
+    pub commas: Commas,
 }
 
 // Whether a byte 10 or 13 stands in the line.
@@ -71,8 +80,9 @@ fn event_line(line: &[u8]) -> bool
     line[0] != b'#'
 }
 
-// What a line is, from its bytes alone; it comes without its end.
-pub fn read(line: &[u8]) -> Reading
+// What a line is that has these commas.
+fn read_at(line: &[u8], c: Commas) -> Reading
+    requires { ⌜ c ≡ commasOf (now line) ⌝ }
     ensures { λ r. ⌜ r ≡ readLine (now (line .entry)) ⌝ }
 {
     if 1023 < line.len() {
@@ -83,7 +93,24 @@ pub fn read(line: &[u8]) -> Reading
         return Reading::Refused(1);
     }
     if event_line(line) {
-        return read_event(line, plain);
+        return read_event(line, c, plain);
     }
     read_parameter(line)
+}
+
+// What a line is, and where its commas stand. It is split once, here.
+pub fn read_split(line: &[u8]) -> Split
+    ensures { λ r. ⌜ r ≡ splitLine (now (line .entry)) ⌝ }
+{
+    let commas = split(line);
+    let reading = read_at(line, commas);
+    Split { reading, commas }
+}
+
+// What a line is, from its bytes alone; it comes without its end.
+pub fn read(line: &[u8]) -> Reading
+    ensures { λ r. ⌜ r ≡ readLine (now (line .entry)) ⌝ }
+{
+    let s = read_split(line);
+    s.reading
 }

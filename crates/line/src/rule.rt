@@ -3,10 +3,10 @@ ghost use mathlib.Core.Path.{_≡_};
 ghost use Rattle.line.specs.Rule.{isProcess, zeroSource, zeroTarget, isOwn, sourceBroken, targetBroken, ownBroken, noteBroken, ruleBroken};
 use text::bytes::same;
 use words::action::Action;
-use words::class::class_of;
+use words::class::*;
 use words::kind::Kind;
 
-// Whether a type is T or I.
+// Whether a type is T or I. A line is read before its type has a number in the rules, so that the type itself is asked.
 fn process(kind: Kind) -> bool
     ensures { λ r. ⌜ r ≡ isProcess kind ⌝ }
 {
@@ -27,19 +27,8 @@ fn zero_source(kind: Kind, action: Action) -> bool
     ensures { λ r. ⌜ r ≡ zeroSource kind action ⌝ }
 {
     let class = class_of(action);
-    if class == 5 {
-        return true;
-    }
-    if class == 7 {
-        return true;
-    }
-    if class < 2 {
-        return false;
-    }
-    if 3 < class {
-        return false;
-    }
-    process(kind)
+    (process(kind) & ((READYING <= class) & (class <= BEGINNING)))
+        | ((class == INTERRUPT_SUSPENSION) | (class == SCHEDULING))
 }
 
 // Whether the target instance has to be 0.
@@ -63,10 +52,7 @@ fn own(action: Action) -> bool
     ensures { λ r. ⌜ r ≡ isOwn action ⌝ }
 {
     let class = class_of(action);
-    if class == 7 {
-        return true;
-    }
-    class == 13
+    (class == SCHEDULING) | (class == SEMAPHORE_STATE)
 }
 
 // Whether the source instance is not 0 where it has to be.
@@ -103,7 +89,7 @@ fn own_broken(action: Action, source: &[u8], from: u32, target: &[u8], to: u32) 
 fn note_broken(kind: Kind, action: Action, n: usize) -> bool
     ensures { λ r. ⌜ r ≡ noteBroken kind action n ⌝ }
 {
-    if class_of(action) == 10 {
+    if class_of(action) == EVENT_SETTING {
         return n == 0;
     }
     match kind {

@@ -9,6 +9,7 @@ use native.Mathlib.Omega.{arith}
 use lib.Dec.{eqb}
 use lib.ListN.{length}
 use Rattle.text.specs.Bytes.{sameBytes}
+use Rattle.line.specs.Answer.{test, lowest}
 use Rattle.rules.specs.Words.{core}
 use Rattle.rules.specs.Event.{Event}
 use Rattle.rules.specs.Core.{onCore}
@@ -27,10 +28,7 @@ use Rattle.rules.specs.Refusals.{
   notNext,
   coreBroken,
   countBroken,
-  Rule,
-  rule,
-  rules,
-  firstBroken,
+  eventTests,
   answerTo,
 }
 use Rattle.rules.specs.Rows.{opened}
@@ -53,8 +51,8 @@ time-told [] nums ticks p q = rw p
 time-told (e ∷ h) nums ticks p q = rw (p, q)
 
 -- the rules after 9
-abbrev rest : List Rule
-rest = rule 10 noRoom ∷ rule 11 offChart ∷ rule 12 notNext ∷ rule 13 coreBroken ∷ rule 14 countBroken ∷ []
+abbrev rest : Known → Event → ℕ
+rest k e = lowest (test 10 (noRoom k e) ∷ test 11 (offChart k e) ∷ test 12 (notNext k e) ∷ test 13 (coreBroken k e) ∷ test 14 (countBroken k e) ∷ [])
 
 module _ (h : List Event) (a : Accepted h) (met : AllMet h) (t : Tables) (s : Shown h t) (e : Event) where
   -- what the tables have for the event, by the rows that were looked up
@@ -69,57 +67,57 @@ module _ (h : List Event) (a : Accepted h) (met : AllMet h) (t : Tables) (s : Sh
 
   -- ---- 9: the source is looked up where the event is on a core, and only there is it asked for
 
-  source-agrees : (v : Sight) → v .source ≡ sightIn h e .source → sourceClash (known v) e ≡ sourceClash (look h e) e
+  source-agrees : (v : Sight) → v .source ≡ sightIn h t e .source → sourceClash (known v) e ≡ sourceClash (look h e) e
   unfolding sourceClash knownBy
   source-agrees v q = by-test (onCore e) refl
     where
       by-test : (b : Bool) → onCore e ≡ b →
           b && (differs (opened (kindIn (t .nums) (v .source))) core || sameBytes (e .source) (e .target)) ≡ b && (differs (kindOf (e .source) h) core || sameBytes (e .source) (e .target))
-      by-test true o = rw (q, source-asked h e o, kind-told h a t s (e .source))
+      by-test true o = rw (q, source-asked h t e o, kind-told h a t s (e .source))
       by-test false o = refl
 
-  target-agrees : (v : Sight) → v .target ≡ sightIn h e .target → targetClash (known v) e ≡ targetClash (look h e) e
+  target-agrees : (v : Sight) → v .target ≡ sightIn h t e .target → targetClash (known v) e ≡ targetClash (look h e) e
   unfolding targetClash knownBy
   target-agrees v q = by-test (isTracked (e .kind)) refl
     where
       by-test : (b : Bool) → isTracked (e .kind) ≡ b → b && differs (opened (kindIn (t .nums) (v .target))) (e .kind) ≡ b && differs (kindOf (e .target) h) (e .kind)
-      by-test true k = rw (q, target-asked h e k, kind-told h a t s (e .target))
+      by-test true k = rw (q, target-asked h t e k, kind-told h a t s (e .target))
       by-test false k = refl
 
   module _ (f : secondKind (look h e) e ≡ false) where
     -- ---- 10
 
-    room-agrees : noRoom (known (sightIn h e)) e ≡ noRoom (look h e) e
+    room-agrees : noRoom (known (sightIn h t e)) e ≡ noRoom (look h e) e
     unfolding noRoom knownBy
     room-agrees = rw (names-more, cores-more, instances-more)
       where
         counted : HeadShown h (t .nums) (t .ticks)
         counted = s .head
 
-        names-more : nameCount (t .nums) + newCore (sightIn h e) + newName (sightIn h e) (e .kind) ≡ length (names (e ∷ h))
-        names-more = omega (arith, counted .names-counted, new-core h e, new-name h e, names-length h e f)
+        names-more : nameCount (t .nums) + newCore (sightIn h t e) + newName (sightIn h t e) (e .kind) ≡ length (names (e ∷ h))
+        names-more = omega (arith, counted .names-counted, new-core h t e, new-name h t e, names-length h e f)
 
-        cores-more : coreCount (t .nums) + newCore (sightIn h e) ≡ length (cores (e ∷ h))
-        cores-more = omega (arith, counted .cores-counted, new-core h e, cores-length h e f)
+        cores-more : coreCount (t .nums) + newCore (sightIn h t e) ≡ length (cores (e ∷ h))
+        cores-more = omega (arith, counted .cores-counted, new-core h t e, cores-length h e f)
 
-        instances-more : instanceCount (t .nums) + newInstance (sightIn h e) (e .kind) ≡ length (instances (e ∷ h))
-        instances-more = omega (arith, counted .instances-counted, new-instance h e, instances-length h e)
+        instances-more : instanceCount (t .nums) + newInstance (sightIn h t e) (e .kind) ≡ length (instances (e ∷ h))
+        instances-more = omega (arith, counted .instances-counted, new-instance h a met t s e f, instances-length h e)
 
-    rest-agrees : (v : Sight) → v ≡ sightIn h e → firstBroken rest (known v) e ≡ firstBroken rest (look h e) e
+    rest-agrees : (v : Sight) → v ≡ sightIn h t e → rest (known v) e ≡ rest (look h e) e
     rest-agrees v q =
         rw (q, room-agrees, chart-agrees h a met t s e f, number-agrees h a met t s e f, core-agrees h a met t s e f, count-agrees h a met t s e f)
 
   -- ---- the answer
 
   pub answers-agree : answerTo (knownBy (t .nums) (t .ticks) (sightOf (t .names) (t .nums) e) e) e ≡ answer h e
-  unfolding answerTo rules secondKind
+  unfolding answerTo eventTests secondKind
   answers-agree =
       let v = sightOf (t .names) (t .nums) e in
       rw (time-agrees v, source-agrees v (sight-source h a met t s e), target-agrees v (sight-target h a met t s e))
       (by-nine (timeFalls (look h e) e) (secondKind (look h e) e) refl)
     where
       by-nine : (b d : Bool) → secondKind (look h e) e ≡ d →
-          cond b 8 (cond d 9 (firstBroken rest (known (sightOf (t .names) (t .nums) e)) e)) ≡ cond b 8 (cond d 9 (firstBroken rest (look h e) e))
+          cond b 8 (cond d 9 (rest (known (sightOf (t .names) (t .nums) e)) e)) ≡ cond b 8 (cond d 9 (rest (look h e) e))
       by-nine true d q = refl
       by-nine false true q = refl
-      by-nine false false q = rest-agrees q (sightOf (t .names) (t .nums) e) (sight-shown h a met t s e q)
+      by-nine false false q = rest-agrees q (sightOf (t .names) (t .nums) e) (sight-shown h a met t s e)

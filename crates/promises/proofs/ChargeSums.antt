@@ -11,7 +11,7 @@ use Rattle.text.proofs.Words.{same-eq, same-refl}
 use Rattle.rules.specs.Lists.{any, sumOver, oneIf, addAll}
 use Rattle.rules.specs.Words.{core}
 use Rattle.rules.specs.Event.{Event, Instance, instanceOf}
-use Rattle.rules.specs.Core.{Core, unknown, idle, held, onCore, on, coreAt}
+use Rattle.rules.specs.Core.{Core, unknown, idle, held, onCore, coreClass, on, coreAt}
 use Rattle.rules.specs.History.{isTracked, named, names, cores, kindOf}
 use Rattle.rules.specs.Verdict.{Accepted}
 use Rattle.rules.specs.Sheet.{gap, ticks, isHeldBy, holding, charge}
@@ -23,11 +23,10 @@ use Rattle.rules.proofs.Tracked.{now, names-once, named-kind, kind-stays}
 use Rattle.rules.proofs.Charges.{holding-later, charge-at-most}
 use Rattle.rules.proofs.Meets.{Met}
 use Rattle.tables.specs.Entry.{sinceAt}
-use Rattle.decide.specs.Sight.{coreClass}
 use Rattle.judge.specs.Feed.{Tables}
 use Rattle.promises.specs.Places.{rowOf}
 use Rattle.promises.specs.Shown.{Shown, OtherTicks, openTicks, openCharge}
-use Rattle.promises.proofs.TickEntries.{Sums, sums, sumsAt, targetSettled}
+use Rattle.promises.proofs.TickStores.{Sums, sums, sumsAt, targetSettled}
 use Rattle.promises.proofs.Turns.{Turn, first, took, gave, kept, turn, held-core, holder-named}
 use Rattle.promises.proofs.TickRows.{ticksBefore, sinceSettled, ticksAfter}
 use Rattle.promises.proofs.TickRows.{core-tracked, giving-on-core, accepted-next, name-kept, source-first, source-settled, other-next}

@@ -1,67 +1,30 @@
 -- Stores to the columns and single entries of nums, one after another: each has its value in the entry that it stores to, and every other entry is as
 -- it was.
 use mathlib.Core.Path.{_≡_, refl, sym, ap, _∙_}
-use mathlib.Core.Bool.{Bool, true, false, not, _&&_, _||_, cond, and-true}
+use mathlib.Core.Bool.{Bool, true, false, not, _&&_, cond, and-true}
 use mathlib.Core.List.{List}
 use Prim.Native.Nat.{ℕ, _+_, _%_, _^_, _≤_, _<_}
 use native.Mathlib.Omega.{arith}
-use lib.Dec.{eqb, leb, ltb}
+use lib.Dec.{eqb, ltb}
 use lib.ListN.{length, getD, set, length-set}
-use borrow.Author.Tests.{ne-eqb, eqb-true, eqb-false, leb-true, lt-ltb, ltb-true, ltb-false}
+use borrow.Author.Tests.{ne-eqb, eqb-true, lt-ltb, ltb-true, ltb-false}
 use Rattle.rules.specs.Words.{core, semaphore}
 use Rattle.rules.specs.Charts.{isProcess}
 use Rattle.rules.specs.History.{hasInstances, activates}
 use Rattle.rules.proofs.Tests.{both}
-use Rattle.tables.specs.Entry.{Column, past, nameRows, instanceRows, numsSize, linesIndex, startedIndex, namesIndex, coresIndex, instancesIndex}
+use Rattle.tables.specs.Entry.{nameRows, instanceRows, numsSize, linesIndex, startedIndex, namesIndex, coresIndex, instancesIndex}
 use Rattle.tables.specs.Entry.{kindColumn, lengthColumn, markColumn, numberColumn, numberedColumn, ownerColumn, instanceColumn, stateColumn}
 use Rattle.tables.specs.Entry.{lineCount, nameCount, coreCount, instanceCount}
 use Rattle.tables.specs.Entry.{kindAt, lengthAt, markAt, numberAt, numberedAt, ownerAt, instanceAt, stateAt}
-use Rattle.tables.proofs.Stores.{same, other, entry}
+use Rattle.tables.proofs.Stores.{other, single, cell, Outside, beside}
 use Rattle.decide.specs.declared.happening.Happening.{Happening}
 use Rattle.decide.specs.declared.sight.Sight.{Sight}
 use Rattle.decide.specs.Known.{newCore, newName}
-use Rattle.store.specs.Store.{targetRow, storeRow, storeInstance, storeMark, storeNumber, withRows, withTarget, withCore, withHeads}
+use Rattle.store.specs.Store.{targetRow, storeRow, storeInstance, storeMark, storeHolder, storeNumber, withRows, withTarget, withCore, withHeads}
 use Rattle.store.proofs.Stores.{length-storeRow, length-storeMark, length-storeInstance}
 
--- ---- one store
+-- ---- a store that is made or not
 
--- a single entry, after a store to a single entry
-single : (l : List ℕ) (i j v : ℕ) → ltb i numsSize ≡ true → length l ≡ numsSize → getD (set l i v) j 0 ≡ cond (eqb i j) v (getD l j 0)
-single l i j v h z = entry l i j v (omega (arith, ltb-true i numsSize h))
-
--- two columns of n rows in nums, the same or apart
-abbrev apart : ℕ → ℕ → ℕ → Bool
-apart n b d = leb (d + n) numsSize && (eqb b d || (leb (b + n) d || leb (d + n) b))
-
--- a row of a column, after a store to a row of a column
-column : (n : ℕ) (l : List ℕ) (b d i r v : ℕ) → apart n b d ≡ true → length l ≡ numsSize → i < n → r < n →
-    getD (set l (d + i) v) (b + r) 0 ≡ cond (eqb b d && eqb r i) v (getD l (b + r) 0)
-column n l b d i r v p z hi hr = by-test (eqb b d) refl (eqb r i) refl (both (leb (d + n) numsSize) _ p .1)
-  where
-    bound : d + n ≤ numsSize
-    bound = leb-true (d + n) numsSize (both (leb (d + n) numsSize) _ p .0)
-
-    by-test : (x : Bool) → eqb b d ≡ x → (y : Bool) → eqb r i ≡ y → x || (leb (b + n) d || leb (d + n) b) ≡ true →
-        getD (set l (d + i) v) (b + r) 0 ≡ cond (x && y) v (getD l (b + r) 0)
-    by-test true t true u q = rw (eqb-true b d t, eqb-true r i u) (same l (d + i) v (omega (arith, bound, z)))
-    by-test true t false u q = other l (d + i) (b + r) v (λ e. eqb-false r i u (omega (arith, eqb-true b d t)))
-    by-test false t y u q = other l (d + i) (b + r) v (by-side (leb (b + n) d) refl q)
-      where
-        by-side : (s : Bool) → leb (b + n) d ≡ s → s || leb (d + n) b ≡ true → d + i ≡ b + r → ⊥
-        by-side true a k e = omega (arith, leb-true (b + n) d a)
-        by-side false a k e = omega (arith, leb-true (d + n) b k)
-
--- an entry out of the columns from one up to another, after a store to one of them
-abbrev pub Outside : Column → Column → ℕ → Type 0
-Outside a z j = a .base ≤ j → j < past z → ⊥
-
-beside : (a z : Column) (n : ℕ) (l : List ℕ) (d i j v : ℕ) → leb (a .base) d && leb (d + n) (past z) ≡ true → Outside a z j → i < n →
-    getD (set l (d + i) v) j 0 ≡ getD l j 0
-beside a z n l d i j v p out h =
-    let b = both (leb (a .base) d) (leb (d + n) (past z)) p in
-    other l (d + i) j v (λ e. out (omega (arith, leb-true (a .base) d (b .0))) (omega (arith, leb-true (d + n) (past z) (b .1))))
-
--- a store that is made or not
 entry-if : (b : Bool) (x y : List ℕ) (j : ℕ) {v : ℕ} → (b ≡ true → getD x j 0 ≡ v) → (b ≡ false → getD y j 0 ≡ v) → getD (cond b x y) j 0 ≡ v
 entry-if true x y j p q = p refl
 entry-if false x y j p q = q refl
@@ -89,35 +52,48 @@ row-if n i t e x l b r v h p =
 module _ (nums : List ℕ) (z : length nums ≡ numsSize) (i r : ℕ) (h : r < nameRows) where
   pub row-kind : (kind n : ℕ) → kindAt (storeRow nums i kind n) r ≡ cond (eqb r i) kind (kindAt nums r)
   unfolding storeRow
-  row-kind kind n = row-if nameRows i (ltb i nameRows) refl _ nums (kindColumn .base) r kind h (λ k. simp (column nameRows, length-set, z))
+  row-kind kind n = row-if nameRows i (ltb i nameRows) refl _ nums (kindColumn .base) r kind h (λ k. simp (cell numsSize nameRows, length-set, z))
 
   pub row-length : (kind n : ℕ) → lengthAt (storeRow nums i kind n) r ≡ cond (eqb r i) (n % 2 ^ 32) (lengthAt nums r)
   unfolding storeRow
-  row-length kind n = row-if nameRows i (ltb i nameRows) refl _ nums (lengthColumn .base) r (n % 2 ^ 32) h (λ k. simp (column nameRows, length-set, z))
+  row-length kind n = row-if nameRows i (ltb i nameRows) refl _ nums (lengthColumn .base) r (n % 2 ^ 32) h (λ k. simp (cell numsSize nameRows, length-set, z))
 
   pub row-mark : (kind n : ℕ) → markAt (storeRow nums i kind n) r ≡ cond (eqb r i) 0 (markAt nums r)
   unfolding storeRow
-  row-mark kind n = row-if nameRows i (ltb i nameRows) refl _ nums (markColumn .base) r 0 h (λ k. simp (column nameRows, length-set, z))
+  row-mark kind n = row-if nameRows i (ltb i nameRows) refl _ nums (markColumn .base) r 0 h (λ k. simp (cell numsSize nameRows, length-set, z))
 
   pub row-number : (kind n : ℕ) → numberAt (storeRow nums i kind n) r ≡ cond (eqb r i) 0 (numberAt nums r)
   unfolding storeRow
-  row-number kind n = row-if nameRows i (ltb i nameRows) refl _ nums (numberColumn .base) r 0 h (λ k. simp (column nameRows, length-set, z))
+  row-number kind n = row-if nameRows i (ltb i nameRows) refl _ nums (numberColumn .base) r 0 h (λ k. simp (cell numsSize nameRows, length-set, z))
 
   pub row-numbered : (kind n : ℕ) → numberedAt (storeRow nums i kind n) r ≡ cond (eqb r i) 0 (numberedAt nums r)
   unfolding storeRow
-  row-numbered kind n = row-if nameRows i (ltb i nameRows) refl _ nums (numberedColumn .base) r 0 h (λ k. simp (column nameRows, length-set, z))
+  row-numbered kind n = row-if nameRows i (ltb i nameRows) refl _ nums (numberedColumn .base) r 0 h (λ k. simp (cell numsSize nameRows, length-set, z))
 
   mark-mark : (v : ℕ) → markAt (storeMark nums i v) r ≡ cond (eqb r i) v (markAt nums r)
   unfolding storeMark
-  mark-mark v = row-if nameRows i (ltb i nameRows) refl _ nums (markColumn .base) r v h (λ k. simp (column nameRows, z))
+  mark-mark v = row-if nameRows i (ltb i nameRows) refl _ nums (markColumn .base) r v h (λ k. simp (cell numsSize nameRows, z))
 
   pub number-number : (v : ℕ) → numberAt (storeNumber nums i v) r ≡ cond (eqb r i) v (numberAt nums r)
   unfolding storeNumber
-  number-number v = row-if nameRows i (ltb i nameRows) refl _ nums (numberColumn .base) r v h (λ k. simp (column nameRows, length-set, z))
+  number-number v = row-if nameRows i (ltb i nameRows) refl _ nums (numberColumn .base) r v h (λ k. simp (cell numsSize nameRows, length-set, z))
 
   pub number-numbered : (v : ℕ) → numberedAt (storeNumber nums i v) r ≡ cond (eqb r i) 1 (numberedAt nums r)
   unfolding storeNumber
-  number-numbered v = row-if nameRows i (ltb i nameRows) refl _ nums (numberedColumn .base) r 1 h (λ k. simp (column nameRows, length-set, z))
+  number-numbered v = row-if nameRows i (ltb i nameRows) refl _ nums (numberedColumn .base) r 1 h (λ k. simp (cell numsSize nameRows, length-set, z))
+
+-- the stores of a core's holder, where its name has a row
+module _ (nums : List ℕ) (z : length nums ≡ numsSize) (i p n r : ℕ) (o : p < nameRows) (h : r < nameRows) where
+  both-rows : ltb i nameRows && ltb p nameRows ≡ ltb i nameRows
+  both-rows = rw (lt-ltb p nameRows o) (and-true (ltb i nameRows))
+
+  holder-mark : markAt (storeHolder nums i p n) r ≡ cond (eqb r i) (p + 2) (markAt nums r)
+  unfolding storeHolder
+  holder-mark = row-if nameRows i (ltb i nameRows && ltb p nameRows) both-rows _ nums (markColumn .base) r (p + 2) h (λ k. simp (cell numsSize nameRows, length-set, z))
+
+  holder-number : numberAt (storeHolder nums i p n) r ≡ cond (eqb r i) n (numberAt nums r)
+  unfolding storeHolder
+  holder-number = row-if nameRows i (ltb i nameRows && ltb p nameRows) both-rows _ nums (numberColumn .base) r n h (λ k. simp (cell numsSize nameRows, length-set, z))
 
 module _ (nums : List ℕ) (i j : ℕ) where
   row-beside : (kind n : ℕ) → Outside kindColumn numberedColumn j → getD (storeRow nums i kind n) j 0 ≡ getD nums j 0
@@ -127,6 +103,11 @@ module _ (nums : List ℕ) (i j : ℕ) where
   mark-beside : (v : ℕ) → Outside markColumn markColumn j → getD (storeMark nums i v) j 0 ≡ getD nums j 0
   unfolding storeMark
   mark-beside v out = kept-if (ltb i nameRows) _ nums j (λ t. let h = ltb-true i nameRows t in simp (beside markColumn markColumn nameRows))
+
+  holder-beside : (p n : ℕ) → Outside markColumn numberColumn j → getD (storeHolder nums i p n) j 0 ≡ getD nums j 0
+  unfolding storeHolder
+  holder-beside p n out =
+      kept-if (ltb i nameRows && ltb p nameRows) _ nums j (λ t. let h = ltb-true i nameRows (both (ltb i nameRows) _ t .0) in simp (beside markColumn numberColumn nameRows))
 
   number-beside : (v : ℕ) → Outside numberColumn numberedColumn j → getD (storeNumber nums i v) j 0 ≡ getD nums j 0
   unfolding storeNumber
@@ -145,15 +126,15 @@ module _ (nums : List ℕ) (z : length nums ≡ numsSize) (i owner q : ℕ) (o :
 
   pub instance-owner : ownerAt (storeInstance nums i owner number state) q ≡ cond (eqb q i) owner (ownerAt nums q)
   unfolding storeInstance
-  instance-owner = row-if instanceRows i (ltb i instanceRows && ltb owner nameRows) tested _ nums (ownerColumn .base) q owner h (λ k. simp (column instanceRows, length-set, z))
+  instance-owner = row-if instanceRows i (ltb i instanceRows && ltb owner nameRows) tested _ nums (ownerColumn .base) q owner h (λ k. simp (cell numsSize instanceRows, length-set, z))
 
   pub instance-number : instanceAt (storeInstance nums i owner number state) q ≡ cond (eqb q i) number (instanceAt nums q)
   unfolding storeInstance
-  instance-number = row-if instanceRows i (ltb i instanceRows && ltb owner nameRows) tested _ nums (instanceColumn .base) q number h (λ k. simp (column instanceRows, length-set, z))
+  instance-number = row-if instanceRows i (ltb i instanceRows && ltb owner nameRows) tested _ nums (instanceColumn .base) q number h (λ k. simp (cell numsSize instanceRows, length-set, z))
 
   pub instance-state : stateAt (storeInstance nums i owner number state) q ≡ cond (eqb q i) state (stateAt nums q)
   unfolding storeInstance
-  instance-state = row-if instanceRows i (ltb i instanceRows && ltb owner nameRows) tested _ nums (stateColumn .base) q state h (λ k. simp (column instanceRows, length-set, z))
+  instance-state = row-if instanceRows i (ltb i instanceRows && ltb owner nameRows) tested _ nums (stateColumn .base) q state h (λ k. simp (cell numsSize instanceRows, length-set, z))
 
 -- ---- the rows of new names
 
@@ -259,25 +240,40 @@ module _ (nums : List ℕ) (z : length nums ≡ numsSize) (i j t : ℕ) (w : Hap
       (number-beside (storeMark nums i t) i (d + q) (w .count) (λ l u. omega arith) ∙ mark-beside nums i (d + q) t (λ l u. omega arith)))
       (λ e. two-beside (d + q) (λ l u. omega arith) ∙ made (hasInstances (w .kind)) (eqb q j) _ nums (d + q) v f)
 
--- ---- the state of the core
+-- ---- the state of the core, and the number of its holder
 
-module _ (nums : List ℕ) (class i j : ℕ) where
-  pub core-beside : (x : ℕ) → Outside markColumn markColumn x → getD (withCore nums class i j) x 0 ≡ getD nums x 0
+module _ (nums : List ℕ) (class i p n : ℕ) where
+  pub core-beside : (x : ℕ) → Outside markColumn numberColumn x → getD (withCore nums class i p n) x 0 ≡ getD nums x 0
   unfolding withCore
   core-beside x out =
       entry-if (eqb class 0) nums _ x (λ e. refl)
-      (λ e. entry-if (eqb class 2) (storeMark nums i 1) _ x (λ f. mark-beside nums i x 1 out)
-      (λ f. kept-if (ltb j instanceRows) (storeMark nums i (j + 2)) nums x (λ g. mark-beside nums i x (j + 2) out)))
+      (λ e. entry-if (eqb class 2) (storeMark nums i 1) (storeHolder nums i p n) x
+      (λ f. mark-beside nums i x 1 (λ l u. out (omega arith) (omega arith)))
+      (λ f. holder-beside nums i x p n out))
 
-  pub core-mark : length nums ≡ numsSize → (eqb class 0 ≡ false → j < instanceRows) → (r : ℕ) → r < nameRows →
-      markAt (withCore nums class i j) r ≡ cond (not (eqb class 0) && eqb r i) (cond (eqb class 2) 1 (j + 2)) (markAt nums r)
-  unfolding withCore
-  core-mark z k r h =
-      entry-if (eqb class 0) nums _ (markColumn .base + r) (λ e. rw e)
-      (λ e. rw (e, lt-ltb j instanceRows (k e))
-      (entry-if (eqb class 2) (storeMark nums i 1) (storeMark nums i (j + 2)) (markColumn .base + r)
-      (λ f. rw f (mark-mark nums z i r h 1))
-      (λ f. rw f (mark-mark nums z i r h (j + 2)))))
+  module _ (z : length nums ≡ numsSize) (k : eqb class 0 ≡ false → p < nameRows) (r : ℕ) (h : r < nameRows) where
+    -- a column of which the stores to the core's row are known
+    core-column : (d idle held : ℕ) →
+        (getD (storeMark nums i 1) (d + r) 0 ≡ cond (eqb r i) idle (getD nums (d + r) 0)) →
+        (p < nameRows → getD (storeHolder nums i p n) (d + r) 0 ≡ cond (eqb r i) held (getD nums (d + r) 0)) →
+        getD (withCore nums class i p n) (d + r) 0 ≡ cond (not (eqb class 0) && eqb r i) (cond (eqb class 2) idle held) (getD nums (d + r) 0)
+    unfolding withCore
+    core-column d idle held f g =
+        entry-if (eqb class 0) nums _ (d + r) (λ e. rw e)
+        (λ e. rw e (entry-if (eqb class 2) (storeMark nums i 1) (storeHolder nums i p n) (d + r) (λ t. rw t f) (λ t. rw t (g (k e)))))
+
+    pub core-mark : markAt (withCore nums class i p n) r ≡ cond (not (eqb class 0) && eqb r i) (cond (eqb class 2) 1 (p + 2)) (markAt nums r)
+    core-mark = core-column (markColumn .base) 1 (p + 2) (mark-mark nums z i r h 1) (λ o. holder-mark nums z i p n r o h)
+
+    pub core-number : numberAt (withCore nums class i p n) r ≡ cond (not (eqb class 0) && eqb r i) (cond (eqb class 2) (numberAt nums r) n) (numberAt nums r)
+    core-number =
+        core-column (numberColumn .base) (numberAt nums r) n
+        (mark-beside nums i (numberColumn .base + r) 1 (λ l u. omega arith) ∙ either-way (eqb r i))
+        (λ o. holder-number nums z i p n r o h)
+      where
+        either-way : (b : Bool) → numberAt nums r ≡ cond b (numberAt nums r) (numberAt nums r)
+        either-way true = refl
+        either-way false = refl
 
 -- ---- the single entries
 
@@ -295,4 +291,4 @@ module _ (nums : List ℕ) (a b d : ℕ) where
       (cond (eqb namesIndex j) ((nameCount nums + a) % 2 ^ 32)
       (cond (eqb startedIndex j) 1 (cond (eqb linesIndex j) ((lineCount nums + 1) % 2 ^ 32) (getD nums j 0)))))
   unfolding withHeads
-  heads-stored z j = simp (single, length-set, z)
+  heads-stored z j = simp (single numsSize, length-set, z)

@@ -10,7 +10,7 @@ use Rattle.text.proofs.Words.{same-eq}
 use Rattle.rules.specs.Lists.{any}
 use Rattle.rules.specs.Words.{core}
 use Rattle.rules.specs.Event.{Event, instanceOf}
-use Rattle.rules.specs.Core.{Core, unknown, idle, held, onCore, on, coreAt}
+use Rattle.rules.specs.Core.{Core, unknown, idle, held, onCore, coreClass, on, coreAt}
 use Rattle.rules.specs.History.{names, kindOf}
 use Rattle.rules.specs.Verdict.{Accepted}
 use Rattle.rules.specs.Sheet.{gap, ticks, isHeld, isIdle, isUnknown, heldTicks, idleTicks, span}
@@ -21,12 +21,12 @@ use Rattle.rules.proofs.Totals.{core-total}
 use Rattle.rules.proofs.Meets.{Met}
 use Rattle.rules.proofs.Tracked.{kind-stays}
 use Rattle.tables.specs.Entry.{sinceAt}
-use Rattle.decide.specs.Sight.{coreClass}
 use Rattle.judge.specs.Feed.{Tables}
 use Rattle.promises.specs.Places.{rowOf}
 use Rattle.promises.specs.Shown.{Shown, CoreTicks, openTicks}
 use Rattle.promises.proofs.Grown.{name-kind, core-known}
-use Rattle.promises.proofs.TickEntries.{Sums, sumsAt, unknownBefore}
+use Rattle.promises.proofs.TickStores.{Sums, sumsAt}
+use Rattle.promises.proofs.TickEntries.{unknownBefore}
 use Rattle.promises.proofs.Turns.{Turn, first, took, gave, kept, turn, idle-core, held-core}
 use Rattle.promises.proofs.TickRows.{ticksAfter, accepted-next, name-old, name-kept, source-first, source-settled}
 use Rattle.promises.proofs.OpenTicks.{absent-unknown, absent-before, not-target, until-event, unsettled, anew}

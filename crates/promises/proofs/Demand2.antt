@@ -14,11 +14,12 @@ use lib.Dec.{eqb}
 use lib.ListN.{length, length-reverse}
 use borrow.Author.Tests.{eqb-true}
 use Rattle.walk.specs.Lines.{linesOf}
-use Rattle.rules.specs.Trace.{placeOf, atEnd, takenLines}
+use Rattle.rules.specs.First.{FirstRefused}
+use Rattle.rules.specs.Trace.{placeOf, answerAt, atEnd, takenLines}
 use Rattle.rules.specs.Lawful.{SoFar, Lawful}
-use Rattle.rules.proofs.Traces.{Kept, kept-before, Why, FirstRefused, Names, at-line, at-end, taken-sound}
+use Rattle.rules.proofs.Traces.{Kept, kept-before, Why, Names, at-line, at-end, taken-sound}
 use Rattle.rules.proofs.Lawful.{kept-so-far, sound-lawful}
-use Rattle.tables.specs.Range.{isSized}
+use Rattle.tables.specs.Sized.{isSized}
 use Rattle.judge.specs.Feed.{Tables, judgedTrace}
 use Rattle.promises.proofs.Judged.{judge-sound, judge-names-first}
 
@@ -43,20 +44,20 @@ pub data Refusal (ls : List (List ℕ)) (number line : ℕ) : Type 0 where
 -- ---- what a verdict names
 
 module _ (ls : List (List ℕ)) (number line : ℕ) where
-  by-line : FirstRefused [] ls 1 (number, line) (takenLines [] ls) → FirstBroken ls number line
-  by-line r =
+  by-line : (r : FirstRefused answerAt [] ls (number, line) (takenLines [] ls)) → Why (takenLines [] ls) (r .first) number → FirstBroken ls number line
+  by-line r why =
       let kept : Kept (reverse (r .before)) = rw (r .all-taken) at (taken-sound (r .before) .kept) in
       record {
         before = r .before;
-        broken = r .line;
+        broken = r .first;
         after = r .after;
         splits = r .splits;
         counted = omega (arith, r .place);
         lawful-before = kept-so-far (reverse (r .before)) .0 kept;
         breaks =
-            λ s. let z = kept-before (reverse (r .before)) (r .line) (kept-so-far (r .line ∷ reverse (r .before)) .1 s) .0 in
+            λ s. let z = kept-before (reverse (r .before)) (r .first) (kept-so-far (r .first ∷ reverse (r .before)) .1 s) .0 in
             omega (arith, r .refused, sym z ∙ (rw (r .no-other) at (r .answered)));
-        lowest = rw (r .no-other) at (r .lowest);
+        lowest = rw (r .no-other) at why;
       }
 
   at-its-end : (number ≡ 0 → ⊥) → SoFar (reverse ls) → (h : List (List ℕ)) → reverse ls ≡ h → (number, line) ≡ atEnd h → Refusal ls number line
@@ -68,8 +69,8 @@ module _ (ls : List (List ℕ)) (number line : ℕ) where
       by-scale true e v = no-scale s (rw q (eqb-true _ 0 e)) (ap (λ (p : ℕ × ℕ). p .0) v) (omega (arith, ap (λ (p : ℕ × ℕ). p .1) v, ap length q, length-reverse ls))
       by-scale false e v = absurd (n (ap (λ (p : ℕ × ℕ). p .0) v))
 
-  named : Names [] ls 1 (number, line) (takenLines [] ls) → (number ≡ 0 → ⊥) → Refusal ls number line
-  named (at-line r) n = first-broken (by-line r)
+  named : Names ls (number, line) (takenLines [] ls) → (number ≡ 0 → ⊥) → Refusal ls number line
+  named (at-line r why) n = first-broken (by-line r why)
   named (at-end q v) n = at-its-end n (kept-so-far (reverse ls) .0 (rw q at (taken-sound ls .kept))) (reverse ls) refl (rw q at v)
 
 -- ---- a whole trace

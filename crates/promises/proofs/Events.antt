@@ -7,7 +7,7 @@ use lib.ListN.{length, getD}
 use Rattle.line.specs.declared.event.Event.{Event as ReadEvent}
 use Rattle.line.specs.declared.reading.Reading.{Reading}
 use Rattle.line.specs.declared.reading.Reading.the-variants.{Version, Comment, TimeScale, Creator, CreationDate, EventLine, Refused}
-use Rattle.line.specs.Part.{fieldOf}
+use Rattle.fields.specs.Part.{fieldOf}
 use Rattle.line.specs.Reading.{readLine}
 use Rattle.rules.specs.Lists.{ifZero}
 use Rattle.rules.specs.Event.{Event}
@@ -33,7 +33,7 @@ use Rattle.promises.proofs.Later.{enters-shown}
 use Rattle.promises.proofs.Answers.{answers-agree}
 use Rattle.promises.proofs.Entries.{lines-taken, verdict-number-kept, verdict-line-kept, scale-kept, creator-kept, date-kept}
 use Rattle.promises.proofs.Names.{each-name-next}
-use Rattle.promises.proofs.Instances.{each-instance-next}
+use Rattle.promises.proofs.Instances.{instances-next}
 use Rattle.promises.proofs.Sums.{each-ticks-next}
 use Rattle.promises.proofs.Sizes.{names-size-next, nums-size-next, ticks-size-next, head-next}
 use Rattle.promises.proofs.Lines.{EventOutcome}
@@ -60,11 +60,11 @@ module _ (h : List Event) (a : Accepted h) (met : AllMet h) (t : Tables) (s : Sh
   event = asEvent w source target
 
   abbrev state : ℕ
-  state = enters (t .nums) (sightIn h event) event
+  state = enters (t .nums) (sightIn h t event) event
 
   -- the tables after it
   abbrev next : Tables
-  next = takenBy t (sightIn h event) state w source target
+  next = takenBy t (sightIn h t event) state w source target
 
   taken-shown : answer h event ≡ 0 → Met event → Shown (event ∷ h) next
   taken-shown q m =
@@ -74,20 +74,20 @@ module _ (h : List Event) (a : Accepted h) (met : AllMet h) (t : Tables) (s : Sh
         names-size = names-size-next h t s w source target state;
         nums-size = nums-size-next h t s w source target state;
         ticks-size = ticks-size-next h t s w source target state;
-        head = head-next h t s w source target state f;
-        each-name = each-name-next h met t s w source target f m state l;
-        each-instance = each-instance-next h a t s w source target f state l;
+        head = head-next h t s w source target state a met f;
+        each-name = each-name-next h a met t s w source target f m state l;
+        instance-rows = instances-next h a met t s w source target f state l;
         each-ticks = each-ticks-next h a t s w source target f m state;
       }
 
   -- the line level's entries but for the count of lines
   level : (j : ℕ) → j < 6 → (j ≡ 2 → ⊥) → getD (next .nums) j 0 ≡ getD (t .nums) j 0
-  level zero l n = verdict-number-kept (t .nums) (s .nums-size) (sightIn h event) state w (length source) (length target)
-  level (suc zero) l n = verdict-line-kept (t .nums) (s .nums-size) (sightIn h event) state w (length source) (length target)
+  level zero l n = verdict-number-kept (t .nums) (s .nums-size) (sightIn h t event) state w (length source) (length target)
+  level (suc zero) l n = verdict-line-kept (t .nums) (s .nums-size) (sightIn h t event) state w (length source) (length target)
   level (suc (suc zero)) l n = absurd (n refl)
-  level (suc (suc (suc zero))) l n = scale-kept (t .nums) (s .nums-size) (sightIn h event) state w (length source) (length target)
-  level (suc (suc (suc (suc zero)))) l n = creator-kept (t .nums) (s .nums-size) (sightIn h event) state w (length source) (length target)
-  level (suc (suc (suc (suc (suc zero))))) l n = date-kept (t .nums) (s .nums-size) (sightIn h event) state w (length source) (length target)
+  level (suc (suc (suc zero))) l n = scale-kept (t .nums) (s .nums-size) (sightIn h t event) state w (length source) (length target)
+  level (suc (suc (suc (suc zero)))) l n = creator-kept (t .nums) (s .nums-size) (sightIn h t event) state w (length source) (length target)
+  level (suc (suc (suc (suc (suc zero))))) l n = date-kept (t .nums) (s .nums-size) (sightIn h t event) state w (length source) (length target)
   level (suc (suc (suc (suc (suc (suc j)))))) l n = absurd (omega (arith, l))
 
   -- ---- the decision
@@ -108,11 +108,11 @@ module _ (h : List Event) (a : Accepted h) (met : AllMet h) (t : Tables) (s : Sh
           let v = sightOf (t .names) (t .nums) event in
           EventOutcome h t event (carried (ifZero n (Take v (enters (t .nums) v event)) (Refuse n)) t w source target)
       by-answer zero q =
-          rw (sight-shown h a met t s event (passed h event q .kinds))
+          rw (sight-shown h a met t s event)
           (record {
             answered = sym q;
             shown = λ z. taken-shown q m;
-            line-counted = λ z. lines-taken (t .nums) (s .nums-size) (sightIn h event) state w (length source) (length target);
+            line-counted = λ z. lines-taken (t .nums) (s .nums-size) (sightIn h t event) state w (length source) (length target);
             level-kept = λ z. level;
             remembers = λ z. absurd (z q);
           })

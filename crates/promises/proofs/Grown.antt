@@ -1,5 +1,5 @@
 -- What one event adds to the lists of a history: at most its source and its target to the names, and its instance to the instances, each at the
--- end and only where it was not there. So a row stays the row of its name or instance. And what it is that the lists hold.
+-- end and only where it was not there. So a row stays the row of its name. And what it is that the lists hold.
 use mathlib.Core.Path.{_≡_, refl, sym, ap, ap₂, subst, _∙_}
 use mathlib.Core.Bool.{Bool, true, false, not, _&&_, _||_}
 use mathlib.Core.Option.{Option, none, some}
@@ -24,10 +24,10 @@ use Rattle.rules.specs.Verdict.{Accepted}
 use Rattle.rules.proofs.Tests.{both, and-true, clash, instance-true, instance-refl}
 use Rattle.rules.proofs.Sums.{any-more, any-added, other-way}
 use Rattle.rules.proofs.Answers.{passed}
-use Rattle.rules.proofs.Tracked.{target-kind, two-names, source-kind, kind-stays, Tracked, tracked}
+use Rattle.rules.proofs.Tracked.{target-kind, two-names, source-kind, kind-stays, Tracked, tracked, named-kind}
 use Rattle.rules.proofs.Meets.{Met}
-use Rattle.promises.specs.Places.{place, rowOf, instanceRowOf}
-use Rattle.promises.proofs.Places.{place-kept, place-after, any-keep, only-append, only-same, grown-one, grown-two, any-added-only, let-in, Distinct, distinct-all, at-place}
+use Rattle.promises.specs.Places.{place, rowOf}
+use Rattle.promises.proofs.Places.{place-one, place-kept, place-after, any-keep, only-append, only-same, grown-one, grown-two, any-added-only, let-in, Distinct, distinct-all, at-place}
 
 -- ---- what is new
 
@@ -69,10 +69,6 @@ tracked-range k =
 pub instances-tracked : (k : ℕ) → hasInstances k ≡ true → isTracked k ≡ true
 unfolding isTracked
 instances-tracked k q = rw q
-
--- the instance of a line that is not a semaphore's has the line's number
-pub own-number : (e : Event) → hasInstances (e .kind) ≡ true → (instanceOf e) .number ≡ e .targetInstance
-own-number e q = let r = instances-range (e .kind) q in rw (ne-eqb (e .kind) semaphore (λ p. omega (arith, p)))
 
 one-longer : {A : Type 0} (b : Bool) (xs : List A) (x : A) → length (xs ++ keep b x []) ≡ length xs + oneIf b
 one-longer true xs x = length-append xs (x ∷ [])
@@ -174,23 +170,12 @@ module _ (h : List Event) (e : Event) where
 
   -- ---- the instances grow at the end
 
-  pub instances-grow : instances (e ∷ h) ≡ instances h ++ keep (newInstance h e) (instanceOf e) []
+  instances-grow : instances (e ∷ h) ≡ instances h ++ keep (newInstance h e) (instanceOf e) []
   unfolding instances
   instances-grow = grown-one sameInstance instance-true instance-refl (hasInstances (e .kind)) (instances h) (instanceOf e)
 
   pub instances-length : length (instances (e ∷ h)) ≡ length (instances h) + oneIf (newInstance h e)
   instances-length = ap length instances-grow ∙ one-longer (newInstance h e) (instances h) (instanceOf e)
-
-  pub instance-row-stays : (x : Instance) → any (sameInstance x) (instances h) ≡ true → instanceRowOf (e ∷ h) x ≡ instanceRowOf h x
-  instance-row-stays x q =
-      ap (place (sameInstance x)) instances-grow ∙ place-kept (sameInstance x) (instances h) (keep (newInstance h e) (instanceOf e) []) q
-
-  pub instance-row-new : newInstance h e ≡ true → instanceRowOf (e ∷ h) (instanceOf e) ≡ length (instances h)
-  unfolding place
-  instance-row-new w =
-      ap (place (sameInstance (instanceOf e))) instances-grow
-      ∙ place-after (sameInstance (instanceOf e)) (instances h) (keep (newInstance h e) (instanceOf e) []) (not-true _ (both (hasInstances (e .kind)) _ w .1))
-      ∙ rw (w, instance-refl (instanceOf e)) (omega arith)
 
 -- ---- the kinds of names
 
@@ -295,24 +280,15 @@ module _ (h : List Event) (e : Event) (k : secondKind (look h e) e ≡ false) wh
   pub cores-length : length (cores (e ∷ h)) ≡ length (cores h) + oneIf (newSource h e)
   cores-length = ap length cores-grow ∙ one-longer (newSource h e) (cores h) (e .source)
 
--- ---- each name and each instance is listed once, and each row has one
+-- ---- each name is listed once, and each row of a name has one
 
 pub names-distinct : (h : List Event) → Distinct sameBytes same-eq same-refl (names h)
 unfolding names
 names-distinct [] = tt
 names-distinct (e ∷ h) = distinct-all sameBytes same-eq same-refl (names h) (named e) (names-distinct h)
 
-pub instances-distinct : (h : List Event) → Distinct sameInstance instance-true instance-refl (instances h)
-unfolding instances
-instances-distinct [] = tt
-instances-distinct (e ∷ h) =
-    distinct-all sameInstance instance-true instance-refl (instances h) (keep (hasInstances (e .kind)) (instanceOf e) []) (instances-distinct h)
-
 pub name-at : (h : List Event) (i : ℕ) → i < length (names h) → (n : List ℕ) × (any (sameBytes n) (names h) ≡ true) × (rowOf h n ≡ i)
 name-at h = at-place sameBytes same-eq same-refl (names h) (names-distinct h)
-
-pub instance-at : (h : List Event) (j : ℕ) → j < length (instances h) → (x : Instance) × (any (sameInstance x) (instances h) ≡ true) × (instanceRowOf h x ≡ j)
-instance-at h = at-place sameInstance instance-true instance-refl (instances h) (instances-distinct h)
 
 -- ---- what the lists of an accepted history hold
 
@@ -330,6 +306,15 @@ instance-kind (e ∷ h) a x q = by-origin (instance-from h e x q) (instance-kind
         let t = both (hasInstances (e .kind)) _ w .0 in
         subst (λ (y : Instance). (hasInstances (y .kind) ≡ true) × (kindOf (y .name) (e ∷ h) ≡ some (y .kind))) (sym p)
         (t, target-kind h e (instances-tracked (e .kind) t))
+
+-- an instance of its name's kind is told by the row of its name and by its number
+pub one-instance : (h : List Event) (x y : Instance) → kindOf (x .name) h ≡ some (x .kind) → kindOf (y .name) h ≡ some (y .kind) →
+    rowOf h (x .name) ≡ rowOf h (y .name) → x .number ≡ y .number → x ≡ y
+one-instance h x y p q r o =
+    let w : x .name ≡ y .name =
+    place-one sameBytes same-eq same-refl (x .name) (y .name) (names h) (named-kind h (x .name) (x .kind) p _ refl) (named-kind h (y .name) (y .kind) q _ refl) r in
+    let u : x .kind ≡ y .kind = cc in
+    λ i. record { kind = u i; name = w i; number = o i }
 
 -- a name is a core exactly if it is known as one
 pub core-known : (c : List ℕ) (h : List Event) → kindOf c h ≡ some core → coreAt c h ≡ unknown → ⊥

@@ -8,10 +8,10 @@ use native.Mathlib.Omega.{arith}
 use lib.ListN.{length, getD, take, drop}
 use Rattle.rules.specs.Event.{Event, Instance}
 use Rattle.rules.specs.Rows.{opened}
-use Rattle.tables.specs.Entry.{nameRoom, startedIndex, namesIndex, coresIndex, instancesIndex}
+use Rattle.tables.specs.Entry.{nameRoom, startedIndex, namesIndex, coresIndex, instancesIndex, instanceCount, ownerAt, instanceAt}
 use Rattle.tables.specs.Entry.{kindColumn, lengthColumn, markColumn, numberColumn, numberedColumn, ownerColumn, instanceColumn, stateColumn}
 use Rattle.judge.specs.Feed.{tables}
-use Rattle.promises.specs.Shown.{HeadShown, NameShown, InstanceShown, Shown}
+use Rattle.promises.specs.Shown.{HeadShown, NameShown, InstanceShown, InstancesShown, Shown}
 
 -- ---- the event level
 
@@ -38,15 +38,34 @@ module _ (h : List Event) (names nums nums' ticks : List ℕ) (g : AgreeFrom 6 n
         size = g (lengthColumn .base + i) (omega arith) ∙ s .size;
         kind = s .kind ∙ ap some (sym k);
         mark = rw (k, g (markColumn .base + i) (omega arith)) (s .mark);
+        holder = λ x q. g (numberColumn .base + i) (omega arith) ∙ s .holder x q;
         numbered = rw d (s .numbered);
         number = rw (d, g (numberColumn .base + i) (omega arith), k) (s .number);
       }
 
+  count-later : instanceCount nums' ≡ instanceCount nums
+  count-later = g instancesIndex (omega arith)
+
+  owner-later : (j : ℕ) → ownerAt nums' j ≡ ownerAt nums j
+  owner-later j = g (ownerColumn .base + j) (omega arith)
+
+  number-later : (j : ℕ) → instanceAt nums' j ≡ instanceAt nums j
+  number-later j = g (instanceColumn .base + j) (omega arith)
+
   instance-later : (j : ℕ) (x : Instance) → InstanceShown h nums j x → InstanceShown h nums' j x
   instance-later j x s = record {
-    owner = g (ownerColumn .base + j) (omega arith) ∙ s .owner;
-    number = g (instanceColumn .base + j) (omega arith) ∙ s .number;
+    below = rw count-later (s .below);
+    owner = owner-later j ∙ s .owner;
+    number = number-later j ∙ s .number;
     state = ap opened (g (stateColumn .base + j) (omega arith)) ∙ s .state;
+  }
+
+  instances-later : InstancesShown h nums → InstancesShown h nums'
+  instances-later s = record {
+    each = λ x m. let r = s .each x m in (r .0, instance-later (r .0) x (r .1));
+    owned = λ j b. let r = s .owned j (rw count-later at b) in (r .0, r .1, instance-later j (r .0) (r .2));
+    kept = λ i j b d o n.
+        s .kept i j (rw count-later at b) (rw count-later at d) (sym (owner-later i) ∙ o ∙ owner-later j) (sym (number-later i) ∙ n ∙ number-later j);
   }
 
   pub shown-later : length nums' ≡ length nums → Shown h (tables names nums ticks) → Shown h (tables names nums' ticks)
@@ -56,6 +75,6 @@ module _ (h : List Event) (names nums nums' ticks : List ℕ) (g : AgreeFrom 6 n
     ticks-size = s .ticks-size;
     head = head-later (s .head);
     each-name = λ n m. name-later _ n (s .each-name n m);
-    each-instance = λ x m. instance-later _ x (s .each-instance x m);
+    instance-rows = instances-later (s .instance-rows);
     each-ticks = s .each-ticks;
   }

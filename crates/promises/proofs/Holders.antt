@@ -1,76 +1,86 @@
--- A core's state in the tables names the row of the instance that holds it. It serves an instance exactly if the core of the history does.
-use mathlib.Core.Path.{_≡_, refl, sym, ap, subst}
+-- A core's state in the tables names the row of its holder's name, and its number is the holder's. So it serves an instance exactly if the core of
+-- the history does.
+use mathlib.Core.Path.{_≡_, refl, sym, ap, subst, _∙_}
 use mathlib.Core.Bool.{Bool, true, false, not, _&&_, cond}
-use mathlib.Core.List.{List, [], _∷_}
+use mathlib.Core.List.{List}
 use Prim.Native.Nat.{ℕ, _+_}
 use native.Mathlib.Omega.{arith}
 use lib.Dec.{eqb}
-use borrow.Author.Tests.{eq-eqb, ne-eqb}
+use borrow.Author.Tests.{eqb-true, eqb-false, eq-eqb, ne-eqb}
 use Rattle.text.specs.Bytes.{sameBytes}
 use Rattle.text.proofs.Bools.{is-false}
-use Rattle.rules.specs.Lists.{any, when, orElse, latest}
-use Rattle.rules.specs.Event.{Event, Instance, sameInstance, instanceOf}
-use Rattle.rules.specs.Core.{Core, unknown, idle, held, gives, onCore, on, becomes, effectOn, orUnknown, coreAt}
-use Rattle.rules.specs.History.{instances}
+use Rattle.text.proofs.Words.{same-eq, same-refl}
+use Rattle.rules.specs.Lists.{any}
+use Rattle.rules.specs.Event.{Event, Instance, sameInstance}
+use Rattle.rules.specs.Core.{Core, unknown, idle, held, coreAt}
+use Rattle.rules.specs.History.{names, kindOf}
 use Rattle.rules.specs.Refusals.{serves}
-use Rattle.rules.proofs.Tests.{both, clash, instance-true, instance-refl}
-use Rattle.rules.proofs.CoreWords.{on-process}
+use Rattle.rules.specs.Verdict.{Accepted}
+use Rattle.rules.proofs.Tests.{clash, instance-true, instance-refl}
 use Rattle.tables.specs.declared.find.Found.the-variants.{At, Nothing}
-use Rattle.decide.specs.Known.{another, holds, coreIn}
+use Rattle.decide.specs.Known.{another, isHolder, coreIn}
 use Rattle.decide.proofs.Plans.{another-differs}
-use Rattle.promises.specs.Places.{seek, instanceRowOf}
+use Rattle.promises.specs.Places.{seek, rowOf}
 use Rattle.promises.specs.Shown.{coreMark}
-use Rattle.promises.proofs.Places.{place-one}
-use Rattle.promises.proofs.Grown.{instance-stays, instance-listed}
-use Rattle.promises.proofs.Untold.{process-instances}
+use Rattle.promises.proofs.Places.{one-row}
+use Rattle.promises.proofs.Told.{Only}
+use Rattle.promises.proofs.Turns.{holder-kind, holder-named}
 
--- ---- the holder of a core has a row
-
-pub holder-listed : (c : List ℕ) (h : List Event) (x : Instance) → coreAt c h ≡ held x → any (sameInstance x) (instances h) ≡ true
-holder-listed c [] x q = cc
-holder-listed c (e ∷ h) x q = by-test (on c e) refl (gives (e .word)) q (holder-listed c h x)
+-- two states name one row exactly if the rows are one
+marks-alike : (i j : ℕ) → eqb (i + 2) (j + 2) ≡ eqb i j
+marks-alike i j = by-test (eqb i j) refl
   where
-    by-test : (b : Bool) → on c e ≡ b → (g : Bool) → orUnknown (orElse (when b (becomes g (instanceOf e))) (latest (effectOn c) h)) ≡ held x →
-        (coreAt c h ≡ held x → any (sameInstance x) (instances h) ≡ true) → any (sameInstance x) (instances (e ∷ h)) ≡ true
-    by-test true o true q i = cc
-    by-test true o false q i =
-        let z : instanceOf e ≡ x = cc in
-        let k = process-instances (e .kind) (on-process e (both (onCore e) (sameBytes c (e .source)) o .0)) in
-        subst (λ (y : Instance). any (sameInstance y) (instances (e ∷ h)) ≡ true) z (instance-listed h e k)
-    by-test false o g q i = instance-stays h e x (i q)
+    by-test : (b : Bool) → eqb i j ≡ b → eqb (i + 2) (j + 2) ≡ b
+    by-test true q = eq-eqb _ _ (ap (λ (k : ℕ). k + 2) (eqb-true i j q))
+    by-test false q = ne-eqb _ _ (λ (p : i + 2 ≡ j + 2). eqb-false i j q (omega arith))
 
--- ---- whom a core serves
-
-module _ (h : List Event) (x y : Instance) (listed : any (sameInstance y) (instances h) ≡ true) where
-  -- the state names the row of x exactly if x is the holder
-  holds-own : holds (seek (sameInstance x) (instances h)) (instanceRowOf h y + 2) ≡ sameInstance y x
+module _ (h : List Event) (a : Accepted h) (x : Instance) (only : Only (kindOf (x .name) h) (x .kind)) where
+  -- state and number name the instance x exactly if it is the holder: its name has one kind
+  holds-own : (c : List ℕ) (y : Instance) → coreAt c h ≡ held y →
+      isHolder (rowOf h (y .name) + 2) (y .number) (seek (sameBytes (x .name)) (names h)) (x .number) ≡ sameInstance y x
   unfolding seek
-  holds-own = by-row (any (sameInstance x) (instances h)) refl
+  holds-own c y p = by-row (any (sameBytes (x .name)) (names h)) refl
     where
-      by-same : any (sameInstance x) (instances h) ≡ true → (b : Bool) → sameInstance y x ≡ b → eqb (instanceRowOf h y + 2) (instanceRowOf h x + 2) ≡ b
-      by-same q true r = eq-eqb _ _ (ap (λ (z : Instance). instanceRowOf h z + 2) (instance-true y x r))
-      by-same q false r =
-          ne-eqb _ _ (λ (p : instanceRowOf h y + 2 ≡ instanceRowOf h x + 2).
-          let z = place-one sameInstance instance-true instance-refl y x (instances h) listed q (omega arith) in
-          clash (sameInstance y x) (subst (λ (v : Instance). sameInstance y v ≡ true) z (instance-refl y)) r)
+      listed : any (sameBytes (y .name)) (names h) ≡ true
+      listed = holder-named h a c y p
 
-      by-row : (b : Bool) → any (sameInstance x) (instances h) ≡ b → holds (cond b (At (instanceRowOf h x)) Nothing) (instanceRowOf h y + 2) ≡ sameInstance y x
-      by-row true q = by-same q (sameInstance y x) refl
-      by-row false q = sym (is-false _ (λ r. clash _ (subst (λ (v : Instance). any (sameInstance v) (instances h) ≡ true) (instance-true y x r) listed) q))
+      by-name : (b : Bool) → sameBytes (y .name) (x .name) ≡ b → b && eqb (y .number) (x .number) ≡ eqb (y .kind) (x .kind) && (b && eqb (y .number) (x .number))
+      by-name true r =
+          let k = only (y .kind) (ap (λ (n : List ℕ). kindOf n h) (sym (same-eq (y .name) (x .name) r)) ∙ holder-kind h a c y p) in
+          rw (eq-eqb (y .kind) (x .kind) k)
+      by-name false r = by-kind (eqb (y .kind) (x .kind))
+        where
+          by-kind : (k : Bool) → false ≡ k && false
+          by-kind true = refl
+          by-kind false = refl
 
-serves-told : (h : List Event) (x : Instance) (c : Core) → ((y : Instance) → c ≡ held y → any (sameInstance y) (instances h) ≡ true) → (taking new : Bool) →
-    serves (coreIn (coreMark h c) (seek (sameInstance x) (instances h)) x) taking new x ≡ serves c taking new x
-unfolding coreIn
-serves-told h x unknown l taking new = refl
-serves-told h x idle l taking new = refl
-serves-told h x (held y) l taking new =
-    rw (ne-eqb (instanceRowOf h y + 2) 0 (λ q. omega arith), ne-eqb (instanceRowOf h y + 2) 1 (λ q. omega arith), holds-own h x y (l y refl))
-    (by-same (sameInstance y x))
-  where
-    by-same : (b : Bool) → serves (cond b (held x) (held (another x))) taking new x ≡ (not taking && b)
-    by-same true = rw (instance-refl x)
-    by-same false = rw (another-differs x)
+      by-row : (b : Bool) → any (sameBytes (x .name)) (names h) ≡ b →
+          isHolder (rowOf h (y .name) + 2) (y .number) (cond b (At (rowOf h (x .name))) Nothing) (x .number) ≡ sameInstance y x
+      by-row true q =
+          rw (marks-alike (rowOf h (y .name)) (rowOf h (x .name)), one-row sameBytes same-eq same-refl (y .name) (x .name) (names h) listed q)
+          (by-name (sameBytes (y .name) (x .name)) refl)
+      by-row false q =
+          sym (is-false _ (λ r. clash _ (subst (λ (z : Instance). any (sameBytes (z .name)) (names h) ≡ true) (instance-true y x r) listed) q))
 
-pub serves-shown : (h : List Event) (x : Instance) (c : List ℕ) (taking new : Bool) →
-    serves (coreIn (coreMark h (coreAt c h)) (seek (sameInstance x) (instances h)) x) taking new x ≡ serves (coreAt c h) taking new x
-serves-shown h x c = serves-told h x (coreAt c h) (holder-listed c h)
+  -- whom a core serves
+  pub serves-shown : (c : List ℕ) (number : ℕ) → ((y : Instance) → coreAt c h ≡ held y → number ≡ y .number) → (taking new : Bool) →
+      serves (coreIn (coreMark h (coreAt c h)) number (seek (sameBytes (x .name)) (names h)) x) taking new x ≡ serves (coreAt c h) taking new x
+  unfolding coreIn
+  serves-shown c number told taking new = by-core (coreAt c h) refl
+    where
+      by-same : (b : Bool) → serves (cond b (held x) (held (another x))) taking new x ≡ (not taking && b)
+      by-same true = rw (instance-refl x)
+      by-same false = rw (another-differs x)
+
+      by-core : (k : Core) → coreAt c h ≡ k →
+          serves (coreIn (coreMark h k) number (seek (sameBytes (x .name)) (names h)) x) taking new x ≡ serves k taking new x
+      by-core unknown p = refl
+      by-core idle p = refl
+      by-core (held y) p =
+          rw (
+            ne-eqb (rowOf h (y .name) + 2) 0 (λ q. omega arith),
+            ne-eqb (rowOf h (y .name) + 2) 1 (λ q. omega arith),
+            told y p,
+            holds-own c y p,
+          )
+          (by-same (sameInstance y x))

@@ -10,16 +10,17 @@ use lib.ListN.{length}
 use Rattle.text.specs.Pieces.{pieces, ended}
 use Rattle.walk.specs.Lines.{wholeLines, linesOf}
 use Rattle.walk.proofs.Chunks.{whole-anew}
-use Rattle.rules.specs.Trace.{takenLines, verdictOn, Sound}
+use Rattle.rules.specs.Trace.{takenLines, refusalOn, verdictOn, Sound}
 use Rattle.rules.proofs.Traces.{nothing-kept, number-sound, Names, verdict-names-first, taken-sound}
-use Rattle.tables.specs.Range.{isSized, tableAnswer}
+use Rattle.tables.specs.Sized.{isSized}
+use Rattle.tables.specs.Range.{tableAnswer}
 use Rattle.judge.specs.Feed.{Tables, After, lined, fedLine, allLined, fedChunk, verdictIn, verdictOf, freshTables, judgedTrace}
 use Rattle.judge.proofs.Feeds.{allLined-append}
-use Rattle.promises.specs.Fed.{refusalOn, allFed, chunksFed, joined, AtLineEnds}
+use Rattle.promises.specs.Fed.{allFed, chunksFed, joined, AtLineEnds}
 use Rattle.promises.proofs.Traces.{Followed, followed}
 use Rattle.promises.proofs.Limits.{refusal-small, shows-valid}
 use Rattle.promises.proofs.Fresh.{fresh-shows}
-use Rattle.promises.proofs.Verdicts.{verdict-by-refusal, Tells, now-tells}
+use Rattle.promises.proofs.Verdicts.{Tells, now-tells}
 
 -- the tables after lines from a fresh start
 abbrev pub after-lines : List (List ℕ) → Tables
@@ -43,7 +44,8 @@ never-16 ls =
 -- ---- 1: demand 2, exactly
 
 pub lines-tell : (ls : List (List ℕ)) → Tells (verdictIn (after-lines ls .nums) (after-lines ls .ticks)) (verdictOn [] ls) (takenLines [] ls)
-lines-tell ls = rw (verdict-by-refusal ls []) (now-tells (takenLines [] ls) (taken-sound ls .kept) (after-lines ls) (refusalOn [] ls) (shows-taken ls))
+unfolding verdictOn
+lines-tell ls = now-tells (takenLines [] ls) (taken-sound ls .kept) (after-lines ls) (refusalOn [] ls) (shows-taken ls)
 
 -- a whole trace judged in tables of the right sizes, whatever they held
 module _ (t : Tables) (fits : isSized (length (t .names)) (length (t .nums)) (length (t .ticks)) ≡ true) (trace : List ℕ) where
@@ -57,7 +59,7 @@ module _ (t : Tables) (fits : isSized (length (t .names)) (length (t .nums)) (le
   pub judge-sound : (judgedTrace t trace .judged .number ≡ 0) ↔ Sound (reverse (linesOf trace))
   judge-sound = rw (ap (λ (p : ℕ × ℕ). p .0) (judged-tells .verdict)) (number-sound (linesOf trace))
 
-  pub judge-names-first : Names [] (linesOf trace) 1 (judgedTrace t trace .judged .number, judgedTrace t trace .judged .line) (takenLines [] (linesOf trace))
+  pub judge-names-first : Names (linesOf trace) (judgedTrace t trace .judged .number, judgedTrace t trace .judged .line) (takenLines [] (linesOf trace))
   judge-names-first = rw (judged-tells .verdict) (verdict-names-first (linesOf trace))
 
 -- ---- 5: however the lines come

@@ -1,4 +1,4 @@
--- The laws that tie the judge's tables to the history of the lines taken.
+-- The promises, `Demand1`, `Demand2` and `Demand3`, and the laws behind them, which tie the tables to the history of the lines taken.
 pub mod Places
 pub mod Grown
 pub mod Lookups
@@ -11,9 +11,12 @@ pub mod Bounds
 pub mod Ranges
 pub mod Columns
 pub mod Entries
+pub mod NameEntries
 pub mod Rows
+pub mod Ages
 pub mod Names
 pub mod Instances
+pub mod TickStores
 pub mod TickEntries
 pub mod Turns
 pub mod TickRows
@@ -33,5 +36,14 @@ pub mod Judged
 pub mod Demand2
 pub mod Numbers
 pub mod Refused
+pub mod Calls
+pub mod Demand1
+pub mod Figures
+pub mod ShownRows
+pub mod Balances
+pub mod Demand3
+pub mod Printed
+pub mod Reading
 pub mod Examples
 pub mod Tight
+pub mod TightSheet

@@ -13,17 +13,19 @@ use Rattle.words.specs.declared.scale.Scale.{Scale}
 use Rattle.line.specs.declared.event.Event.{Event as ReadEvent}
 use Rattle.line.specs.declared.reading.Reading.{Reading}
 use Rattle.line.specs.declared.reading.Reading.the-variants.{Version, Comment, TimeScale, Creator, CreationDate, EventLine, Refused}
-use Rattle.line.specs.Part.{fieldOf}
+use Rattle.fields.specs.Part.{fieldOf}
 use Rattle.line.specs.Reading.{readLine}
 use Rattle.line.specs.Condition.{isScale, refuses1, refuses3}
+use Rattle.bill.specs.Scale.{scaleNumber}
 use Rattle.rules.specs.declared.place.Place.{Place}
 use Rattle.rules.specs.Event.{Event}
 use Rattle.rules.specs.Verdict.{answer}
 use Rattle.rules.specs.Lines.{eventFrom, eventIn, eventOfLine, eventsOf}
-use Rattle.rules.specs.Trace.{scaleNumber, placeOf, tooMuch, parameterWrong, placeTests, answerInPlace, eventAnswer, answerAt, placed}
+use Rattle.rules.specs.Trace.{placeOf, tooMuch, parameterWrong, placeTests, answerInPlace, eventAnswer, answerAt}
+use Rattle.rules.specs.PlaceCode.{answerByReading}
 use Rattle.rules.proofs.Tests.{neither, clash}
 use Rattle.rules.proofs.Told.{Told, testsOf, toldBy, told-right}
-use Rattle.rules.proofs.Places.{place-none, placed-right, nextPlace, place-next}
+use Rattle.rules.proofs.Places.{place-none, by-reading-right, nextPlace, place-next}
 use Rattle.tables.specs.Entry.{numsSize, verdictNumber, verdictLine, lineCount, creatorEntry, dateEntry}
 use Rattle.tables.proofs.Stores.{same, other}
 use Rattle.judge.specs.Feed.{Tables, tables, After, after, placeIn, remembered, counted, eventLined, readLined, placedLine, lined}
@@ -37,17 +39,16 @@ module _ (p : Place) (l : List ℕ) (q : answerInPlace p l ≡ 0) where
   pub few-short : (p .lines < 1000000000) × (refuses1 l ≡ false)
   unfolding placeTests tooMuch
   few-short =
-      let n = neither (tooMuch p l) false (place-none p l .0 q 1) .0 in
-      let k = neither (leb 1000000000 (p .lines)) (refuses1 l) n in
+      let k = neither (leb 1000000000 (p .lines)) (refuses1 l) (place-none p l .0 q 1) in
       (leb-false 1000000000 (p .lines) (k .0), k .1)
 
   -- it is no unknown parameter
   known-sort : refuses3 l ≡ false
   unfolding placeTests parameterWrong
-  known-sort = neither (refuses3 l) _ (neither (parameterWrong p l) false (place-none p l .0 q 3) .0) .0
+  known-sort = neither (refuses3 l) _ (place-none p l .0 q 3) .0
 
-  refused-zero : (n : ℕ) → placed p (Refused n) ≡ 0 → n ≡ 0
-  unfolding placed
+  refused-zero : (n : ℕ) → answerByReading p (Refused n) ≡ 0 → n ≡ 0
+  unfolding answerByReading
   refused-zero n e = by-tests (leb 1000000000 (p .lines)) (eqb (p .lines) 0) (eqb n 1) (leb n 3) (eqb (p .scale) 0) e
     where
       by-tests : (a b d f g : Bool) → cond a 1 (cond b (cond d 1 2) (cond f n (cond g 4 n))) ≡ 0 → n ≡ 0
@@ -65,7 +66,7 @@ module _ (p : Place) (l : List ℕ) (q : answerInPlace p l ≡ 0) where
   pub not-refused : (n : ℕ) → readLine l ≡ Refused n → ⊥
   unfolding refuses3 testsOf
   not-refused n e =
-      let z = refused-zero n (ap (placed p) (sym e) ∙ placed-right p l ∙ q) in
+      let z = refused-zero n (ap (answerByReading p) (sym e) ∙ by-reading-right p l ∙ q) in
       let r : testsOf l ≡ toldBy (Refused 0) = told-right l (few-short .1) ∙ ap toldBy (e ∙ ap Refused z) in
       clash (refuses3 l) (ap noSort r) known-sort
 
@@ -279,5 +280,5 @@ module _ (h : List (List ℕ)) (t : Tables) (s : Shows h t) (l : List ℕ)
   pub line-outcome : verdictNumber (t .nums) ≡ 0 → LineOutcome h t l (lined t l)
   unfolding lined
   line-outcome v =
-      let p : placed (placeIn (t .nums)) (readLine l) ≡ answerInPlace (placeOf h) l = ap (λ (x : Place). placed x (readLine l)) (s .place) ∙ placed-right (placeOf h) l in
+      let p : answerByReading (placeIn (t .nums)) (readLine l) ≡ answerInPlace (placeOf h) l = ap (λ (x : Place). answerByReading x (readLine l)) (s .place) ∙ by-reading-right (placeOf h) l in
       rw (eq-eqb (verdictNumber (t .nums)) 0 v, p) (placed-outcome (answerInPlace (placeOf h) l) refl)

@@ -1,5 +1,5 @@
--- What is looked up in tables that show a history: a name's row and an instance's row are their places in the lists of the history, so an event
--- line finds in the tables what the history has. And the rows to which a line that is taken stores are the rows of the longer history.
+-- What is looked up in tables that show a history: a name's row is its place in the list of the names, and an instance's row is one that shows it, so
+-- an event line finds in the tables what the history has. And the rows of names to which a line that is taken stores are those of the longer history.
 use mathlib.Core.Path.{_≡_, refl, sym, ap, subst, _∙_}
 use mathlib.Core.Bool.{Bool, true, false, not, _&&_, cond}
 use mathlib.Core.Option.{some}
@@ -10,31 +10,32 @@ use lib.Dec.{eqb}
 use lib.ListN.{length}
 use borrow.Author.Tests.{lt-ltb}
 use Rattle.text.specs.Bytes.{sameBytes}
-use Rattle.text.proofs.Words.{same-eq, same-refl}
+use Rattle.text.proofs.Bools.{is-false}
 use Rattle.rules.specs.Lists.{any, oneIf}
 use Rattle.rules.specs.Event.{Event, Instance, sameInstance, instanceOf}
-use Rattle.rules.specs.Core.{onCore}
+use Rattle.rules.specs.Core.{onCore, coreClass}
 use Rattle.rules.specs.History.{hasInstances, isTracked, names, kindOf, instances}
 use Rattle.rules.specs.Refusals.{look, secondKind}
 use Rattle.rules.specs.Verdict.{Accepted}
 use Rattle.rules.proofs.Tests.{clash}
 use Rattle.rules.proofs.Answers.{all-fit}
+use Rattle.rules.proofs.CoreClasses.{class-on}
 use Rattle.rules.proofs.Tracked.{named-kind, target-is}
 use Rattle.tables.specs.declared.find.Found.{Found}
 use Rattle.tables.specs.declared.find.Found.the-variants.{At, Nothing}
-use Rattle.tables.specs.Entry.{nameCount, instanceCount, nameAt, ownerAt, instanceAt}
+use Rattle.tables.specs.Entry.{instanceRows, nameRows, nameCount, instanceCount, nameAt}
 use Rattle.tables.specs.Find.{firstFrom, lastBelow, rowIs, findName, instanceIs, findInstance}
 use Rattle.tables.proofs.Found.{first-at, first-none, last-at, last-none, name-found, instance-found, row-name, name-row, instance-means}
-use Rattle.decide.specs.Sight.{coreClass, lookIf, instanceIn, sightOf}
+use Rattle.decide.specs.Sight.{lookIf, instanceIn, sightOf}
 use Rattle.decide.specs.Known.{oneNew, newCore, newName, newInstance as newRow}
-use Rattle.decide.proofs.Classes.{class-on}
-use Rattle.store.specs.Store.{rowOr, coreRow, targetRow, instanceRow}
+use Rattle.decide.proofs.Plans.{own-number}
+use Rattle.store.specs.Store.{rowOr, coreRow, targetRow}
 use Rattle.judge.specs.Feed.{Tables}
-use Rattle.promises.specs.Places.{place, seek, rowOf, instanceRowOf}
-use Rattle.promises.specs.Shown.{Shown}
-use Rattle.promises.specs.Taken.{sightIn}
-use Rattle.promises.proofs.Places.{place-bound, place-one}
-use Rattle.promises.proofs.Grown.{newSource, newTarget, newInstance, instances-tracked, own-number, instance-row-stays, instance-row-new, name-kind, row-stays, source-row-new, target-row-new, name-at, instance-at, instance-kind, AllMet, name-size}
+use Rattle.promises.specs.Places.{place, seek, rowOf}
+use Rattle.promises.specs.Shown.{InstanceShown, Shown}
+use Rattle.promises.specs.Taken.{sightIn, InstanceFound}
+use Rattle.promises.proofs.Places.{place-bound}
+use Rattle.promises.proofs.Grown.{newSource, newTarget, newInstance, instances-tracked, name-kind, row-stays, source-row-new, target-row-new, name-at, instance-kind, one-instance, AllMet, name-size}
 
 -- ---- a search over rows, where the rows are the places of a list
 
@@ -61,17 +62,10 @@ module _ {A : Type 0} (f : ℕ → Bool) (g : A → Bool) (xs : List A)
       by-found (At i) q = let p = first-at f (length xs) i q in (p .0, p .1)
       by-found Nothing q = first-none f (length xs) q
 
-  last-sought : lastBelow f (length xs) ≡ seek g xs
-  last-sought = searched (lastBelow f (length xs)) (by-found (lastBelow f (length xs)) refl)
-    where
-      by-found : (r : Found) → lastBelow f (length xs) ≡ r → Searched r
-      by-found (At i) q = let p = last-at f (length xs) i q in (p .0, p .1)
-      by-found Nothing q = last-none f (length xs) q
-
 -- ---- the two look-ups
 
 module _ (h : List Event) (a : Accepted h) (m : AllMet h) (t : Tables) (s : Shown h t) where
-  row-bound : (n : List ℕ) → any (sameBytes n) (names h) ≡ true → rowOf h n < 256
+  row-bound : (n : List ℕ) → any (sameBytes n) (names h) ≡ true → rowOf h n < nameRows
   row-bound n q = omega (arith, place-bound (sameBytes n) (names h) q, all-fit h a .names-fit)
 
   pub found-name : (n : List ℕ) → findName (t .names) (t .nums) n ≡ seek (sameBytes n) (names h)
@@ -91,44 +85,35 @@ module _ (h : List Event) (a : Accepted h) (m : AllMet h) (t : Tables) (s : Show
           let e = s .each-name n q in
           name-row (t .names) (t .nums) n (rowOf h n) (s .names-size) (row-bound n q) (omega (arith, e .size, name-size h m n q .1)) (e .name)
 
-  pub found-instance : (x : Instance) → kindOf (x .name) h ≡ some (x .kind) → findInstance (t .nums) (rowOf h (x .name)) (x .number) ≡ seek (sameInstance x) (instances h)
+  -- some row that shows it, or nothing and the history lacks it
+  pub found-instance : (x : Instance) → kindOf (x .name) h ≡ some (x .kind) → InstanceFound h (t .nums) x (findInstance (t .nums) (rowOf h (x .name)) (x .number))
   found-instance x q =
-      instance-found (t .nums) (rowOf h (x .name)) (x .number) (s .nums-size)
-      ∙ ap (lastBelow (instanceIs (t .nums) (rowOf h (x .name)) (x .number))) (s .head .instances-counted)
-      ∙ last-sought (instanceIs (t .nums) (rowOf h (x .name)) (x .number)) (sameInstance x) (instances h) told there
+      rw (instance-found (t .nums) (rowOf h (x .name)) (x .number) (s .nums-size)) (by-found (lastBelow is (instanceCount (t .nums))) refl)
     where
-      -- an instance of the list that has the row of the name and the number is it
-      same : (y : Instance) → any (sameInstance y) (instances h) ≡ true → rowOf h (y .name) ≡ rowOf h (x .name) → y .number ≡ x .number → y ≡ x
-      same y b p o =
-          let v = instance-kind h a y b .1 in
-          let w : y .name ≡ x .name =
-          place-one sameBytes same-eq same-refl (y .name) (x .name) (names h) (named-kind h (y .name) (y .kind) v _ refl)
-          (named-kind h (x .name) (x .kind) q _ refl) p in
-          let u : y .kind ≡ x .kind = cc in
-          λ i. record { kind = u i; name = w i; number = o i }
+      is : ℕ → Bool
+      is = instanceIs (t .nums) (rowOf h (x .name)) (x .number)
 
-      told : (j : ℕ) → j < length (instances h) → instanceIs (t .nums) (rowOf h (x .name)) (x .number) j ≡ true →
-          (any (sameInstance x) (instances h) ≡ true) × (instanceRowOf h x ≡ j)
-      told j l c =
-          let r = instance-at h j l in
-          let p = instance-means (t .nums) (rowOf h (x .name)) (x .number) j .holds c in
-          let e = s .each-instance (r .0) (r .1) in
-          let w = same (r .0) (r .1) (sym (e .owner) ∙ ap (ownerAt (t .nums)) (r .2) ∙ p .1 .1) (sym (e .number) ∙ ap (instanceAt (t .nums)) (r .2) ∙ p .1 .0) in
-          subst (λ (z : Instance). (any (sameInstance z) (instances h) ≡ true) × (instanceRowOf h z ≡ j)) w (r .1, r .2)
-
-      there : any (sameInstance x) (instances h) ≡ true → instanceIs (t .nums) (rowOf h (x .name)) (x .number) (instanceRowOf h x) ≡ true
-      there b =
-          let e = s .each-instance x b in
-          instance-means (t .nums) (rowOf h (x .name)) (x .number) (instanceRowOf h x) .shows
-          (omega (arith, place-bound (sameInstance x) (instances h) b, all-fit h a .instances-fit), (e .number, e .owner))
+      by-found : (r : Found) → lastBelow is (instanceCount (t .nums)) ≡ r → InstanceFound h (t .nums) x r
+      by-found (At j) p =
+          let l = last-at is (instanceCount (t .nums)) j p in
+          let c = instance-means (t .nums) (rowOf h (x .name)) (x .number) j .holds (l .1) in
+          let r = s .instance-rows .owned j (l .0) in
+          let z = one-instance h (r .0) x (instance-kind h a (r .0) (r .1) .1) q (sym (r .2 .owner) ∙ c .1 .1) (sym (r .2 .number) ∙ c .1 .0) in
+          subst (λ (y : Instance). (any (sameInstance y) (instances h) ≡ true) × InstanceShown h (t .nums) j y) z (r .1, r .2)
+      by-found Nothing p =
+          is-false _ (λ b.
+          let r = s .instance-rows .each x b in
+          let small : r .0 < instanceRows = omega (arith, r .1 .below, s .head .instances-counted, all-fit h a .instances-fit) in
+          clash _ (instance-means (t .nums) (rowOf h (x .name)) (x .number) (r .0) .shows (small, (r .1 .number, r .1 .owner)))
+          (last-none is (instanceCount (t .nums)) p (r .0) (r .1 .below)))
 
   -- ---- what an event line finds
 
-  pub sight-source : (e : Event) → (sightOf (t .names) (t .nums) e) .source ≡ (sightIn h e) .source
+  pub sight-source : (e : Event) → (sightOf (t .names) (t .nums) e) .source ≡ (sightIn h t e) .source
   unfolding sightOf sightIn
   sight-source e = ap (lookIf (not (eqb (coreClass (e .kind) (e .word)) 0))) (found-name (e .source))
 
-  pub sight-target : (e : Event) → (sightOf (t .names) (t .nums) e) .target ≡ (sightIn h e) .target
+  pub sight-target : (e : Event) → (sightOf (t .names) (t .nums) e) .target ≡ (sightIn h t e) .target
   unfolding sightOf sightIn
   sight-target e = ap (lookIf (isTracked (e .kind))) (found-name (e .target))
 
@@ -141,33 +126,40 @@ module _ (h : List Event) (a : Accepted h) (m : AllMet h) (t : Tables) (s : Show
       by-test false b = refl
 
   -- the instance is looked up by the row of its name, and its name has one kind
-  sight-instance : (e : Event) → secondKind (look h e) e ≡ false → hasInstances (e .kind) ≡ true →
-      instanceIn (t .nums) true (seek (sameBytes (e .target)) (names h)) (e .targetInstance) ≡ seek (sameInstance (instanceOf e)) (instances h)
-  unfolding seek
-  sight-instance e k i = by-test (any (sameBytes (e .target)) (names h)) refl
+  pub sight-instance : (e : Event) → secondKind (look h e) e ≡ false → hasInstances (e .kind) ≡ true → InstanceFound h (t .nums) (instanceOf e) ((sightIn h t e) .instance)
+  unfolding seek sightIn
+  sight-instance e k i = rw (i, instances-tracked (e .kind) i) (by-test (any (sameBytes (e .target)) (names h)) refl)
     where
       by-test : (b : Bool) → any (sameBytes (e .target)) (names h) ≡ b →
-          instanceIn (t .nums) true (cond b (At (rowOf h (e .target))) Nothing) (e .targetInstance) ≡ seek (sameInstance (instanceOf e)) (instances h)
+          InstanceFound h (t .nums) (instanceOf e) (instanceIn (t .nums) true (cond b (At (rowOf h (e .target))) Nothing) (e .targetInstance))
       by-test true q =
           let w = name-kind h (e .target) q in
           let o : kindOf (e .target) h ≡ some (e .kind) = w .1 ∙ ap some (target-is h e k (instances-tracked (e .kind) i) (w .0) (w .1)) in
-          rw (lt-ltb (rowOf h (e .target)) 256 (row-bound (e .target) q))
-          (ap (findInstance (t .nums) (rowOf h (e .target))) (sym (own-number e i)) ∙ found-instance (instanceOf e) o)
-      by-test false q = rw (no-instance (instanceOf e) q)
+          rw (lt-ltb (rowOf h (e .target)) nameRows (row-bound (e .target) q))
+          (subst (λ (n : ℕ). InstanceFound h (t .nums) (instanceOf e) (findInstance (t .nums) (rowOf h (e .target)) n)) (own-number e i) (found-instance (instanceOf e) o))
+      by-test false q = no-instance (instanceOf e) q
 
-  pub sight-shown : (e : Event) → secondKind (look h e) e ≡ false → sightOf (t .names) (t .nums) e ≡ sightIn h e
+  pub sight-shown : (e : Event) → sightOf (t .names) (t .nums) e ≡ sightIn h t e
   unfolding sightOf sightIn
-  sight-shown e k = λ i. record { class = coreClass (e .kind) (e .word); source = sight-source e i; target = sight-target e i; instance = instance-same i }
+  sight-shown e = λ i. record {
+    class = coreClass (e .kind) (e .word);
+    source = sight-source e i;
+    target = sight-target e i;
+    instance = ap (λ (f : Found). instanceIn (t .nums) (hasInstances (e .kind)) f (e .targetInstance)) (sight-target e) i;
+  }
+
+  -- a row more is needed exactly for an instance that is new
+  pub new-instance : (e : Event) → secondKind (look h e) e ≡ false → newRow (sightIn h t e) (e .kind) ≡ oneIf (newInstance h e)
+  new-instance e k = by-test (hasInstances (e .kind)) refl
     where
-      instance-same : (sightOf (t .names) (t .nums) e) .instance ≡ (sightIn h e) .instance
-      instance-same =
-          ap (λ (f : Found). instanceIn (t .nums) (hasInstances (e .kind)) f (e .targetInstance)) (sight-target e) ∙ by-test (hasInstances (e .kind)) refl
-        where
-          by-test : (b : Bool) → hasInstances (e .kind) ≡ b →
-              instanceIn (t .nums) b (lookIf (isTracked (e .kind)) (seek (sameBytes (e .target)) (names h))) (e .targetInstance)
-              ≡ lookIf b (seek (sameInstance (instanceOf e)) (instances h))
-          by-test true q = rw (instances-tracked (e .kind) q) (sight-instance e k q)
-          by-test false q = refl
+      by-found : (r : Found) → InstanceFound h (t .nums) (instanceOf e) r → oneNew true r ≡ oneIf (not (any (sameInstance (instanceOf e)) (instances h)))
+      by-found (At j) p = rw (p .0)
+      by-found Nothing p = rw p
+
+      by-test : (b : Bool) → hasInstances (e .kind) ≡ b →
+          oneNew b ((sightIn h t e) .instance) ≡ oneIf (b && not (any (sameInstance (instanceOf e)) (instances h)))
+      by-test true i = by-found ((sightIn h t e) .instance) (sight-instance e k i)
+      by-test false i = refl
 
 -- ---- the rows of a line that is taken
 
@@ -190,40 +182,28 @@ module _ {A : Type 0} (g : A → Bool) (xs : List A) where
       by-test true = refl
       by-test false = refl
 
-module _ (h : List Event) (e : Event) where
-  pub new-core : newCore (sightIn h e) ≡ oneIf (newSource h e)
+module _ (h : List Event) (t : Tables) (e : Event) where
+  pub new-core : newCore (sightIn h t e) ≡ oneIf (newSource h e)
   unfolding sightIn
   new-core =
       sought-new (sameBytes (e .source)) (names h) (not (eqb (coreClass (e .kind) (e .word)) 0))
       ∙ ap (λ (b : Bool). oneIf (b && not (any (sameBytes (e .source)) (names h)))) (class-on e)
 
-  pub new-name : newName (sightIn h e) (e .kind) ≡ oneIf (newTarget h e)
+  pub new-name : newName (sightIn h t e) (e .kind) ≡ oneIf (newTarget h e)
   unfolding sightIn
   new-name = sought-new (sameBytes (e .target)) (names h) (isTracked (e .kind))
 
-  pub new-instance : newRow (sightIn h e) (e .kind) ≡ oneIf (newInstance h e)
-  unfolding sightIn
-  new-instance = sought-new (sameInstance (instanceOf e)) (instances h) (hasInstances (e .kind))
+module _ (h : List Event) (t : Tables) (s : Shown h t) (e : Event) (k : secondKind (look h e) e ≡ false) where
+  pub core-row : onCore e ≡ true → coreRow (t .nums) (sightIn h t e) ≡ rowOf (e ∷ h) (e .source)
+  unfolding coreRow sightIn
+  core-row o =
+      rw (class-on e, o)
+      (sought-row (sameBytes (e .source)) (names h) (nameCount (t .nums)) (rowOf (e ∷ h) (e .source)) (row-stays h e k (e .source))
+      (λ q. source-row-new h e k (rw (o, q)) ∙ sym (s .head .names-counted)))
 
-module _ (h : List Event) (t : Tables) (s : Shown h t) (e : Event) where
-  pub instance-row : hasInstances (e .kind) ≡ true → instanceRow (t .nums) (sightIn h e) ≡ instanceRowOf (e ∷ h) (instanceOf e)
-  unfolding instanceRow sightIn
-  instance-row i =
-      rw i
-      (sought-row (sameInstance (instanceOf e)) (instances h) (instanceCount (t .nums)) (instanceRowOf (e ∷ h) (instanceOf e)) (instance-row-stays h e (instanceOf e))
-      (λ q. instance-row-new h e (rw (i, q)) ∙ sym (s .head .instances-counted)))
-
-  module _ (k : secondKind (look h e) e ≡ false) where
-    pub core-row : onCore e ≡ true → coreRow (t .nums) (sightIn h e) ≡ rowOf (e ∷ h) (e .source)
-    unfolding coreRow sightIn
-    core-row o =
-        rw (class-on e, o)
-        (sought-row (sameBytes (e .source)) (names h) (nameCount (t .nums)) (rowOf (e ∷ h) (e .source)) (row-stays h e k (e .source))
-        (λ q. source-row-new h e k (rw (o, q)) ∙ sym (s .head .names-counted)))
-
-    pub target-row : isTracked (e .kind) ≡ true → targetRow (t .nums) (sightIn h e) ≡ rowOf (e ∷ h) (e .target)
-    unfolding targetRow sightIn
-    target-row i =
-        rw (new-core h e, i)
-        (sought-row (sameBytes (e .target)) (names h) (nameCount (t .nums) + oneIf (newSource h e)) (rowOf (e ∷ h) (e .target)) (row-stays h e k (e .target))
-        (λ q. target-row-new h e k (rw (i, q)) ∙ ap (λ (n : ℕ). n + oneIf (newSource h e)) (sym (s .head .names-counted))))
+  pub target-row : isTracked (e .kind) ≡ true → targetRow (t .nums) (sightIn h t e) ≡ rowOf (e ∷ h) (e .target)
+  unfolding targetRow sightIn
+  target-row i =
+      rw (new-core h t e, i)
+      (sought-row (sameBytes (e .target)) (names h) (nameCount (t .nums) + oneIf (newSource h e)) (rowOf (e ∷ h) (e .target)) (row-stays h e k (e .target))
+      (λ q. target-row-new h e k (rw (i, q)) ∙ ap (λ (n : ℕ). n + oneIf (newSource h e)) (sym (s .head .names-counted))))

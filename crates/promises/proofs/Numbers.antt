@@ -10,14 +10,16 @@ use lib.ListN.{length, set}
 use borrow.Author.Tests.{eqb-true}
 use Rattle.line.specs.declared.reading.Reading.{Reading}
 use Rattle.line.specs.declared.reading.Reading.the-variants.{Version, Comment, TimeScale, Creator, CreationDate, EventLine, Refused}
-use Rattle.line.specs.Part.{fieldOf}
+use Rattle.fields.specs.Part.{fieldOf}
 use Rattle.line.specs.Reading.{readLine}
-use Rattle.line.specs.Answer.{Test, lowest}
+use Rattle.bill.specs.Scale.{scaleNumber}
+use Rattle.rules.specs.Limits.{lastRefusal}
 use Rattle.rules.specs.declared.place.Place.{Place}
 use Rattle.rules.specs.Event.{Event}
-use Rattle.rules.specs.Trace.{placeTests, answerInPlace, scaleNumber, placed}
-use Rattle.rules.specs.Lawful.{Each}
-use Rattle.rules.proofs.Places.{placed-right}
+use Rattle.rules.specs.Trace.{placeTests, answerInPlace}
+use Rattle.rules.proofs.Places.{by-reading-right}
+use Rattle.line.proofs.Lowest.{lowest-has}
+use Rattle.rules.specs.PlaceCode.{answerByReading}
 use Rattle.tables.specs.Entry.{numsSize, verdictNumber}
 use Rattle.tables.proofs.Stores.{other}
 use Rattle.decide.specs.declared.happening.Happening.{Happening}
@@ -26,60 +28,51 @@ use Rattle.decide.specs.declared.plan.Plan.the-variants.{Refuse, Take}
 use Rattle.decide.specs.Happening.{happeningOf, asEvent}
 use Rattle.decide.specs.Decide.{planAnswer, planOf}
 use Rattle.decide.proofs.Decided.{plan-refuses}
-use Rattle.judge.specs.Feed.{Tables, tables, After, after, placeIn, remembered, counted, carried, eventLined, readLined, placedLine, lined, allLined}
+use Rattle.judge.specs.Feed.{Tables, After, after, placeIn, remembered, counted, carried, eventLined, readLined, placedLine, lined, allLined}
 use Rattle.judge.proofs.Feeds.{lined-alike}
 use Rattle.promises.proofs.Entries.{verdict-number-kept}
 use Rattle.promises.proofs.Traces.{remembered-number}
 
 -- ---- 0 to 7 for a line in its place, and 8 to 14 for its event
 
--- what holds of 0 and of the number of each test holds of the lowest that applies
-pub lowest-has : (P : ℕ → Type 0) (ts : List Test) → P 0 → Each (λ t. P (t .number)) ts → P (lowest ts)
-lowest-has P [] z f = z
-lowest-has P (t ∷ ts) z f = by-test (t .applies) (lowest-has P ts z (f .1))
-  where
-    by-test : (b : Bool) → P (lowest ts) → P (cond b (t .number) (lowest ts))
-    by-test true r = f .0
-    by-test false r = r
-
-placed-most : (p : Place) (l : List ℕ) → placed p (readLine l) ≤ 7
+by-reading-most : (p : Place) (l : List ℕ) → answerByReading p (readLine l) ≤ 7
 unfolding answerInPlace placeTests
-placed-most p l = rw (placed-right p l) (lowest-has (λ n. n ≤ 7) (placeTests p l) (omega arith) (omega arith))
+by-reading-most p l = rw (by-reading-right p l) (lowest-has (λ n. n ≤ 7) (placeTests p l) (omega arith) (omega arith))
 
-plan-most : (names nums ticks : List ℕ) (e : Event) → planAnswer (planOf names nums ticks e) ≤ 14
+plan-most : (names nums ticks : List ℕ) (e : Event) → planAnswer (planOf names nums ticks e) ≤ lastRefusal
 plan-most names nums ticks e = by-number (planAnswer (planOf names nums ticks e)) (plan-refuses names nums ticks e)
   where
-    by-number : (n : ℕ) → (1 ≤ n → (8 ≤ n) × (n ≤ 14)) → n ≤ 14
+    by-number : (n : ℕ) → (1 ≤ n → (8 ≤ n) × (n ≤ lastRefusal)) → n ≤ lastRefusal
     by-number zero f = omega arith
     by-number (suc n) f = f (omega arith) .1
 
 -- ---- one line
 
 -- the answer is at most 14, and it is remembered: 0 stands for no refusal
-pub record Numbered (x : After) : Type 0 where
-  pub most : x .answer ≤ 14
+pub record AnswerKept (x : After) : Type 0 where
+  pub most : x .answer ≤ lastRefusal
   pub kept : verdictNumber (x .left .nums) ≡ x .answer
 
 module _ (t : Tables) (z : length (t .nums) ≡ numsSize) where
-  refusal-numbered : (n : ℕ) → n ≤ 14 → Numbered (after n (t .names) (remembered (t .nums) n) (t .ticks))
+  refusal-numbered : (n : ℕ) → n ≤ lastRefusal → AnswerKept (after n (t .names) (remembered (t .nums) n) (t .ticks))
   refusal-numbered n m = record { most = m; kept = remembered-number (t .nums) n z }
 
   module _ (v : verdictNumber (t .nums) ≡ 0) where
     -- the line is counted, and an entry past the verdict's may be stored before
-    count-numbered : (nums : List ℕ) → verdictNumber nums ≡ 0 → Numbered (after 0 (t .names) (counted nums) (t .ticks))
+    count-numbered : (nums : List ℕ) → verdictNumber nums ≡ 0 → AnswerKept (after 0 (t .names) (counted nums) (t .ticks))
     unfolding counted
     count-numbered nums e = record { most = omega arith; kept = other nums 2 0 _ (λ q. omega arith) ∙ e }
 
     stored : (i n : ℕ) → 1 ≤ i → verdictNumber (set (t .nums) i n) ≡ 0
     stored i n h = other (t .nums) i 0 n (λ q. omega arith) ∙ v
 
-    carried-numbered : (p : Plan) → planAnswer p ≤ 14 → (w : Happening) (source target : List ℕ) → Numbered (carried p t w source target)
+    carried-numbered : (p : Plan) → planAnswer p ≤ lastRefusal → (w : Happening) (source target : List ℕ) → AnswerKept (carried p t w source target)
     unfolding planAnswer
     carried-numbered (Refuse n) m w source target = refusal-numbered n m
     carried-numbered (Take s state) m w source target =
         record { most = omega arith; kept = verdict-number-kept (t .nums) z s state w (length source) (length target) ∙ v }
 
-    read-numbered : (r : Reading) (l : List ℕ) → Numbered (readLined r t l)
+    read-numbered : (r : Reading) (l : List ℕ) → AnswerKept (readLined r t l)
     unfolding eventLined
     read-numbered Version l = count-numbered (t .nums) v
     read-numbered Comment l = count-numbered (t .nums) v
@@ -92,12 +85,12 @@ module _ (t : Tables) (z : length (t .nums) ≡ numsSize) where
         carried-numbered (planOf (t .names) (t .nums) (t .ticks) event) (plan-most (t .names) (t .nums) (t .ticks) event) w (fieldOf l 2) (fieldOf l 5)
     read-numbered (Refused n) l = record { most = omega arith; kept = v }
 
-    placed-numbered : (n : ℕ) → n ≤ 7 → (l : List ℕ) → Numbered (placedLine n t l)
+    placed-numbered : (n : ℕ) → n ≤ 7 → (l : List ℕ) → AnswerKept (placedLine n t l)
     unfolding placedLine
     placed-numbered zero m l = read-numbered (readLine l) l
     placed-numbered (suc n) m l = refusal-numbered (suc n) (omega arith)
 
-  pub lined-numbered : verdictNumber (t .nums) ≤ 14 → (l : List ℕ) → Numbered (lined t l)
+  pub lined-numbered : verdictNumber (t .nums) ≤ lastRefusal → (l : List ℕ) → AnswerKept (lined t l)
   unfolding lined
   lined-numbered m l = by-verdict (eqb (verdictNumber (t .nums)) 0) refl
     where
@@ -105,13 +98,13 @@ module _ (t : Tables) (z : length (t .nums) ≡ numsSize) where
       p = placeIn (t .nums)
 
       by-verdict : (b : Bool) → eqb (verdictNumber (t .nums)) 0 ≡ b →
-          Numbered (cond b (placedLine (placed p (readLine l)) t l) (after (verdictNumber (t .nums)) (t .names) (t .nums) (t .ticks)))
-      by-verdict true q = placed-numbered (eqb-true (verdictNumber (t .nums)) 0 q) (placed p (readLine l)) (placed-most p l) l
+          AnswerKept (cond b (placedLine (answerByReading p (readLine l)) t l) (after (verdictNumber (t .nums)) (t .names) (t .nums) (t .ticks)))
+      by-verdict true q = placed-numbered (eqb-true (verdictNumber (t .nums)) 0 q) (answerByReading p (readLine l)) (by-reading-most p l) l
       by-verdict false q = record { most = m; kept = refl }
 
 -- ---- many lines
 
-pub lines-most : (t : Tables) → length (t .nums) ≡ numsSize → verdictNumber (t .nums) ≤ 14 → (ls : List (List ℕ)) → verdictNumber (allLined t ls .nums) ≤ 14
+pub lines-most : (t : Tables) → length (t .nums) ≡ numsSize → verdictNumber (t .nums) ≤ lastRefusal → (ls : List (List ℕ)) → verdictNumber (allLined t ls .nums) ≤ lastRefusal
 unfolding allLined
 lines-most t z m [] = m
 lines-most t z m (l ∷ ls) =

@@ -5,7 +5,9 @@ use mathlib.Core.Bool.{Bool, true, false, not, _&&_, _||_, cond}
 use mathlib.Core.List.{List, [], _∷_, _++_, append-nil, append-assoc}
 use Prim.Native.Nat.{ℕ, zero, suc, _+_, _<_}
 use native.Mathlib.Omega.{arith}
+use lib.Dec.{eqb}
 use lib.ListN.{length}
+use borrow.Author.Tests.{eq-eqb, ne-eqb}
 use Rattle.rules.specs.Lists.{any, only, keep, addUnless, addNew, addAll}
 use Rattle.rules.proofs.Tests.{both, neither, clash}
 use Rattle.rules.proofs.Sums.{any-new, other-way}
@@ -63,6 +65,14 @@ module _ {A : Type 0} (eq : A → A → Bool) (eq-true : (x y : A) → eq x y �
       by-tests true t false u p q e r = absurd (omega arith)
       by-tests false t true u p q e r = absurd (omega arith)
       by-tests false t false u p q e r = r p q (omega arith)
+
+  -- so two places are one exactly if they are of one element
+  pub one-row : (x y : A) (xs : List A) → any (eq x) xs ≡ true → any (eq y) xs ≡ true → eqb (place (eq x) xs) (place (eq y) xs) ≡ eq x y
+  one-row x y xs p q = by-test (eq x y) refl
+    where
+      by-test : (b : Bool) → eq x y ≡ b → eqb (place (eq x) xs) (place (eq y) xs) ≡ b
+      by-test true t = eq-eqb _ _ (ap (λ (z : A). place (eq z) xs) (eq-true x y t))
+      by-test false t = ne-eqb _ _ (λ r. clash (eq x y) (subst (λ (z : A). eq x z ≡ true) (place-one x y xs p q r) (eq-refl x)) t)
 
   -- a list that grows by one element, and by two that differ, where it lacks them
   one-more : (xs : List A) (x : A) → addNew eq xs x ≡ xs ++ keep (not (any (eq x) xs)) x []

@@ -12,11 +12,12 @@ use Rattle.text.proofs.Names.{name-length}
 use Rattle.line.specs.Event.{maxTime}
 use Rattle.rules.specs.Lists.{any}
 use Rattle.rules.specs.Words.{core, semaphore}
+use Rattle.rules.specs.Limits.{lastRefusal}
 use Rattle.rules.specs.Chart.{isStateOf}
 use Rattle.rules.specs.Charts.{chartOf}
 use Rattle.rules.specs.Event.{Event, Instance, sameInstance, wordsOf}
 use Rattle.rules.specs.Core.{Core, unknown, idle, held, coreAt}
-use Rattle.rules.specs.History.{hasInstances, names, instances, kindOf}
+use Rattle.rules.specs.History.{names, instances, kindOf}
 use Rattle.rules.specs.Refusals.{unseen}
 use Rattle.rules.specs.Rows.{opened}
 use Rattle.rules.specs.Verdict.{Accepted}
@@ -27,49 +28,36 @@ use Rattle.rules.proofs.Tracked.{named-kind}
 use Rattle.rules.proofs.Totals.{core-total}
 use Rattle.rules.proofs.Charges.{charge-at-most}
 use Rattle.rules.proofs.Alone.{alone}
-use Rattle.tables.specs.Entry.{verdictNumber, verdictLine, lineCount, scaleEntry, creatorEntry, dateEntry, nameCount, instanceCount}
+use Rattle.tables.specs.Entry.{verdictNumber, verdictLine, lineCount, scaleEntry, creatorEntry, dateEntry, nameCount}
 use Rattle.tables.specs.Entry.{kindAt, markAt, ownerAt, stateAt, heldAt, idleAt, unknownAt, sinceAt, lastTime}
 use Rattle.tables.specs.Range.{holderOk, coreOk, markOk, maxSum}
 use Rattle.tables.proofs.Valid.{NameRow, InstanceRow, Valid}
 use Rattle.judge.specs.Feed.{Tables}
-use Rattle.promises.specs.Places.{rowOf, instanceRowOf}
-use Rattle.promises.specs.Shown.{Shown, NameShown, coreMark, theSemaphore}
+use Rattle.promises.specs.Places.{rowOf}
+use Rattle.promises.specs.Shown.{Shown, NameShown, InstanceShown, coreMark, theSemaphore}
 use Rattle.promises.proofs.Places.{place-bound}
-use Rattle.promises.proofs.Grown.{AllMet, name-kind, name-at, instance-at, instance-kind, core-known, named-well}
+use Rattle.promises.proofs.Grown.{AllMet, name-kind, name-at, instance-kind, core-known, named-well}
 use Rattle.promises.proofs.Told.{all-worded}
-use Rattle.promises.proofs.Holders.{holder-listed}
+use Rattle.promises.proofs.Turns.{holder-kind}
 use Rattle.promises.proofs.Bounds.{stored-state, started-one, first-last, last-most, span-most}
 
 -- ---- names
 
 module _ (h : List Event) (a : Accepted h) (met : AllMet h) (t : Tables) (s : Shown h t) where
-  -- the name that an instance belongs to is there and of the instance's kind
-  record Owned (x : Instance) : Type 0 where
-    there : ownerAt (t .nums) (instanceRowOf h x) < nameCount (t .nums)
-    kind : kindAt (t .nums) (ownerAt (t .nums) (instanceRowOf h x)) ≡ x .kind
-    has-instances : hasInstances (x .kind) ≡ true
-
-  owned : (x : Instance) → any (sameInstance x) (instances h) ≡ true → Owned x
-  owned x q =
-      let owner = s .each-instance x q .owner in
-      let k = instance-kind h a x q in
-      let listed = named-kind h (x .name) (x .kind) (k .1) _ refl in
-      record {
-        there = omega (arith, owner, s .head .names-counted, place-bound (sameBytes (x .name)) (names h) listed);
-        kind = rw owner (let n = s .each-name (x .name) listed .kind in cc (k .1));
-        has-instances = k .0;
-      }
+  -- the row of a name that has a kind is there and has that kind
+  name-of : (n : List ℕ) (k : ℕ) → kindOf n h ≡ some k → (rowOf h n < nameCount (t .nums)) × (kindAt (t .nums) (rowOf h n) ≡ k)
+  name-of n k q =
+      let listed = named-kind h n k q _ refl in
+      (omega (arith, s .head .names-counted, place-bound (sameBytes n) (names h) listed), let r = s .each-name n listed .kind in cc)
 
   core-ok : (n : List ℕ) (c : Core) → coreAt n h ≡ c → (c ≡ unknown → ⊥) → coreOk (t .nums) (coreMark h c) ≡ true
   unfolding coreOk holderOk
   core-ok n unknown p k = absurd (k refl)
   core-ok n idle p k = refl
   core-ok n (held x) p k =
-      let q = holder-listed n h x p in
-      let o = owned x q in
-      let row : (instanceRowOf h x + 2) - 2 ≡ instanceRowOf h x = omega arith in
-      let below : instanceRowOf h x < instanceCount (t .nums) = omega (arith, s .head .instances-counted, place-bound (sameInstance x) (instances h) q) in
-      rw (le-ltb (instanceRowOf h x + 2) 2 (omega arith), row, lt-ltb _ _ below, lt-ltb _ _ (o .there), o .kind, alone h a .holder-occupies n x p .0)
+      let o = name-of (x .name) (x .kind) (holder-kind h a n x p) in
+      let row : (rowOf h (x .name) + 2) - 2 ≡ rowOf h (x .name) = omega arith in
+      rw (le-ltb (rowOf h (x .name) + 2) 2 (omega arith), row, lt-ltb _ _ (o .0), o .1, alone h a .holder-occupies n x p .0)
 
   mark-ok : (n : List ℕ) → any (sameBytes n) (names h) ≡ true → markOk (t .nums) (kindAt (t .nums) (rowOf h n)) (markAt (t .nums) (rowOf h n)) ≡ true
   unfolding markOk
@@ -150,16 +138,17 @@ module _ (h : List Event) (a : Accepted h) (met : AllMet h) (t : Tables) (s : Sh
         since = u .since-most;
       }
 
-  instance-row : (x : Instance) → any (sameInstance x) (instances h) ≡ true → InstanceRow (t .nums) (instanceRowOf h x)
-  instance-row x q =
-      let r = s .each-instance x q in
-      let o = owned x q in
-      let state = stateAt (t .nums) (instanceRowOf h x) in
-      let seen = not-none state (ap unseen (r .state) ∙ first-seen h (all-worded h met) x (o .has-instances) ∙ ap not q) in
+  instance-row : (j : ℕ) (x : Instance) → any (sameInstance x) (instances h) ≡ true → InstanceShown h (t .nums) j x → InstanceRow (t .nums) j
+  instance-row j x q r =
+      let k = instance-kind h a x q in
+      let o = name-of (x .name) (x .kind) (k .1) in
+      let kind : kindAt (t .nums) (ownerAt (t .nums) j) ≡ x .kind = rw (r .owner) (o .1) in
+      let state = stateAt (t .nums) j in
+      let seen = not-none state (ap unseen (r .state) ∙ first-seen h (all-worded h met) x (k .0) ∙ ap not q) in
       record {
-        owner = o .there;
-        owner-kind = rw (o .kind) (o .has-instances);
-        state = rw (o .kind) (rw seen at (stored-state (chartOf (x .kind)) (wordsOf x h) state (r .state)));
+        owner = rw (r .owner) (o .0);
+        owner-kind = rw kind (k .0);
+        state = rw kind (rw seen at (stored-state (chartOf (x .kind)) (wordsOf x h) state (r .state)));
       }
     where
       not-none : (n : ℕ) → unseen (opened n) ≡ false → eqb n 0 ≡ false
@@ -168,7 +157,7 @@ module _ (h : List Event) (a : Accepted h) (met : AllMet h) (t : Tables) (s : Sh
 
   -- ---- the tables
 
-  pub in-range : verdictNumber (t .nums) ≤ 14 → verdictLine (t .nums) ≤ 1000000001 → lineCount (t .nums) ≤ 1000000000 → scaleEntry (t .nums) ≤ 5 →
+  pub in-range : verdictNumber (t .nums) ≤ lastRefusal → verdictLine (t .nums) ≤ 1000000001 → lineCount (t .nums) ≤ 1000000000 → scaleEntry (t .nums) ≤ 5 →
       creatorEntry (t .nums) ≤ 1 → dateEntry (t .nums) ≤ 1 → Valid (t .names) (t .nums) (t .ticks)
   in-range v l c sc cr d =
       let fit = all-fit h a in
@@ -190,7 +179,5 @@ module _ (h : List Event) (a : Accepted h) (met : AllMet h) (t : Tables) (s : Sh
         name-row = λ i b.
             let n = name-at h i (omega (arith, b, counts .names-counted)) in
             subst (NameRow (t .names) (t .nums) (t .ticks)) (n .2) (name-row (n .0) (n .1));
-        instance-row = λ j b.
-            let x = instance-at h j (omega (arith, b, counts .instances-counted)) in
-            subst (InstanceRow (t .nums)) (x .2) (instance-row (x .0) (x .1));
+        instance-row = λ j b. let r = s .instance-rows .owned j b in instance-row j (r .0) (r .1) (r .2);
       }

@@ -10,10 +10,12 @@ use lib.ListN.{length}
 use Rattle.text.proofs.Tight.{unique}
 use Rattle.line.specs.declared.reading.Reading.{Reading}
 use Rattle.line.specs.declared.reading.Reading.the-variants.{Version, Comment, TimeScale, Creator, CreationDate, EventLine, Refused}
-use Rattle.line.specs.Part.{fieldOf}
+use Rattle.fields.specs.Part.{fieldOf}
 use Rattle.line.specs.Reading.{readLine}
+use Rattle.bill.specs.declared.verdict.Verdict.{Verdict}
+use Rattle.rules.specs.Limits.{lastRefusal}
 use Rattle.rules.specs.Lists.{ifZero}
-use Rattle.rules.specs.Trace.{placed}
+use Rattle.rules.specs.PlaceCode.{answerByReading}
 use Rattle.tables.specs.Entry.{numsSize, verdictNumber}
 use Rattle.tables.specs.Range.{tableAnswer}
 use Rattle.tables.specs.Fresh.{Cleared, clearedOf}
@@ -22,7 +24,6 @@ use Rattle.decide.specs.declared.plan.Plan.{Plan}
 use Rattle.decide.specs.declared.plan.Plan.the-variants.{Refuse, Take}
 use Rattle.decide.specs.Happening.{happeningOf, asEvent}
 use Rattle.decide.specs.Decide.{planOf}
-use Rattle.judge.specs.declared.feed.Verdict.{Verdict}
 use Rattle.judge.specs.Feed.{Tables, tables, After, after, placeIn, remembered, carried, eventLined, readLined, placedLine, lined, allLined, fedLine, AfterChunk, fedChunk, verdict, verdictOf, AfterTrace, judgedTrace}
 use Rattle.judge.proofs.Feeds.{lined-alike, verdict-again}
 use Rattle.promises.proofs.Heads.{AgreeFrom}
@@ -74,8 +75,8 @@ module _ (t : Tables) where
   lined-spares l = by-verdict (eqb (verdictNumber (t .nums)) 0)
     where
       by-verdict : (b : Bool) →
-          Spares t (cond b (placedLine (placed (placeIn (t .nums)) (readLine l)) t l) (after (verdictNumber (t .nums)) (t .names) (t .nums) (t .ticks)))
-      by-verdict true = placed-spares (placed (placeIn (t .nums)) (readLine l)) l
+          Spares t (cond b (placedLine (answerByReading (placeIn (t .nums)) (readLine l)) t l) (after (verdictNumber (t .nums)) (t .names) (t .nums) (t .ticks)))
+      by-verdict true = placed-spares (answerByReading (placeIn (t .nums)) (readLine l)) l
       by-verdict false = λ n. unchanged t
 
   pub refused-spares : (l : List ℕ) → Spares t (fedLine t l)
@@ -109,7 +110,7 @@ pub record StopsAfter (t : Tables) (ls : List (List ℕ)) : Type 0 where
   pub all-taken : AllTaken t taken
   pub spares : OnlyVerdict (allLined t taken) (allLined t ls)
 
-pub lines-spare : (t : Tables) → length (t .nums) ≡ numsSize → verdictNumber (t .nums) ≤ 14 → (ls : List (List ℕ)) → StopsAfter t ls
+pub lines-spare : (t : Tables) → length (t .nums) ≡ numsSize → verdictNumber (t .nums) ≤ lastRefusal → (ls : List (List ℕ)) → StopsAfter t ls
 unfolding allLined
 lines-spare t z m [] = record { taken = []; rest = []; splits = refl; all-taken = tt; spares = unchanged t }
 lines-spare t z m (l ∷ ls) =

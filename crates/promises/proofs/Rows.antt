@@ -1,57 +1,45 @@
--- The rows to which a line that is taken stores, by name and by instance: a test on rows is a test on names or on instances. So each entry of the row of a
--- name, and of an instance, is told by the history alone and by what the entry was before.
-use mathlib.Core.Path.{_≡_, refl, sym, ap, subst, _∙_}
+-- The rows of names to which a line that is taken stores: a test on rows is a test on names. So each entry of the row of a name is told by the history
+-- alone and by what the entry was before.
+use mathlib.Core.Path.{_≡_, refl, sym, ap, _∙_}
 use mathlib.Core.Bool.{Bool, true, false, not, _&&_, _||_, cond}
 use mathlib.Core.List.{List, _∷_}
 use Prim.Native.Nat.{ℕ, _+_, _<_}
 use native.Mathlib.Omega.{arith}
 use lib.Dec.{eqb}
 use lib.ListN.{length}
-use borrow.Author.Tests.{eq-eqb, ne-eqb}
 use Rattle.text.specs.Bytes.{sameBytes}
 use Rattle.text.proofs.Words.{same-eq, same-refl}
 use Rattle.rules.specs.Lists.{any, oneIf}
 use Rattle.rules.specs.Words.{core, semaphore}
 use Rattle.rules.specs.Charts.{isProcess}
-use Rattle.rules.specs.Event.{Event, Instance, sameInstance, instanceOf}
-use Rattle.rules.specs.Core.{takes, gives, keeps, onCore, on}
-use Rattle.rules.specs.History.{hasInstances, isTracked, names, instances, activates}
+use Rattle.rules.specs.Event.{Event}
+use Rattle.rules.specs.Core.{takes, gives, keeps, onCore, coreClass, on}
+use Rattle.rules.specs.History.{isTracked, names, activates}
 use Rattle.rules.specs.Lawful.{Fits}
-use Rattle.rules.proofs.Tests.{both, clash, instance-true, instance-refl}
+use Rattle.rules.proofs.Tests.{both, clash}
 use Rattle.rules.proofs.Answers.{Passed, room-fits}
 use Rattle.rules.proofs.CoreWords.{on-process, gives-only}
-use Rattle.tables.specs.Entry.{kindAt, markAt, numberAt, numberedAt, ownerAt, instanceAt, stateAt}
+use Rattle.tables.specs.Entry.{nameRows, kindAt, markAt, numberAt, numberedAt}
+use Rattle.rules.proofs.CoreClasses.{class-on}
 use Rattle.decide.specs.declared.happening.Happening.{Happening}
 use Rattle.decide.specs.Happening.{asEvent}
-use Rattle.decide.specs.Sight.{coreClass}
-use Rattle.decide.proofs.Classes.{class-on}
-use Rattle.store.specs.Store.{coreRow, targetRow, instanceRow, takenNums}
+use Rattle.store.specs.Store.{coreRow, targetRow, takenNums}
+use Rattle.rules.proofs.Tracked.{process-tracked}
 use Rattle.judge.specs.Feed.{Tables}
-use Rattle.promises.specs.Places.{place, rowOf, instanceRowOf}
+use Rattle.promises.specs.Places.{rowOf}
 use Rattle.promises.specs.Shown.{Shown}
 use Rattle.promises.specs.Taken.{sightIn}
-use Rattle.promises.proofs.Places.{place-bound, place-one}
-use Rattle.promises.proofs.Grown.{newSource, newTarget, instances-tracked, source-named, target-named, instance-listed, source-row-new}
-use Rattle.promises.proofs.Lookups.{new-core, new-name, instance-row, core-row, target-row}
-use Rattle.promises.proofs.Untold.{process-instances, semaphore-tracked, activates-instances}
+use Rattle.promises.proofs.Places.{place-bound, one-row}
+use Rattle.promises.proofs.Grown.{newSource, newTarget, instances-tracked, source-named, target-named, source-row-new}
+use Rattle.promises.proofs.Lookups.{new-core, new-name, core-row, target-row}
+use Rattle.promises.proofs.Untold.{semaphore-tracked, activates-instances}
 use Rattle.promises.proofs.Columns.{isNewCore, isNewTarget}
-use Rattle.promises.proofs.Entries.{orNone, isInstance, kind-taken, mark-taken, number-taken, numbered-taken, owner-taken, instance-taken, state-taken}
+use Rattle.promises.proofs.Entries.{orNone, kind-taken, mark-taken, number-taken, numbered-taken}
 
 -- ---- the lists of the longer history fit
 
 pub room : (h : List Event) (e : Event) → Passed h e → Fits (e ∷ h)
 room h e f = room-fits h e (f .room)
-
--- ---- two rows are one exactly if they are of one element
-
-module _ {A : Type 0} (eq : A → A → Bool) (eq-true : (x y : A) → eq x y ≡ true → x ≡ y) (eq-refl : (x : A) → eq x x ≡ true) where
-  one-row : (x y : A) (xs : List A) → any (eq x) xs ≡ true → any (eq y) xs ≡ true → eqb (place (eq x) xs) (place (eq y) xs) ≡ eq x y
-  one-row x y xs p q = by-test (eq x y) refl
-    where
-      by-test : (b : Bool) → eq x y ≡ b → eqb (place (eq x) xs) (place (eq y) xs) ≡ b
-      by-test true t = eq-eqb _ _ (ap (λ (z : A). place (eq z) xs) (eq-true x y t))
-      by-test false t =
-          ne-eqb _ _ (λ r. clash (eq x y) (subst (λ (z : A). eq x z ≡ true) (place-one eq eq-true eq-refl x y xs p q r) (eq-refl x)) t)
 
 -- a row matters only where a test passes
 where-true : (b x y : Bool) → (b ≡ true → x ≡ y) → b && x ≡ b && y
@@ -75,20 +63,17 @@ class-gives e o = by-test (isProcess (e .kind)) (takes (e .word)) refl (gives (e
 -- ---- the rows of a line
 
 module _ (h : List Event) (t : Tables) (s : Shown h t) (e : Event) (f : Passed h e) where
-  pub row-bound : (n : List ℕ) → any (sameBytes n) (names (e ∷ h)) ≡ true → rowOf (e ∷ h) n < 256
+  pub row-bound : (n : List ℕ) → any (sameBytes n) (names (e ∷ h)) ≡ true → rowOf (e ∷ h) n < nameRows
   row-bound n q = omega (arith, place-bound (sameBytes n) (names (e ∷ h)) q, room h e f .names-fit)
 
-  instance-bound : (x : Instance) → any (sameInstance x) (instances (e ∷ h)) ≡ true → instanceRowOf (e ∷ h) x < 1024
-  instance-bound x q = omega (arith, place-bound (sameInstance x) (instances (e ∷ h)) q, room h e f .instances-fit)
-
   module _ (n : List ℕ) (q : any (sameBytes n) (names (e ∷ h)) ≡ true) where
-    at-target : (b : Bool) → (b ≡ true → isTracked (e .kind) ≡ true) → b && eqb (rowOf (e ∷ h) n) (targetRow (t .nums) (sightIn h e)) ≡ b && sameBytes n (e .target)
+    at-target : (b : Bool) → (b ≡ true → isTracked (e .kind) ≡ true) → b && eqb (rowOf (e ∷ h) n) (targetRow (t .nums) (sightIn h t e)) ≡ b && sameBytes n (e .target)
     at-target b k =
         where-true b _ _
         (λ u. ap (eqb (rowOf (e ∷ h) n)) (target-row h t s e (f .kinds) (k u))
         ∙ one-row sameBytes same-eq same-refl n (e .target) (names (e ∷ h)) q (target-named h e (k u)))
 
-    at-core : not (eqb (coreClass (e .kind) (e .word)) 0) && eqb (rowOf (e ∷ h) n) (coreRow (t .nums) (sightIn h e)) ≡ on n e
+    at-core : not (eqb (coreClass (e .kind) (e .word)) 0) && eqb (rowOf (e ∷ h) n) (coreRow (t .nums) (sightIn h t e)) ≡ on n e
     at-core =
         rw (class-on e)
         (where-true (onCore e) _ _
@@ -100,22 +85,15 @@ module _ (h : List Event) (t : Tables) (s : Shown h t) (e : Event) (f : Passed h
     is-one false = refl
 
     -- the name is new as the line's source, as its target
-    pub at-new-core : isNewCore (t .nums) (sightIn h e) (rowOf (e ∷ h) n) ≡ newSource h e && sameBytes n (e .source)
+    pub at-new-core : isNewCore (t .nums) (sightIn h t e) (rowOf (e ∷ h) n) ≡ newSource h e && sameBytes n (e .source)
     at-new-core =
-        rw (new-core h e, is-one (newSource h e))
+        rw (new-core h t e, is-one (newSource h e))
         (where-true (newSource h e) _ _
         (λ u. ap (eqb (rowOf (e ∷ h) n)) (s .head .names-counted ∙ sym (source-row-new h e (f .kinds) u))
         ∙ one-row sameBytes same-eq same-refl n (e .source) (names (e ∷ h)) q (source-named h e (both (onCore e) _ u .0))))
 
-    pub at-new-target : isNewTarget (t .nums) (sightIn h e) (e .kind) (rowOf (e ∷ h) n) ≡ newTarget h e && sameBytes n (e .target)
-    at-new-target = rw (new-name h e, is-one (newTarget h e)) (at-target (newTarget h e) (λ u. both (isTracked (e .kind)) _ u .0))
-
-  module _ (x : Instance) (q : any (sameInstance x) (instances (e ∷ h)) ≡ true) where
-    at-instance : isInstance (t .nums) (sightIn h e) (e .kind) (instanceRowOf (e ∷ h) x) ≡ hasInstances (e .kind) && sameInstance x (instanceOf e)
-    at-instance =
-        where-true (hasInstances (e .kind)) _ _
-        (λ u. ap (eqb (instanceRowOf (e ∷ h) x)) (instance-row h t s e u)
-        ∙ one-row sameInstance instance-true instance-refl x (instanceOf e) (instances (e ∷ h)) q (instance-listed h e u))
+    pub at-new-target : isNewTarget (t .nums) (sightIn h t e) (e .kind) (rowOf (e ∷ h) n) ≡ newTarget h e && sameBytes n (e .target)
+    at-new-target = rw (new-name h t e, is-one (newTarget h e)) (at-target (newTarget h e) (λ u. both (isTracked (e .kind)) _ u .0))
 
 -- ---- the entries of a row
 
@@ -128,10 +106,6 @@ abbrev pub orGiven : Event → List ℕ → ℕ → ℕ → ℕ → ℕ
 orGiven e n u v old =
     cond (eqb (e .kind) semaphore && sameBytes n (e .target)) u (cond (activates (e .kind) (e .word) && sameBytes n (e .target)) v old)
 
--- what the event stores for its own instance
-abbrev pub orOwn : Event → Instance → ℕ → ℕ → ℕ
-orOwn e x v old = cond (hasInstances (e .kind) && sameInstance x (instanceOf e)) v old
-
 cond-first : (b : Bool) (x y z : ℕ) → (b ≡ true → x ≡ y) → cond b x z ≡ cond b y z
 cond-first true x y z f = f refl
 cond-first false x y z f = refl
@@ -141,42 +115,41 @@ module _ (h : List Event) (t : Tables) (s : Shown h t) (w : Happening) (source t
   e = asEvent w source target
 
   abbrev next : List ℕ
-  next = takenNums (t .nums) (sightIn h e) state w (length source) (length target)
+  next = takenNums (t .nums) (sightIn h t e) state w (length source) (length target)
+
+  pub target-bound : isTracked (w .kind) ≡ true → targetRow (t .nums) (sightIn h t e) < nameRows
+  target-bound k = rw (target-row h t s e (f .kinds) k) (row-bound h t s e f target (target-named h e k))
+
+  -- an event on a core is a process's, and its target has a row
+  holder-bound : eqb (coreClass (w .kind) (w .word)) 0 ≡ false → targetRow (t .nums) (sightIn h t e) < nameRows
+  holder-bound k = target-bound (process-tracked (w .kind) (on-process e (sym (class-on e) ∙ ap not k)))
 
   module _ (n : List ℕ) (q : any (sameBytes n) (names (e ∷ h)) ≡ true) where
     abbrev row : ℕ
     row = rowOf (e ∷ h) n
 
-    bound : row < 256
+    bound : row < nameRows
     bound = row-bound h t s e f n q
 
     new-or-old : (u v old : ℕ) →
-        cond (isNewTarget (t .nums) (sightIn h e) (w .kind) row) u (cond (isNewCore (t .nums) (sightIn h e) row) v old) ≡ orOld h e n u v old
+        cond (isNewTarget (t .nums) (sightIn h t e) (w .kind) row) u (cond (isNewCore (t .nums) (sightIn h t e) row) v old) ≡ orOld h e n u v old
     new-or-old u v old = rw (at-new-target h t s e f n q, at-new-core h t s e f n q)
 
     pub kind-at : kindAt next row ≡ orOld h e n (w .kind) core (kindAt (t .nums) row)
-    kind-at = kind-taken (t .nums) (s .nums-size) (sightIn h e) state w (length source) (length target) row bound ∙ new-or-old (w .kind) core (kindAt (t .nums) row)
+    kind-at = kind-taken (t .nums) (s .nums-size) (sightIn h t e) state w (length source) (length target) row bound ∙ new-or-old (w .kind) core (kindAt (t .nums) row)
 
     pub mark-at : markAt next row ≡
-        cond (on n e) (cond (gives (w .word)) 1 (instanceRowOf (e ∷ h) (instanceOf e) + 2))
+        cond (on n e) (cond (gives (w .word)) 1 (rowOf (e ∷ h) target + 2))
         (cond (eqb (w .kind) semaphore && sameBytes n target) state (orOld h e n 0 0 (markAt (t .nums) row)))
     unfolding sightIn
     mark-at =
-        mark-taken (t .nums) (s .nums-size) (sightIn h e) state w (length source) (length target) inside row bound
+        mark-taken (t .nums) (s .nums-size) (sightIn h t e) state w (length source) (length target) holder-bound row bound
         ∙ rw (at-core h t s e f n q, at-target h t s e f n q (eqb (w .kind) semaphore) (semaphore-tracked (w .kind)), new-or-old 0 0 (markAt (t .nums) row))
-        (cond-first (on n e) _ _ _ (λ o. let c = both (onCore e) _ o .0 in rw (class-gives e c, instance-row h t s e (instanced c))))
-      where
-        instanced : onCore e ≡ true → hasInstances (w .kind) ≡ true
-        instanced c = process-instances (w .kind) (on-process e c)
-
-        inside : eqb (coreClass (w .kind) (w .word)) 0 ≡ false → instanceRow (t .nums) (sightIn h e) < 1024
-        inside k =
-            let c : onCore e ≡ true = sym (class-on e) ∙ ap not k in
-            rw (instance-row h t s e (instanced c)) (instance-bound h t s e f (instanceOf e) (instance-listed h e (instanced c)))
+        (cond-first (on n e) _ _ _ (λ o. let c = both (onCore e) _ o .0 in rw (class-gives e c, target-row h t s e (f .kinds) (process-tracked (w .kind) (on-process e c)))))
 
     given-or-old : (u v old : ℕ) →
-        cond (eqb (w .kind) semaphore && eqb row (targetRow (t .nums) (sightIn h e))) u
-        (cond (activates (w .kind) (w .word) && eqb row (targetRow (t .nums) (sightIn h e))) v (orNone (t .nums) (sightIn h e) (w .kind) row old))
+        cond (eqb (w .kind) semaphore && eqb row (targetRow (t .nums) (sightIn h t e))) u
+        (cond (activates (w .kind) (w .word) && eqb row (targetRow (t .nums) (sightIn h t e))) v (orNone (t .nums) (sightIn h t e) (w .kind) row old))
         ≡ orGiven e n u v (orOld h e n 0 0 old)
     given-or-old u v old =
         rw (
@@ -185,34 +158,15 @@ module _ (h : List Event) (t : Tables) (s : Shown h t) (w : Happening) (source t
           new-or-old 0 0 old,
         )
 
-    pub number-at : numberAt next row ≡ orGiven e n (w .count) (w .number) (orOld h e n 0 0 (numberAt (t .nums) row))
+    pub number-at :
+        let old = orGiven e n (w .count) (w .number) (orOld h e n 0 0 (numberAt (t .nums) row)) in
+        numberAt next row ≡ cond (on n e) (cond (gives (w .word)) old (w .number)) old
+    unfolding sightIn
     number-at =
-        number-taken (t .nums) (s .nums-size) (sightIn h e) state w (length source) (length target) row bound
-        ∙ given-or-old (w .count) (w .number) (numberAt (t .nums) row)
+        number-taken (t .nums) (s .nums-size) (sightIn h t e) state w (length source) (length target) holder-bound row bound
+        ∙ rw (at-core h t s e f n q, given-or-old (w .count) (w .number) (numberAt (t .nums) row))
+        (cond-first (on n e) _ _ _ (λ o. rw (class-gives e (both (onCore e) _ o .0))))
 
     pub numbered-at : numberedAt next row ≡ orGiven e n 1 1 (orOld h e n 0 0 (numberedAt (t .nums) row))
     numbered-at =
-        numbered-taken (t .nums) (s .nums-size) (sightIn h e) state w (length source) (length target) row bound ∙ given-or-old 1 1 (numberedAt (t .nums) row)
-
-  module _ (x : Instance) (q : any (sameInstance x) (instances (e ∷ h)) ≡ true) where
-    target-bound : hasInstances (w .kind) ≡ true → targetRow (t .nums) (sightIn h e) < 256
-    target-bound u =
-        let k = instances-tracked (w .kind) u in
-        rw (target-row h t s e (f .kinds) k) (row-bound h t s e f target (target-named h e k))
-
-    pub owner-at : ownerAt next (instanceRowOf (e ∷ h) x) ≡ orOwn e x (rowOf (e ∷ h) target) (ownerAt (t .nums) (instanceRowOf (e ∷ h) x))
-    owner-at =
-        owner-taken (t .nums) (s .nums-size) (sightIn h e) state w (length source) (length target) target-bound (instanceRowOf (e ∷ h) x) (instance-bound h t s e f x q)
-        ∙ rw (at-instance h t s e f x q)
-        (cond-first (hasInstances (w .kind) && sameInstance x (instanceOf e)) _ _ _
-        (λ u. target-row h t s e (f .kinds) (instances-tracked (w .kind) (both (hasInstances (w .kind)) _ u .0))))
-
-    pub instance-number-at : instanceAt next (instanceRowOf (e ∷ h) x) ≡ orOwn e x (w .number) (instanceAt (t .nums) (instanceRowOf (e ∷ h) x))
-    instance-number-at =
-        instance-taken (t .nums) (s .nums-size) (sightIn h e) state w (length source) (length target) target-bound (instanceRowOf (e ∷ h) x) (instance-bound h t s e f x q)
-        ∙ rw (at-instance h t s e f x q)
-
-    pub state-at : stateAt next (instanceRowOf (e ∷ h) x) ≡ orOwn e x state (stateAt (t .nums) (instanceRowOf (e ∷ h) x))
-    state-at =
-        state-taken (t .nums) (s .nums-size) (sightIn h e) state w (length source) (length target) target-bound (instanceRowOf (e ∷ h) x) (instance-bound h t s e f x q)
-        ∙ rw (at-instance h t s e f x q)
+        numbered-taken (t .nums) (s .nums-size) (sightIn h t e) state w (length source) (length target) row bound ∙ given-or-old 1 1 (numberedAt (t .nums) row)

@@ -7,6 +7,7 @@ use native.Mathlib.Omega.{arith}
 use lib.Dec.{eqb}
 use lib.ListN.{length}
 use Rattle.rules.specs.Event.{Event}
+use Rattle.rules.specs.Verdict.{Accepted}
 use Rattle.rules.proofs.Answers.{Passed}
 use Rattle.tables.specs.Entry.{namesSize, numsSize, ticksSize}
 use Rattle.decide.specs.declared.happening.Happening.{Happening}
@@ -15,7 +16,7 @@ use Rattle.store.proofs.Stores.{length-takenNames, length-takenNums, length-tak
 use Rattle.judge.specs.Feed.{Tables}
 use Rattle.promises.specs.Shown.{firstOf, startedOf, HeadShown, Shown}
 use Rattle.promises.specs.Taken.{sightIn, takenBy}
-use Rattle.promises.proofs.Grown.{names-length, cores-length, instances-length}
+use Rattle.promises.proofs.Grown.{AllMet, names-length, cores-length, instances-length}
 use Rattle.promises.proofs.Lookups.{new-core, new-name, new-instance}
 use Rattle.promises.proofs.Entries.{started-taken, names-taken, cores-taken, instances-taken}
 use Rattle.promises.proofs.TickEntries.{first-taken, last-taken}
@@ -31,32 +32,32 @@ module _ (h : List Event) (t : Tables) (s : Shown h t) (w : Happening) (source t
   e = asEvent w source target
 
   abbrev after : Tables
-  after = takenBy t (sightIn h e) state w source target
+  after = takenBy t (sightIn h t e) state w source target
 
   pub names-size-next : length (after .names) ≡ namesSize
-  names-size-next = length-takenNames (t .names) (t .nums) (sightIn h e) e ∙ s .names-size
+  names-size-next = length-takenNames (t .names) (t .nums) (sightIn h t e) e ∙ s .names-size
 
   pub nums-size-next : length (after .nums) ≡ numsSize
-  nums-size-next = length-takenNums (t .nums) (sightIn h e) state w (length source) (length target) ∙ s .nums-size
+  nums-size-next = length-takenNums (t .nums) (sightIn h t e) state w (length source) (length target) ∙ s .nums-size
 
   pub ticks-size-next : length (after .ticks) ≡ ticksSize
-  ticks-size-next = length-takenTicks (t .ticks) (t .nums) (sightIn h e) (w .kind) (w .time) ∙ s .ticks-size
+  ticks-size-next = length-takenTicks (t .ticks) (t .nums) (sightIn h t e) (w .kind) (w .time) ∙ s .ticks-size
 
-  pub head-next : Passed h e → HeadShown (e ∷ h) (after .nums) (after .ticks)
-  head-next f =
+  pub head-next : Accepted h → AllMet h → Passed h e → HeadShown (e ∷ h) (after .nums) (after .ticks)
+  head-next a met f =
       let fit = room h e f in
       let old = s .head in
       record {
-        started = started-taken (t .nums) (s .nums-size) (sightIn h e) state w (length source) (length target);
+        started = started-taken (t .nums) (s .nums-size) (sightIn h t e) state w (length source) (length target);
         names-counted =
-            names-taken (t .nums) (s .nums-size) (sightIn h e) state w (length source) (length target)
-            ∙ rw (new-core h e, new-name h e) (omega (arith, old .names-counted, names-length h e (f .kinds), fit .names-fit));
+            names-taken (t .nums) (s .nums-size) (sightIn h t e) state w (length source) (length target)
+            ∙ rw (new-core h t e, new-name h t e) (omega (arith, old .names-counted, names-length h e (f .kinds), fit .names-fit));
         cores-counted =
-            cores-taken (t .nums) (s .nums-size) (sightIn h e) state w (length source) (length target)
-            ∙ rw (new-core h e) (omega (arith, old .cores-counted, cores-length h e (f .kinds), fit .cores-fit));
+            cores-taken (t .nums) (s .nums-size) (sightIn h t e) state w (length source) (length target)
+            ∙ rw (new-core h t e) (omega (arith, old .cores-counted, cores-length h e (f .kinds), fit .cores-fit));
         instances-counted =
-            instances-taken (t .nums) (s .nums-size) (sightIn h e) state w (length source) (length target)
-            ∙ rw (new-instance h e) (omega (arith, old .instances-counted, instances-length h e, fit .instances-fit));
-        first = first-taken (t .ticks) (t .nums) (s .ticks-size) (sightIn h e) (w .kind) (w .time) ∙ first-time h e _ _ (old .started) (old .first);
-        last = last-taken (t .ticks) (t .nums) (s .ticks-size) (sightIn h e) (w .kind) (w .time);
+            instances-taken (t .nums) (s .nums-size) (sightIn h t e) state w (length source) (length target)
+            ∙ rw (new-instance h a met t s e (f .kinds)) (omega (arith, old .instances-counted, instances-length h e, fit .instances-fit));
+        first = first-taken (t .ticks) (t .nums) (s .ticks-size) (sightIn h t e) (w .kind) (w .time) ∙ first-time h e _ _ (old .started) (old .first);
+        last = last-taken (t .ticks) (t .nums) (s .ticks-size) (sightIn h t e) (w .kind) (w .time);
       }

@@ -25,5 +25,5 @@ module _ (h : List Event) (a : Accepted h) (t : Tables) (s : Shown h t) (w : Hap
   event = asEvent w source target
 
   pub each-ticks-next : (n : List ℕ) → any (sameBytes n) (names (event ∷ h)) ≡ true →
-      TicksShown (event ∷ h) (takenBy t (sightIn h event) state w source target .ticks) (rowOf (event ∷ h) n) n
+      TicksShown (event ∷ h) (takenBy t (sightIn h t event) state w source target .ticks) (rowOf (event ∷ h) n) n
   each-ticks-next n q = record { of-core = core-next h a t s event f m n q; of-other = charge-next h a t s event f n m q }

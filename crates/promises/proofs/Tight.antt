@@ -18,20 +18,22 @@ use Rattle.words.specs.Scale.{scaleWord, scaleOf}
 use Rattle.words.specs.Kind.{kindWord, kindOf}
 use Rattle.words.specs.Action.{wordOf, actionCode, actionsOf, actionOf, among}
 use Rattle.words.specs.Pair.{namedBy}
-use Rattle.line.specs.Part.{partsOf, fieldOf}
+use Rattle.fields.specs.Part.{partsOf, fieldOf}
 use Rattle.line.specs.Note.{noteOf}
 use Rattle.line.specs.Rule.{isProcess as isProcessLine, zeroSource, zeroTarget, isOwn, sourceBroken, targetBroken, ownBroken, presence, noteBroken, ruleBroken}
 use Rattle.line.specs.Parameter.{isVersion, isVersionLine, isComment, timeScale, isCreator, isCreationDate, otherReading, parameterReading}
 use Rattle.line.specs.Event.{numbersOf, hasNames, knownReading, fieldsReading, eventReading}
 use Rattle.line.specs.Reading.{hasBreak, isEventLine, readLine}
 use Rattle.line.specs.Condition.{refuses1, refuses3, countWrong, numberWrong, nameWrong, noteWrong, refuses5, refuses6, refuses7}
+use Rattle.bill.specs.Scale.{scaleNumber}
 use Rattle.rules.specs.Charts.{chartOf, processChart, isProcess}
 use Rattle.rules.specs.Core.{takes, gives, keeps, onCore}
 use Rattle.rules.specs.History.{hasInstances, isTracked, named, kindIn, activates, lastNumber, lastCount, names, instances}
-use Rattle.rules.specs.Refusals.{timeFalls, secondKind, sourceClash, targetClash, noRoom, offChart, notNext, coreBroken, countFollows, fixed, countBroken, rules, answerTo}
-use Rattle.rules.specs.Lines.{kindNumber, wordNumber, eventOfLine, eventsOf}
-use Rattle.rules.specs.Trace.{scaleNumber, placeOf, tooMuch, versionWrong, parameterWrong, unscaled, placeTests, answerInPlace, answerAt, atEnd, verdictOn}
-use Rattle.tables.specs.Range.{isSized}
+use Rattle.rules.specs.Refusals.{timeFalls, secondKind, sourceClash, targetClash, noRoom, offChart, notNext, coreBroken, countFollows, countAllowed, countBroken, eventTests, answerTo}
+use Rattle.rules.specs.Lines.{kindNumber, eventOfLine, eventsOf}
+use Rattle.rules.specs.Trace.{placeOf, tooMuch, versionWrong, parameterWrong, unscaled, placeTests, answerInPlace, answerAt, atEnd, verdictOn}
+use Rattle.tables.specs.Sized.{isSized}
+use Rattle.rules.specs.First.{takenOf, firstRefusal}
 use Rattle.tables.proofs.Valid.{sizes-mean}
 use Rattle.tables.proofs.Zeros.{fresh-valid}
 use Rattle.judge.specs.Feed.{Tables, freshTables, AfterTrace, judgedTrace}
@@ -56,15 +58,15 @@ abbrev startedTwice : List ℕ
 startedTwice = prelude ++ bytes "1,C,0,T,A,0,start" ++ 10 ∷ bytes "2,C,0,T,A,0,start"
 
 prelude-taken : verdictOn [] (linesOf prelude) .0 ≡ 0
-unfolding linesOf wholeLines restOf lineText ended unended pieces verdictOn atEnd answerAt answerInPlace placeTests tooMuch versionWrong parameterWrong unscaled placeOf scaleNumber eventOfLine eventsOf refuses1 refuses3 refuses5 refuses6 refuses7 readLine hasBreak isEventLine isVersion isVersionLine isComment timeScale isCreator isCreationDate otherReading parameterReading sameBytes startsWith pick scaleWord scaleOf
+unfolding linesOf wholeLines restOf lineText ended unended pieces firstRefusal takenOf verdictOn atEnd answerAt answerInPlace placeTests tooMuch versionWrong parameterWrong unscaled placeOf scaleNumber eventOfLine eventsOf refuses1 refuses3 refuses5 refuses6 refuses7 readLine hasBreak isEventLine isVersion isVersionLine isComment timeScale isCreator isCreationDate otherReading parameterReading sameBytes startsWith pick scaleWord scaleOf
 prelude-taken = refl
 
 nothing-refused : verdictOn [] (linesOf []) .0 ≡ 2
-unfolding linesOf wholeLines restOf ended unended pieces verdictOn atEnd
+unfolding linesOf wholeLines restOf ended unended pieces firstRefusal takenOf verdictOn atEnd
 nothing-refused = refl
 
 second-refused : verdictOn [] (linesOf startedTwice) .0 ≡ 11
-unfolding linesOf wholeLines restOf lineText ended unended pieces verdictOn atEnd answerAt answerInPlace placeTests tooMuch versionWrong parameterWrong unscaled placeOf scaleNumber eventOfLine eventsOf kindNumber wordNumber refuses1 refuses3 refuses5 refuses6 refuses7 countWrong numberWrong nameWrong noteWrong readLine hasBreak isEventLine eventReading fieldsReading hasNames numbersOf knownReading partsOf fieldOf noteOf isProcessLine zeroSource zeroTarget isOwn sourceBroken targetBroken ownBroken presence noteBroken ruleBroken isVersion isVersionLine isComment timeScale isCreator isCreationDate otherReading parameterReading sameBytes startsWith isNameByte allNameBytes isName numberOf pick scaleWord scaleOf kindWord kindOf wordOf actionCode actionsOf actionOf among namedBy answerTo rules timeFalls secondKind sourceClash targetClash noRoom offChart notNext coreBroken countBroken names instances chartOf processChart isProcess takes gives keeps onCore hasInstances isTracked named kindIn activates lastNumber lastCount fixed countFollows
+unfolding linesOf wholeLines restOf lineText ended unended pieces firstRefusal takenOf verdictOn atEnd answerAt answerInPlace placeTests tooMuch versionWrong parameterWrong unscaled placeOf scaleNumber eventOfLine eventsOf kindNumber refuses1 refuses3 refuses5 refuses6 refuses7 countWrong numberWrong nameWrong noteWrong readLine hasBreak isEventLine eventReading fieldsReading hasNames numbersOf knownReading partsOf fieldOf noteOf isProcessLine zeroSource zeroTarget isOwn sourceBroken targetBroken ownBroken presence noteBroken ruleBroken isVersion isVersionLine isComment timeScale isCreator isCreationDate otherReading parameterReading sameBytes startsWith pick isNameByte allNameBytes isName numberOf scaleWord scaleOf kindWord kindOf wordOf actionCode actionsOf actionOf among namedBy answerTo eventTests timeFalls secondKind sourceClash targetClash noRoom offChart notNext coreBroken countBroken names instances chartOf processChart isProcess takes gives keeps onCore hasInstances isTracked named kindIn activates lastNumber lastCount countAllowed countFollows
 second-refused = refl
 
 -- ---- judges that are shut out

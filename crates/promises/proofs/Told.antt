@@ -4,7 +4,7 @@ use mathlib.Core.Path.{_≡_, refl, sym, ap, _∙_}
 use mathlib.Core.Bool.{Bool, true, false, not, cond}
 use mathlib.Core.Option.{Option, none, some}
 use mathlib.Core.List.{List, [], _∷_}
-use Prim.Native.Nat.{ℕ, zero, suc, _+_, _≤_}
+use Prim.Native.Nat.{ℕ, zero, suc, _+_, _≤_, _<_}
 use native.Mathlib.Omega.{arith}
 use lib.Dec.{eqb}
 use lib.ListN.{length, getD}
@@ -12,9 +12,9 @@ use borrow.Author.Tests.{eq-eqb, lt-ltb}
 use Rattle.text.specs.Bytes.{sameBytes}
 use Rattle.rules.specs.Lists.{any}
 use Rattle.rules.specs.Words.{core, semaphore}
-use Rattle.rules.specs.Event.{Event, Instance, sameInstance, stateOf}
-use Rattle.rules.specs.Core.{coreAt}
-use Rattle.rules.specs.History.{hasInstances, names, instances, kindOf, lastNumber, lastCount}
+use Rattle.rules.specs.Event.{Event, Instance, stateOf}
+use Rattle.rules.specs.Core.{held, coreAt}
+use Rattle.rules.specs.History.{hasInstances, names, kindOf, lastNumber, lastCount}
 use Rattle.rules.specs.Rows.{opened}
 use Rattle.rules.specs.Verdict.{Accepted}
 use Rattle.rules.proofs.Answers.{all-fit}
@@ -22,13 +22,17 @@ use Rattle.rules.proofs.CoreRuns.{unseen-none}
 use Rattle.rules.proofs.Seen.{Worded, first-seen}
 use Rattle.rules.proofs.Tests.{clash}
 use Rattle.rules.proofs.Tracked.{kind-named, named-kind}
-use Rattle.tables.specs.Entry.{Column, column, entryAt, nameRows, kindColumn, markColumn, numberColumn, numberedColumn, stateColumn, kindAt}
-use Rattle.decide.specs.Known.{entryOf, kindIn, markIn, numberKnown}
+use Rattle.tables.specs.declared.find.Found.{Found}
+use Rattle.tables.specs.declared.find.Found.the-variants.{At, Nothing}
+use Rattle.tables.specs.Entry.{Column, column, entryAt, nameRows, instanceRows, kindColumn, markColumn, numberColumn, numberedColumn, stateColumn, kindAt}
+use Rattle.decide.specs.Known.{entryOf, kindIn, markIn, numberIn, numberKnown}
 use Rattle.judge.specs.Feed.{Tables}
 use Rattle.promises.specs.Places.{place, seek, rowOf}
 use Rattle.promises.specs.Shown.{Shown, coreMark, theSemaphore, numberOf}
+use Rattle.promises.specs.Taken.{InstanceFound}
 use Rattle.promises.proofs.Places.{place-bound}
 use Rattle.promises.proofs.Grown.{AllMet, name-kind, core-unknown}
+use Rattle.promises.proofs.Turns.{held-core}
 use Rattle.promises.proofs.Untold.{semaphore-tracked, no-number, no-count, no-state}
 
 -- ---- an entry of the row that was found
@@ -87,6 +91,12 @@ module _ (h : List Event) (a : Accepted h) (t : Tables) (s : Shown h t) where
         by-test true q = in-row (markColumn .base) q ∙ s .each-name n q .mark .of-core (eq-eqb _ core (kind-there core d q))
         by-test false q = in-none markColumn q ∙ sym (ap (coreMark h) (core-unknown n h a (λ p. clash _ (named-kind h n core p _ refl) q)))
 
+    -- the number of the instance that holds a core
+    pub holder-told : (x : Instance) → coreAt n h ≡ held x → numberIn (t .nums) (seek (sameBytes n) (names h)) ≡ x .number
+    holder-told x p =
+        let q = named-kind h n core (held-core h a n x p) _ refl in
+        in-row (numberColumn .base) q ∙ s .each-name n q .holder x p
+
     pub semaphore-told : Only (kindOf n h) semaphore → opened (markIn (t .nums) (seek (sameBytes n) (names h))) ≡ stateOf (theSemaphore n) h
     semaphore-told d = by-test (any (sameBytes n) (names h)) refl
       where
@@ -107,10 +117,11 @@ module _ (h : List Event) (a : Accepted h) (t : Tables) (s : Shown h t) where
 
   -- ---- instances
 
-  pub state-told : Worded h → (x : Instance) → hasInstances (x .kind) ≡ true → opened (entryOf stateColumn (t .nums) (seek (sameInstance x) (instances h))) ≡ stateOf x h
-  state-told w x k = by-test (any (sameInstance x) (instances h)) refl
-    where
-      by-test : (b : Bool) → any (sameInstance x) (instances h) ≡ b → opened (entryOf stateColumn (t .nums) (seek (sameInstance x) (instances h))) ≡ stateOf x h
-      by-test true q = ap opened (entry-there (sameInstance x) (instances h) (t .nums) stateColumn (all-fit h a .instances-fit) q) ∙ s .each-instance x q .state
-      by-test false q =
-          ap opened (entry-absent (sameInstance x) (instances h) (t .nums) stateColumn q) ∙ sym (unseen-none (stateOf x h) (first-seen h w x k ∙ ap not q))
+  -- the state in the row that was found of an instance
+  pub state-told : Worded h → (x : Instance) → hasInstances (x .kind) ≡ true → (r : Found) → InstanceFound h (t .nums) x r →
+      opened (entryOf stateColumn (t .nums) r) ≡ stateOf x h
+  unfolding entryOf
+  state-told w x k (At j) p =
+      let small : j < instanceRows = omega (arith, p .1 .below, s .head .instances-counted, all-fit h a .instances-fit) in
+      rw (lt-ltb j instanceRows small) (p .1 .state)
+  state-told w x k Nothing p = sym (unseen-none (stateOf x h) (first-seen h w x k ∙ ap not p))

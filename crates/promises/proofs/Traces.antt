@@ -7,14 +7,15 @@ use lib.ListN.{length, set, length-set}
 use Rattle.rules.specs.declared.place.Place.{Place}
 use Rattle.rules.specs.Lists.{ifZero}
 use Rattle.rules.specs.Lines.{eventsOf}
-use Rattle.rules.specs.Trace.{placeOf, InPlace, answerAt, takenLines}
+use Rattle.rules.specs.First.{takenOf, firstRefusal}
+use Rattle.rules.specs.Trace.{placeOf, InPlace, answerAt, takenLines, refusalOn}
 use Rattle.rules.proofs.Traces.{Kept, kept-next}
 use Rattle.tables.specs.Entry.{numsSize, verdictNumber, verdictLine, lineCount}
 use Rattle.tables.proofs.Stores.{same, other}
 use Rattle.judge.specs.Feed.{Tables, tables, After, placeIn, remembered, lined, allLined}
 use Rattle.judge.proofs.Feeds.{length-remembered, verdict-again}
 use Rattle.promises.specs.Shown.{Shows}
-use Rattle.promises.specs.Fed.{refusalOn, rememberedIn}
+use Rattle.promises.specs.Fed.{rememberedIn}
 use Rattle.promises.proofs.Heads.{AgreeFrom, shown-later}
 use Rattle.promises.proofs.Lines.{few-short, LineOutcome, line-outcome}
 use Rattle.promises.proofs.Events.{event-outcome}
@@ -80,7 +81,7 @@ refused-here h k t s n some ls u e =
     rw (f, e) (record { shows = shows-remembered h t n s; remembers = rw (v, remembered-line (t .nums) n z, m) })
 
 pub followed : (ls h : List (List ℕ)) → Kept h → (t : Tables) → Shows h t → verdictNumber (t .nums) ≡ 0 → verdictLine (t .nums) ≡ 0 → Followed h ls (allLined t ls)
-unfolding allLined takenLines refusalOn
+unfolding allLined takenOf firstRefusal
 followed [] h k t s v w = record { shows = s; remembers = rw (v, w) }
 followed (l ∷ ls) h k t s v w =
     let o = line-outcome h t s l (event-outcome h k t s l) v in

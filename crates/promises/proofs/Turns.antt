@@ -10,7 +10,7 @@ use Rattle.rules.specs.Lists.{any}
 use Rattle.rules.specs.Words.{core}
 use Rattle.rules.specs.Charts.{isProcess}
 use Rattle.rules.specs.Event.{Event, Instance, instanceOf}
-use Rattle.rules.specs.Core.{Core, unknown, idle, held, takes, gives, keeps, becomes, onCore, coreAt, Free, free-unknown, free-idle, Own, own-held, own-first}
+use Rattle.rules.specs.Core.{Core, unknown, idle, held, takes, gives, keeps, becomes, onCore, coreClass, coreAt, Free, free-unknown, free-idle, Own, own-held, own-first}
 use Rattle.rules.specs.History.{names, kindOf}
 use Rattle.rules.specs.Verdict.{Accepted}
 use Rattle.rules.proofs.Answers.{Passed}
@@ -18,7 +18,6 @@ use Rattle.rules.proofs.Changes.{core-own}
 use Rattle.rules.proofs.CoreWords.{on-process, Sort, taker, giver, keeper, sort}
 use Rattle.rules.proofs.CoreRuns.{served-free, served-own}
 use Rattle.rules.proofs.Tracked.{Tracked, tracked, named-kind, source-is}
-use Rattle.decide.specs.Sight.{coreClass}
 use Rattle.promises.proofs.Grown.{name-kind, core-known}
 
 -- with whether the core's name is there, and what the core was and is
@@ -38,8 +37,11 @@ idle-core h a c q = subst (Tracked c h) q (tracked c h a)
 pub held-core : (h : List Event) → Accepted h → (c : List ℕ) (x : Instance) → coreAt c h ≡ held x → kindOf c h ≡ some core
 held-core h a c x q = subst (Tracked c h) q (tracked c h a) .0
 
+pub holder-kind : (h : List Event) → Accepted h → (c : List ℕ) (x : Instance) → coreAt c h ≡ held x → kindOf (x .name) h ≡ some (x .kind)
+holder-kind h a c x q = subst (Tracked c h) q (tracked c h a) .1
+
 pub holder-named : (h : List Event) → Accepted h → (c : List ℕ) (x : Instance) → coreAt c h ≡ held x → any (sameBytes (x .name)) (names h) ≡ true
-holder-named h a c x q = named-kind h (x .name) (x .kind) (subst (Tracked c h) q (tracked c h a) .1) _ refl
+holder-named h a c x q = named-kind h (x .name) (x .kind) (holder-kind h a c x q) _ refl
 
 module _ (h : List Event) (a : Accepted h) (e : Event) (f : Passed h e) (o : onCore e ≡ true) where
   -- a source that is unknown as a core is no name yet

@@ -4,8 +4,11 @@ use mathlib.Core.Bool.{Bool, true, false, _&&_, _||_}
 use mathlib.Core.Option.{Option, none, some}
 use mathlib.Core.List.{List, [], _∷_}
 use Prim.Native.Nat.{ℕ}
+use native.Mathlib.Omega.{arith}
 use lib.Dec.{eqb}
+use borrow.Author.Tests.{eqb-true}
 use Rattle.text.specs.Bytes.{sameBytes}
+use Rattle.text.proofs.Bools.{is-false}
 use Rattle.text.proofs.Words.{same-refl}
 use Rattle.rules.specs.Lists.{member, when, orElse, latest}
 use Rattle.rules.specs.Words.{core, runnable, semaphore, activate, mtalimitexceeded, start}
@@ -15,13 +18,9 @@ use Rattle.rules.specs.Core.{on}
 use Rattle.rules.specs.History.{hasInstances, isTracked, kindIn, kindOf, activates, lastNumber, lastCount}
 use Rattle.rules.proofs.Tests.{both, and-true, clash, instance-true}
 use Rattle.rules.proofs.Changes.{state-other}
-use Rattle.promises.proofs.Grown.{instances-tracked}
+use Rattle.promises.proofs.Grown.{instances-range, instances-tracked}
 
 -- ---- events that speak of tracked names
-
-pub process-instances : (k : ℕ) → isProcess k ≡ true → hasInstances k ≡ true
-unfolding hasInstances
-process-instances k q = rw q
 
 pub semaphore-tracked : (k : ℕ) → eqb k semaphore ≡ true → isTracked k ≡ true
 unfolding isTracked
@@ -79,6 +78,20 @@ no-number k n =
     own e q =
         let p = both (activates (e .kind) (e .word)) (eqb k (e .kind) && sameBytes n (e .target)) q in
         and-true _ _ (instances-tracked (e .kind) (activates-instances (e .kind) (e .word) (p .0))) (both (eqb k (e .kind)) (sameBytes n (e .target)) (p .1) .1)
+
+-- a core is given none
+pub core-unnumbered : (n : List ℕ) (h : List Event) → lastNumber core n h ≡ none
+unfolding lastNumber
+core-unnumbered n [] = refl
+core-unnumbered n (e ∷ h) = rw (never e) (core-unnumbered n h)
+  where
+    never : (d : Event) → activates (d .kind) (d .word) && (eqb core (d .kind) && sameBytes n (d .target)) ≡ false
+    never d =
+        is-false _ (λ q.
+        let p = both (activates (d .kind) (d .word)) (eqb core (d .kind) && sameBytes n (d .target)) q in
+        let r = instances-range (d .kind) (activates-instances (d .kind) (d .word) (p .0)) in
+        let z = eqb-true core (d .kind) (both (eqb core (d .kind)) (sameBytes n (d .target)) (p .1) .0) in
+        omega arith)
 
 pub no-count : (n : List ℕ) (h : List Event) → kindOf n h ≡ none → lastCount n h ≡ none
 unfolding lastCount

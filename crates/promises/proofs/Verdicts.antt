@@ -7,31 +7,18 @@ use native.Mathlib.Omega.{arith}
 use lib.Dec.{eqb}
 use lib.ListN.{length}
 use borrow.Author.Tests.{eqb-true, eq-eqb, ne-eqb}
+use Rattle.bill.specs.declared.verdict.Verdict.{Verdict}
 use Rattle.rules.specs.declared.place.Place.{Place}
 use Rattle.rules.specs.Lists.{ifZero}
 use Rattle.rules.specs.Event.{Event}
 use Rattle.rules.specs.Sheet.{span}
 use Rattle.rules.specs.Lines.{eventsOf}
-use Rattle.rules.specs.Trace.{placeOf, answerAt, atEnd, takenLines, verdictOn}
+use Rattle.rules.specs.Trace.{placeOf, atEnd}
 use Rattle.rules.proofs.Traces.{Kept}
 use Rattle.tables.specs.Entry.{verdictNumber, lineCount, scaleEntry, firstTime, lastTime}
-use Rattle.judge.specs.declared.feed.Verdict.{Verdict}
 use Rattle.judge.specs.Feed.{Tables, placeIn, verdict, verdictIn}
 use Rattle.promises.specs.Shown.{HeadShown, Shows}
-use Rattle.promises.specs.Fed.{refusalOn}
 use Rattle.promises.proofs.Traces.{lines-fit, Both}
-
--- the verdict is the refusal, and that of the end where there is none
-pub verdict-by-refusal : (ls h : List (List ℕ)) → verdictOn h ls ≡ ifZero (refusalOn h ls .0) (atEnd (takenLines h ls)) (refusalOn h ls)
-unfolding verdictOn refusalOn takenLines
-verdict-by-refusal [] h = refl
-verdict-by-refusal (l ∷ ls) h = by-answer (answerAt h l) (verdict-by-refusal ls (l ∷ h))
-  where
-    by-answer : (n : ℕ) → verdictOn (l ∷ h) ls ≡ ifZero (refusalOn (l ∷ h) ls .0) (atEnd (takenLines (l ∷ h) ls)) (refusalOn (l ∷ h) ls) →
-        let r = ifZero n (refusalOn (l ∷ h) ls) (n, length h + 1) in
-        ifZero n (verdictOn (l ∷ h) ls) (n, length h + 1) ≡ ifZero (r .0) (atEnd (ifZero n (takenLines (l ∷ h) ls) h)) r
-    by-answer zero q = q
-    by-answer (suc n) q = refl
 
 span-shown : (es : List Event) (nums ticks : List ℕ) → HeadShown es nums ticks → lastTime ticks - firstTime ticks ≡ span es
 span-shown [] nums ticks s = rw (s .last, s .first)

@@ -1,18 +1,10 @@
 -- Lines and chunks fed one after another, and the refusal that is then remembered.
 use mathlib.Core.Path.{_≡_}
 use mathlib.Core.List.{List, [], _∷_, _++_}
-use Prim.Native.Nat.{ℕ, _+_}
-use lib.ListN.{length}
+use Prim.Native.Nat.{ℕ}
 use Rattle.walk.specs.Lines.{restOf}
-use Rattle.rules.specs.Lists.{ifZero}
-use Rattle.rules.specs.Trace.{answerAt}
 use Rattle.tables.specs.Entry.{verdictNumber, verdictLine}
 use Rattle.judge.specs.Feed.{Tables, fedLine, fedChunk}
-
--- the first refusal of a list of lines, THE OLDEST FIRST, that came after the history h, and its line; 0 and 0 where all are taken
-unfoldable pub refusalOn : List (List ℕ) → List (List ℕ) → ℕ × ℕ
-refusalOn h [] = (0, 0)
-refusalOn h (l ∷ ls) = ifZero (answerAt h l) (refusalOn (l ∷ h) ls) (answerAt h l, length h + 1)
 
 -- the refusal that the tables remember
 abbrev pub rememberedIn : Tables → ℕ × ℕ

@@ -4,8 +4,8 @@ use mathlib.Core.List.{List, [], _∷_}
 use Prim.Native.Nat.{ℕ, suc}
 use Rattle.text.specs.Bytes.{sameBytes}
 use Rattle.rules.specs.Lists.{any}
-use Rattle.rules.specs.Event.{Event, Instance, sameInstance}
-use Rattle.rules.specs.History.{names, instances}
+use Rattle.rules.specs.Event.{Event}
+use Rattle.rules.specs.History.{names}
 use Rattle.tables.specs.declared.find.Found.{Found}
 use Rattle.tables.specs.declared.find.Found.the-variants.{At, Nothing}
 
@@ -18,9 +18,6 @@ module _ {A : Type 0} where
   unfoldable pub seek : (A → Bool) → List A → Found
   seek f xs = cond (any f xs) (At (place f xs)) Nothing
 
--- the rows of a name and of an instance: "in order of first mention"
+-- the row of a name: "in order of first mention"
 abbrev pub rowOf : List Event → List ℕ → ℕ
 rowOf h n = place (sameBytes n) (names h)
-
-abbrev pub instanceRowOf : List Event → Instance → ℕ
-instanceRowOf h x = place (sameInstance x) (instances h)

@@ -3,7 +3,7 @@ use mathlib.Core.Path.{_≡_}
 use mathlib.Core.Bool.{true, false, cond}
 use mathlib.Core.Option.{Option, none, some}
 use mathlib.Core.List.{List, [], _∷_}
-use Prim.Native.Nat.{ℕ, _+_, _-_, _*_, _≤_}
+use Prim.Native.Nat.{ℕ, _+_, _-_, _*_, _≤_, _<_}
 use lib.Dec.{eqb}
 use lib.ListN.{length}
 use Rattle.text.specs.Bytes.{sameBytes}
@@ -19,7 +19,7 @@ use Rattle.rules.specs.Trace.{placeOf}
 use Rattle.tables.specs.Entry.{namesSize, numsSize, ticksSize, creatorEntry, dateEntry, startedEntry, nameCount, coreCount, instanceCount}
 use Rattle.tables.specs.Entry.{kindAt, lengthAt, markAt, numberAt, numberedAt, ownerAt, instanceAt, stateAt, firstTime, lastTime, heldAt, idleAt, unknownAt, sinceAt, nameAt}
 use Rattle.judge.specs.Feed.{Tables, placeIn}
-use Rattle.promises.specs.Places.{rowOf, instanceRowOf}
+use Rattle.promises.specs.Places.{rowOf}
 
 -- ---- the first and the last event time, 0 before the first event
 
@@ -45,11 +45,11 @@ pub record HeadShown (h : List Event) (nums ticks : List ℕ) : Type 0 where
 
 -- ---- the row i of the name n
 
--- a core that is idle, or held by an instance
+-- a core that is idle, or held by an instance of the name in a row
 abbrev pub coreMark : List Event → Core → ℕ
 coreMark h unknown = 0
 coreMark h idle = 1
-coreMark h (held x) = instanceRowOf h x + 2
+coreMark h (held x) = rowOf h (x .name) + 2
 
 abbrev pub theSemaphore : List ℕ → Instance
 theSemaphore n = record { kind = semaphore; name = n; number = 0 }
@@ -69,15 +69,24 @@ pub record NameShown (h : List Event) (names nums : List ℕ) (i : ℕ) (n : Lis
   pub size : lengthAt nums i ≡ length n
   pub kind : kindOf n h ≡ some (kindAt nums i)
   pub mark : MarkShown h n (kindAt nums i) (markAt nums i)
+  -- a core has no number of its own: the entry is free for that of the instance that holds it
+  pub holder : (x : Instance) → coreAt n h ≡ held x → numberAt nums i ≡ x .number
   pub numbered : numberedAt nums i ≤ 1
   pub number : cond (eqb (numberedAt nums i) 0) none (some (numberAt nums i)) ≡ numberOf h n (kindAt nums i)
 
 -- ---- the row j of the instance x
 
 pub record InstanceShown (h : List Event) (nums : List ℕ) (j : ℕ) (x : Instance) : Type 0 where
+  pub below : j < instanceCount nums
   pub owner : ownerAt nums j ≡ rowOf h (x .name)
   pub number : instanceAt nums j ≡ x .number
   pub state : opened (stateAt nums j) ≡ stateOf x h
+
+-- the rows of all instances, in any order: each instance has a row, each row that is counted is one's, and no two rows have the same name and number
+pub record InstancesShown (h : List Event) (nums : List ℕ) : Type 0 where
+  pub each : (x : Instance) → any (sameInstance x) (instances h) ≡ true → (j : ℕ) × InstanceShown h nums j x
+  pub owned : (j : ℕ) → j < instanceCount nums → (x : Instance) × (any (sameInstance x) (instances h) ≡ true) × InstanceShown h nums j x
+  pub kept : (i j : ℕ) → i < instanceCount nums → j < instanceCount nums → ownerAt nums i ≡ ownerAt nums j → instanceAt nums i ≡ instanceAt nums j → i ≡ j
 
 -- ---- the ticks in the row i of the name n: stored up to `since`, and from then on as the core stands
 
@@ -112,7 +121,7 @@ pub record Shown (h : List Event) (t : Tables) : Type 0 where
   pub ticks-size : length (t .ticks) ≡ ticksSize
   pub head : HeadShown h (t .nums) (t .ticks)
   pub each-name : (n : List ℕ) → any (sameBytes n) (names h) ≡ true → NameShown h (t .names) (t .nums) (rowOf h n) n
-  pub each-instance : (x : Instance) → any (sameInstance x) (instances h) ≡ true → InstanceShown h (t .nums) (instanceRowOf h x) x
+  pub instance-rows : InstancesShown h (t .nums)
   pub each-ticks : (n : List ℕ) → any (sameBytes n) (names h) ≡ true → TicksShown h (t .ticks) (rowOf h n) n
 
 -- of lines: the entries of the line level, and the events of the lines. The remembered verdict is apart.

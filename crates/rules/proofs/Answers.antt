@@ -1,113 +1,49 @@
 -- What an answer says: 0 exactly if no rule is broken, and otherwise the lowest number of a broken rule; a history is accepted exactly if no rule is
 -- broken at any of its events. What follows at once: time never falls, and the names, cores and instances fit.
-use mathlib.Core.Path.{_≡_, refl, ap, _∙_}
+use mathlib.Core.Path.{_≡_, refl, ap}
 use mathlib.Core.Logic.{_↔_}
-use mathlib.Core.Bool.{cond, Bool, true, false, _&&_}
+use mathlib.Core.Bool.{Bool, false}
 use mathlib.Core.List.{List, [], _∷_, List·Memᴰ, List·Memᴰ·head, List·Memᴰ·tail}
 use Prim.Native.Nat.{ℕ, _≤_, _<_}
 use native.Mathlib.Omega.{arith}
 use lib.Dec.{ltb}
 use lib.ListN.{length}
-use borrow.Author.Tests.{ltb-true, ltb-false}
+use borrow.Author.Tests.{ltb-false}
+use Rattle.line.specs.Answer.{holds, IsLowest}
+use Rattle.line.proofs.Lowest.{lowest-exactly, lowest-none}
 use Rattle.rules.specs.Event.{Event}
 use Rattle.rules.specs.History.{names, cores, instances}
-use Rattle.rules.specs.Refusals.{Known, look, timeFalls, secondKind, noRoom, offChart, notNext, coreBroken, countBroken, Rule, rule, rules, firstBroken, answerTo}
+use Rattle.rules.specs.Refusals.{Known, look, timeFalls, secondKind, noRoom, offChart, notNext, coreBroken, countBroken, eventTests, answerTo}
 use Rattle.rules.specs.Verdict.{answer, Accepted, Never}
 use Rattle.rules.specs.Lawful.{Fits}
-use Rattle.rules.proofs.Tests.{both, neither, clash}
+use Rattle.rules.proofs.Tests.{neither}
 
--- ---- any list of rules whose numbers rise
-
-unfoldable pub rising : ℕ → List Rule → Bool
-rising n [] = true
-rising n (r ∷ rs) = ltb n (r .number) && rising (r .number) rs
-
-above : (n : ℕ) (rs : List Rule) → rising n rs ≡ true → (r : Rule) → List·Memᴰ r rs → n < r .number
-unfolding rising
-above n [] p r m = elim m [ ]
-above n (s ∷ rs) p r m =
-    let k = both (ltb n (s .number)) (rising (s .number) rs) p in
-    by-place m (above (s .number) rs (k .1) r) (ltb-true n (s .number) (k .0))
-  where
-    by-place : List·Memᴰ r (s ∷ rs) → (List·Memᴰ r rs → s .number < r .number) → n < s .number → n < r .number
-    by-place (List·Memᴰ·head q) f l = omega (arith, ap (λ (x : Rule). x .number) q)
-    by-place (List·Memᴰ·tail d) f l = omega (arith, f d)
-
--- The number n is that of a broken rule, and no broken rule has a lower one.
-pub record Lowest (rs : List Rule) (k : Known) (e : Event) (n : ℕ) : Type 0 where
-  pub of : Rule
-  pub listed : List·Memᴰ of rs
-  pub number : of .number ≡ n
-  pub broken : of .broken k e ≡ true
-  pub lowest : (r : Rule) → List·Memᴰ r rs → r .broken k e ≡ true → n ≤ r .number
-
-module _ (k : Known) (e : Event) where
-  none-broken : (n : ℕ) (rs : List Rule) → rising n rs ≡ true → firstBroken rs k e ≡ 0 → (r : Rule) → List·Memᴰ r rs → r .broken k e ≡ false
-  unfolding rising
-  none-broken n [] p a r m = elim m [ ]
-  none-broken n (s ∷ rs) p a r m =
-      let rest = both (ltb n (s .number)) (rising (s .number) rs) p in
-      by-test (s .broken k e) refl a m (ltb-true n (s .number) (rest .0)) (λ q. none-broken (s .number) rs (rest .1) q r)
-    where
-      by-test : (b : Bool) → s .broken k e ≡ b → cond b (s .number) (firstBroken rs k e) ≡ 0 → List·Memᴰ r (s ∷ rs) → n < s .number →
-          (firstBroken rs k e ≡ 0 → List·Memᴰ r rs → r .broken k e ≡ false) → r .broken k e ≡ false
-      by-test true t q d l f = absurd (omega arith)
-      by-test false t q (List·Memᴰ·head w) l f = ap (λ (x : Rule). x .broken k e) w ∙ t
-      by-test false t q (List·Memᴰ·tail d) l f = f q d
-
-  all-kept : (rs : List Rule) → ((r : Rule) → List·Memᴰ r rs → r .broken k e ≡ false) → firstBroken rs k e ≡ 0
-  all-kept [] f = refl
-  all-kept (s ∷ rs) f = rw (f s (List·Memᴰ·head refl)) (all-kept rs (λ r m. f r (List·Memᴰ·tail m)))
-
-  lowest-broken : (n : ℕ) (rs : List Rule) → rising n rs ≡ true → 1 ≤ firstBroken rs k e → Lowest rs k e (firstBroken rs k e)
-  unfolding rising
-  lowest-broken n [] p l = absurd (omega arith)
-  lowest-broken n (s ∷ rs) p l =
-      let rest = both (ltb n (s .number)) (rising (s .number) rs) p .1 in
-      by-test (s .broken k e) refl l (above (s .number) rs rest) (lowest-broken (s .number) rs rest)
-    where
-      first : ((r : Rule) → List·Memᴰ r rs → s .number < r .number) → (r : Rule) → List·Memᴰ r (s ∷ rs) → s .number ≤ r .number
-      first f r (List·Memᴰ·head q) = omega (arith, ap (λ (x : Rule). x .number) q)
-      first f r (List·Memᴰ·tail d) = omega (arith, f r d)
-
-      later : s .broken k e ≡ false → Lowest rs k e (firstBroken rs k e) → (r : Rule) → List·Memᴰ r (s ∷ rs) → r .broken k e ≡ true → firstBroken rs k e ≤ r .number
-      later t i r (List·Memᴰ·head q) b = absurd (clash (r .broken k e) b (ap (λ (x : Rule). x .broken k e) q ∙ t))
-      later t i r (List·Memᴰ·tail d) b = i .lowest r d b
-
-      by-test : (b : Bool) → s .broken k e ≡ b → 1 ≤ cond b (s .number) (firstBroken rs k e) → ((r : Rule) → List·Memᴰ r rs → s .number < r .number) →
-          (1 ≤ firstBroken rs k e → Lowest rs k e (firstBroken rs k e)) → Lowest (s ∷ rs) k e (cond b (s .number) (firstBroken rs k e))
-      by-test true t q f g = record { of = s; listed = List·Memᴰ·head refl; number = refl; broken = t; lowest = λ r m b. first f r m }
-      by-test false t q f g =
-          let i = g q in
-          record { of = i .of; listed = List·Memᴰ·tail (i .listed); number = i .number; broken = i .broken; lowest = later t i }
-
--- ---- the rules 8 to 14
-
--- their numbers rise from 8 on
-rules-rise : rising 0 rules ≡ true
-unfolding rising rules
-rules-rise = refl
+-- ---- the rules 8 to 14, by the laws of any list of tests
 
 -- An answer is 0 exactly if no rule is broken.
-pub answer-zero : (k : Known) (e : Event) → (answerTo k e ≡ 0) ↔ ((r : Rule) → List·Memᴰ r rules → r .broken k e ≡ false)
-unfolding answerTo
-answer-zero k e = (none-broken k e 0 rules rules-rise, all-kept k e rules)
+pub answer-zero : (k : Known) (e : Event) → (answerTo k e ≡ 0) ↔ ((n : ℕ) → holds n (eventTests k e) ≡ false)
+unfolding answerTo eventTests
+answer-zero k e = lowest-none (eventTests k e) refl
 
 -- Any other is the lowest number that applies.
-pub answer-lowest : (k : Known) (e : Event) → 1 ≤ answerTo k e → Lowest rules k e (answerTo k e)
-unfolding answerTo
-answer-lowest k e = lowest-broken k e 0 rules rules-rise
+pub answer-lowest : (k : Known) (e : Event) (n : ℕ) → 0 < n → (answerTo k e ≡ n) ↔ IsLowest (eventTests k e) n
+unfolding answerTo eventTests
+answer-lowest k e n pos = lowest-exactly (eventTests k e) refl n pos
+
+-- the rule of number n is broken
+abbrev pub isBroken : ℕ → Known → Event → Bool
+isBroken n k e = holds n (eventTests k e)
 
 -- A history is accepted exactly if no rule is broken at any event.
-accepted-never : (h : List Event) → Accepted h → (r : Rule) → List·Memᴰ r rules → Never (r .broken) h
-accepted-never [] a r m = tt
-accepted-never (e ∷ h) a r m = (answer-zero (look h e) e .0 (a .0) r m, accepted-never h (a .1) r m)
+accepted-never : (h : List Event) → Accepted h → (n : ℕ) → Never (isBroken n) h
+accepted-never [] a n = tt
+accepted-never (e ∷ h) a n = (answer-zero (look h e) e .0 (a .0) n, accepted-never h (a .1) n)
 
-never-accepted : (h : List Event) → ((r : Rule) → List·Memᴰ r rules → Never (r .broken) h) → Accepted h
+never-accepted : (h : List Event) → ((n : ℕ) → Never (isBroken n) h) → Accepted h
 never-accepted [] f = tt
-never-accepted (e ∷ h) f = (answer-zero (look h e) e .1 (λ r m. f r m .0), never-accepted h (λ r m. f r m .1))
+never-accepted (e ∷ h) f = (answer-zero (look h e) e .1 (λ n. f n .0), never-accepted h (λ n. f n .1))
 
-pub accepted-exactly : (h : List Event) → Accepted h ↔ ((r : Rule) → List·Memᴰ r rules → Never (r .broken) h)
+pub accepted-exactly : (h : List Event) → Accepted h ↔ ((n : ℕ) → Never (isBroken n) h)
 accepted-exactly h = (accepted-never h, never-accepted h)
 
 -- The same by name: what an event answered 0 has passed.
@@ -120,47 +56,11 @@ pub record Passed (h : List Event) (e : Event) : Type 0 where
   pub core : coreBroken (look h e) e ≡ false
   pub count : countBroken (look h e) e ≡ false
 
--- where each stands in the list
-pub listed-8 : List·Memᴰ (rule 8 timeFalls) rules
-unfolding rules
-listed-8 = List·Memᴰ·head refl
-
-pub listed-9 : List·Memᴰ (rule 9 secondKind) rules
-unfolding rules
-listed-9 = List·Memᴰ·tail (List·Memᴰ·head refl)
-
-pub listed-10 : List·Memᴰ (rule 10 noRoom) rules
-unfolding rules
-listed-10 = List·Memᴰ·tail (List·Memᴰ·tail (List·Memᴰ·head refl))
-
-pub listed-11 : List·Memᴰ (rule 11 offChart) rules
-unfolding rules
-listed-11 = List·Memᴰ·tail (List·Memᴰ·tail (List·Memᴰ·tail (List·Memᴰ·head refl)))
-
-pub listed-12 : List·Memᴰ (rule 12 notNext) rules
-unfolding rules
-listed-12 = List·Memᴰ·tail (List·Memᴰ·tail (List·Memᴰ·tail (List·Memᴰ·tail (List·Memᴰ·head refl))))
-
-pub listed-13 : List·Memᴰ (rule 13 coreBroken) rules
-unfolding rules
-listed-13 = List·Memᴰ·tail (List·Memᴰ·tail (List·Memᴰ·tail (List·Memᴰ·tail (List·Memᴰ·tail (List·Memᴰ·head refl)))))
-
-pub listed-14 : List·Memᴰ (rule 14 countBroken) rules
-unfolding rules
-listed-14 = List·Memᴰ·tail (List·Memᴰ·tail (List·Memᴰ·tail (List·Memᴰ·tail (List·Memᴰ·tail (List·Memᴰ·tail (List·Memᴰ·head refl))))))
-
 pub passed : (h : List Event) (e : Event) → answer h e ≡ 0 → Passed h e
+unfolding eventTests
 passed h e a =
     let f = answer-zero (look h e) e .0 a in
-    record {
-      time = f (rule 8 timeFalls) listed-8;
-      kinds = f (rule 9 secondKind) listed-9;
-      room = f (rule 10 noRoom) listed-10;
-      chart = f (rule 11 offChart) listed-11;
-      number = f (rule 12 notNext) listed-12;
-      core = f (rule 13 coreBroken) listed-13;
-      count = f (rule 14 countBroken) listed-14;
-    }
+    record { time = f 8; kinds = f 9; room = f 10; chart = f 11; number = f 12; core = f 13; count = f 14 }
 
 -- ---- time never falls
 
@@ -191,4 +91,5 @@ never-fits [] c = record { names-fit = omega arith; cores-fit = omega arith; ins
 never-fits (e ∷ h) c = room-fits h e (c .0)
 
 pub all-fit : (h : List Event) → Accepted h → Fits h
-all-fit h a = never-fits h (accepted-exactly h .0 a (rule 10 noRoom) listed-10)
+unfolding eventTests
+all-fit h a = never-fits h (accepted-exactly h .0 a 10)

@@ -9,6 +9,7 @@ use lib.Dec.{T, eqb}
 use borrow.Author.Tests.{eq-eqb}
 use Rattle.text.specs.Literal.{bytes}
 use Rattle.text.specs.Bytes.{sameBytes}
+use Rattle.bill.specs.Rows.{Row, Sheet}
 use Rattle.rules.specs.Words.{task, interrupt, runnable, semaphore}
 use Rattle.rules.specs.Words.{activate, start, preempt, resume, wait, release, terminate, poll, run, park, poll-parking, release-parking, mtalimitexceeded, suspend}
 use Rattle.rules.specs.Words.{requestsemaphore, queued, assigned, waiting, released, increment, decrement, free, lock, full, overfull, unlock-full, used}
@@ -16,9 +17,10 @@ use Rattle.rules.specs.Charts.{chartOf, processChart, runnableChart, sem
 use Rattle.rules.specs.Event.{Event}
 use Rattle.rules.specs.Core.{takes, gives, keeps, onCore}
 use Rattle.rules.specs.History.{hasInstances, isTracked, named, kindIn, activates, lastNumber, lastCount, names, instances}
-use Rattle.rules.specs.Refusals.{timeFalls, secondKind, sourceClash, targetClash, noRoom, offChart, notNext, coreBroken, countFollows, fixed, countBroken, rules, answerTo}
+use Rattle.rules.specs.Refusals.{timeFalls, secondKind, sourceClash, targetClash, noRoom, offChart, notNext, coreBroken, countFollows, countAllowed, countBroken, eventTests, answerTo}
+use Rattle.rules.specs.First.{takenOf, firstRefusal}
 use Rattle.rules.specs.Verdict.{answer, taken, verdict}
-use Rattle.rules.specs.Sheet.{ticks, Row, Sheet, sheet}
+use Rattle.rules.specs.Sheet.{ticks, sheet}
 use Rattle.rules.proofs.ManyNames.{line, trigger, many, newName, newCore, name-after, trigger-after, core-after}
 
 -- of a semaphore: time, source, target, event, note
@@ -175,21 +177,21 @@ unfoldable pub sameVerdict : ℕ × ℕ → ℕ → ℕ → Bool
 sameVerdict v n i = eqb (v .0) n && eqb (v .1) i
 
 unfoldable pub isRight : Example → Bool
-isRight (says es n i) = sameVerdict (verdict [] 1 es) n i
+isRight (says es n i) = sameVerdict (verdict [] es) n i
 isRight (answers h e n) = eqb (answer h e) n
-isRight (shows es n cs ps) = sameVerdict (verdict [] 1 es) 0 0 && sameSheet (sheet (taken [] es)) n cs ps
+isRight (shows es n cs ps) = sameVerdict (verdict [] es) 0 0 && sameSheet (sheet (taken [] es)) n cs ps
 
 unfoldable pub right : List Example → Bool
 right [] = true
 right (x ∷ xs) = isRight x && right xs
 
 computed-right : T (right computed)
-unfolding right isRight sameVerdict sameSheet sameRows sameBytes verdict taken sheet ticks answerTo rules timeFalls secondKind sourceClash targetClash noRoom offChart notNext coreBroken countBroken names instances chartOf processChart runnableChart semaphoreChart isProcess takes gives keeps onCore hasInstances isTracked named kindIn activates lastNumber lastCount fixed countFollows
+unfolding right isRight sameVerdict sameSheet sameRows sameBytes firstRefusal takenOf sheet ticks answerTo eventTests timeFalls secondKind sourceClash targetClash noRoom offChart notNext coreBroken countBroken names instances chartOf processChart runnableChart semaphoreChart isProcess takes gives keeps onCore hasInstances isTracked named kindIn activates lastNumber lastCount countAllowed countFollows
 computed-right = tt
 
 -- after many names the laws say whether there is room, and the rest is computed
 by-law : (answer (many newName 255) (newName 255) ≡ 0) × (answer (many newName 256) (newName 256) ≡ 10) × (answer (many newName 256) (trigger 0) ≡ 0) × (answer (many newName 255) (newCore 0) ≡ 10)
-unfolding sameBytes timeFalls secondKind sourceClash targetClash offChart notNext coreBroken countBroken chartOf processChart runnableChart semaphoreChart isProcess takes gives keeps onCore hasInstances isTracked kindIn activates lastNumber lastCount fixed countFollows
+unfolding sameBytes timeFalls secondKind sourceClash targetClash offChart notNext coreBroken countBroken chartOf processChart runnableChart semaphoreChart isProcess takes gives keeps onCore hasInstances isTracked kindIn activates lastNumber lastCount countAllowed countFollows
 by-law = (name-after 255 (omega arith), name-after 256 (omega arith), trigger-after 256 (omega arith), core-after 255 (omega arith))
 
 answered : (h : List Event) (e : Event) (n : ℕ) (xs : List Example) → answer h e ≡ n → T (right xs) → T (right (answers h e n ∷ xs))

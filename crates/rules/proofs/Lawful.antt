@@ -1,10 +1,10 @@
 -- A trace is sound exactly if it is lawful (demand 2): each rule that is tested event by event against what is known is never broken exactly if its clause
 -- holds of the list of all events.
-use mathlib.Core.Path.{_≡_, refl, sym, ap, subst}
+use mathlib.Core.Path.{_≡_, refl, ap}
 use mathlib.Core.Logic.{_↔_}
-use mathlib.Core.Bool.{Bool, true, false, not, _&&_}
+use mathlib.Core.Bool.{Bool, true, false, not, _&&_, cond}
 use mathlib.Core.Option.{Option, none, some}
-use mathlib.Core.List.{List, [], _∷_, List·Memᴰ, List·Memᴰ·head, List·Memᴰ·tail}
+use mathlib.Core.List.{List, [], _∷_}
 use Prim.Native.Nat.{ℕ, _+_, _≤_}
 use lib.Dec.{eqb}
 use borrow.Author.Tests.{eqb-true, eq-eqb, ltb-false, le-ltb, not-false}
@@ -14,13 +14,13 @@ use Rattle.rules.specs.Lists.{only}
 use Rattle.rules.specs.Words.{semaphore}
 use Rattle.rules.specs.Event.{Event}
 use Rattle.rules.specs.History.{activates, lastNumber, lastCount}
-use Rattle.rules.specs.Refusals.{Known, look, timeFalls, secondKind, noRoom, offChart, isNext, notNext, coreBroken, countFollows, fixed, countBroken, Rule, rule, rules}
+use Rattle.rules.specs.Refusals.{Known, look, timeFalls, secondKind, noRoom, offChart, isNext, notNext, coreBroken, countFollows, countAllowed, countBroken, eventTests}
 use Rattle.rules.specs.Verdict.{Accepted, Never}
 use Rattle.rules.specs.Lines.{eventsOf}
 use Rattle.rules.specs.Trace.{Sound}
 use Rattle.rules.specs.Lawful.{Chain, Each, numbers, NumberAfter, counts, CountAfter, FixedCount, Orderly, SoFar, Lawful}
 use Rattle.rules.proofs.Tests.{both, and-true, clash}
-use Rattle.rules.proofs.Answers.{accepted-exactly, listed-8, listed-9, listed-10, listed-11, listed-12, listed-13, listed-14}
+use Rattle.rules.proofs.Answers.{accepted-exactly}
 use Rattle.rules.proofs.ChartFact.{chart-runs}
 use Rattle.rules.proofs.CoreRuns.{core-runs}
 use Rattle.rules.proofs.Chains.{After, Asked, linked-exactly}
@@ -105,7 +105,7 @@ counts-follow = linked-exactly (λ d. d .count) CountTo counts (λ d. d .target)
 -- the rule is its two halves
 count-halves : (k : Known) (e : Event) → (countBroken k e ≡ false) ↔ ((outOfCount k e ≡ false) × FixedCount e)
 unfolding countBroken outOfCount
-count-halves k e = by-test (eqb (e .kind) semaphore) refl (countFollows (k .count) (e .word) (e .count)) (fixed (e .word) (e .count))
+count-halves k e = by-test (eqb (e .kind) semaphore) refl (countFollows (k .count) (e .word) (e .count)) (countAllowed (e .word) (e .count))
   where
     by-test : (b : Bool) → eqb (e .kind) semaphore ≡ b → (c f : Bool) → (b && not (c && f) ≡ false) ↔ ((b && not c ≡ false) × (e .kind ≡ semaphore → f ≡ true))
     by-test true s c f =
@@ -128,42 +128,43 @@ counts-kept h = (λ c. let p = apart h c in (counts-follow h .0 (p .0), p .1), �
 
 -- ---- the rules together
 
--- what holds of each of the seven holds of all
-in-front : (P : Rule → Type 0) (s : Rule) (rs : List Rule) → P s → ((r : Rule) → List·Memᴰ r rs → P r) → (r : Rule) → List·Memᴰ r (s ∷ rs) → P r
-in-front P s rs p f r (List·Memᴰ·head q) = subst P (sym q) p
-in-front P s rs p f r (List·Memᴰ·tail m) = f r m
-
 in-order : (h : List Event) → Accepted h → Orderly h
+unfolding eventTests
 in-order h a =
     let never = accepted-exactly h .0 a in
-    let kinds = never (rule 9 secondKind) listed-9 in
-    let counts = counts-kept h .0 (never (rule 14 countBroken) listed-14) in
+    let counts = counts-kept h .0 (never 14) in
     record {
-      time = time-kept h .0 (never (rule 8 timeFalls) listed-8);
-      kinds = one-kind h .0 kinds;
-      room = all-along h kinds .0 (never (rule 10 noRoom) listed-10);
-      charts = chart-runs h .0 (never (rule 11 offChart) listed-11);
-      numbered = numbers-follow h .0 (never (rule 12 notNext) listed-12);
-      on-cores = core-runs h .0 (never (rule 13 coreBroken) listed-13);
+      time = time-kept h .0 (never 8);
+      kinds = one-kind h .0 (never 9);
+      room = all-along h (never 9) .0 (never 10);
+      charts = chart-runs h .0 (never 11);
+      numbered = numbers-follow h .0 (never 12);
+      on-cores = core-runs h .0 (never 13);
       counted = counts .0;
       fixed-counts = counts .1;
     }
 
-order-kept : (h : List Event) → Orderly h → Accepted h
-unfolding rules
-order-kept h o = accepted-exactly h .1 (
-    in-front P _ _ (time-kept h .1 (o .time))
-    (in-front P _ _ kinds
-    (in-front P _ _ (all-along h kinds .1 (o .room))
-    (in-front P _ _ (chart-runs h .1 (o .charts))
-    (in-front P _ _ (numbers-follow h .1 (o .numbered))
-    (in-front P _ _ (core-runs h .1 (o .on-cores))
-    (in-front P _ _ (counts-kept h .1 (o .counted, o .fixed-counts)) (λ r m. elim m [ ])))))))
-    )
-  where
-    P : Rule → Type 0
-    P r = Never (r .broken) h
+-- neither of two rules is broken, whichever a test tells
+either-never : (b : Bool) (f g : Known → Event → Bool) (h : List Event) → Never f h → Never g h → Never (λ k e. cond b (f k e) (g k e)) h
+either-never true f g h p q = p
+either-never false f g h p q = q
 
+-- there is no other rule
+no-rule : (h : List Event) → Never (λ k e. false) h
+no-rule [] = tt
+no-rule (e ∷ h) = (refl, no-rule h)
+
+order-kept : (h : List Event) → Orderly h → Accepted h
+unfolding eventTests
+order-kept h o = accepted-exactly h .1 (λ n.
+    either-never (eqb 8 n) timeFalls _ h (time-kept h .1 (o .time))
+    (either-never (eqb 9 n) secondKind _ h kinds
+    (either-never (eqb 10 n) noRoom _ h (all-along h kinds .1 (o .room))
+    (either-never (eqb 11 n) offChart _ h (chart-runs h .1 (o .charts))
+    (either-never (eqb 12 n) notNext _ h (numbers-follow h .1 (o .numbered))
+    (either-never (eqb 13 n) coreBroken _ h (core-runs h .1 (o .on-cores))
+    (either-never (eqb 14 n) countBroken _ h (counts-kept h .1 (o .counted, o .fixed-counts)) (no-rule h))))))))
+  where
     kinds : Never secondKind h
     kinds = one-kind h .1 (o .kinds)
 

@@ -8,11 +8,11 @@ use Rattle.rules.specs.Charts.{chartOf}
 use Rattle.rules.specs.Event.{Event, Instance, wordsOf}
 use Rattle.rules.specs.Core.{CoreRun, coreAt, Alone}
 use Rattle.rules.specs.History.{cores, processes}
-use Rattle.rules.specs.Refusals.{offChart, coreBroken, rule}
+use Rattle.rules.specs.Refusals.{eventTests}
 use Rattle.rules.specs.Verdict.{Accepted, taken}
 use Rattle.rules.specs.Lawful.{Fits}
 use Rattle.rules.specs.Sheet.{heldTicks, idleTicks, unknownTicks, charge, chargeOn, span}
-use Rattle.rules.proofs.Answers.{accepted-exactly, listed-11, listed-13, all-fit}
+use Rattle.rules.proofs.Answers.{accepted-exactly, all-fit}
 use Rattle.rules.proofs.Verdicts.{taken-accepted}
 use Rattle.rules.proofs.ChartFact.{chart-runs}
 use Rattle.rules.proofs.CoreRuns.{kept-run}
@@ -41,9 +41,10 @@ pub record Holds (h : List Event) : Type 0 where
   pub nobody-shares : Alone h
 
 pub accepted-holds : (h : List Event) → Accepted h → Holds h
+unfolding eventTests
 accepted-holds h a = record {
-  each-chart = chart-runs h .0 (accepted-exactly h .0 a (rule 11 offChart) listed-11);
-  each-run = kept-run h (accepted-exactly h .0 a (rule 13 coreBroken) listed-13);
+  each-chart = chart-runs h .0 (accepted-exactly h .0 a 11);
+  each-run = kept-run h (accepted-exactly h .0 a 13);
   room = all-fit h a;
   each-core = core-total h a;
   each-charge = charge-by-core h a;

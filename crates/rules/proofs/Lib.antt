@@ -9,8 +9,10 @@ pub mod Rows
 pub mod Changes
 pub mod Steps
 pub mod Answers
+pub mod First
 pub mod Verdicts
 pub mod CoreWords
+pub mod CoreClasses
 pub mod CoreRuns
 pub mod Chains
 pub mod Seen

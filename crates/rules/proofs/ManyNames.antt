@@ -12,13 +12,14 @@ use borrow.Author.Tests.{ne-eqb, le-ltb, lt-ltb}
 use Rattle.text.specs.Literal.{bytes}
 use Rattle.text.specs.Bytes.{sameBytes}
 use Rattle.text.proofs.Words.{same-eq, same-refl, other-length}
+use Rattle.line.specs.Answer.{test, lowest}
 use Rattle.rules.specs.Lists.{any, only, when, orElse, addUnless, addNew}
 use Rattle.rules.specs.Words.{core, task, runnable, start}
 use Rattle.rules.specs.Charts.{isProcess}
 use Rattle.rules.specs.Event.{Event, Instance, sameInstance, instanceOf}
 use Rattle.rules.specs.Core.{takes, onCore}
 use Rattle.rules.specs.History.{hasInstances, isTracked, named, names, kindIn, kindOf, isKind, cores, instances}
-use Rattle.rules.specs.Refusals.{look, timeFalls, secondKind, noRoom, offChart, notNext, coreBroken, countBroken, rule, rules, firstBroken, answerTo}
+use Rattle.rules.specs.Refusals.{look, timeFalls, secondKind, noRoom, offChart, notNext, coreBroken, countBroken, eventTests, answerTo}
 use Rattle.rules.specs.Verdict.{answer}
 use Rattle.rules.proofs.Sums.{any-new}
 
@@ -95,13 +96,14 @@ cores-many n = only-none (λ x. isKind (eqb core) (kindOf x (many newName n))) (
 
 abbrev pub answerIf : Bool → List Event → Event → ℕ
 answerIf full h e =
-    cond (timeFalls (look h e) e) 8
-    (cond (secondKind (look h e) e) 9
+    let k = look h e in
+    cond (timeFalls k e) 8
+    (cond (secondKind k e) 9
     (cond full 10
-    (firstBroken (rule 11 offChart ∷ rule 12 notNext ∷ rule 13 coreBroken ∷ rule 14 countBroken ∷ []) (look h e) e)))
+    (lowest (test 11 (offChart k e) ∷ test 12 (notNext k e) ∷ test 13 (coreBroken k e) ∷ test 14 (countBroken k e) ∷ []))))
 
 answer-if : (h : List Event) (e : Event) (full : Bool) → noRoom (look h e) e ≡ full → answer h e ≡ answerIf full h e
-unfolding answerTo rules
+unfolding answerTo eventTests
 answer-if h e full q = ap (λ b. answerIf b h e) q
 
 -- without cores, and with few instances, the names decide

@@ -23,7 +23,7 @@ use Rattle.line.specs.declared.note.Note.{Note}
 use Rattle.line.specs.declared.note.Note.the-variants.{Means, Wrong}
 use Rattle.line.specs.declared.reading.Reading.{Reading}
 use Rattle.line.specs.declared.reading.Reading.the-variants.{Version, Comment, TimeScale, Creator, CreationDate, EventLine, Refused}
-use Rattle.line.specs.Part.{fieldOf}
+use Rattle.fields.specs.Part.{fieldOf}
 use Rattle.line.specs.Note.{maxInstance, asCount, countNote, isSignal, signalNote, noteOf}
 use Rattle.line.specs.Event.{maxTime}
 use Rattle.line.specs.Reading.{readLine}
@@ -35,9 +35,10 @@ use Rattle.rules.specs.Words.{semaphore}
 use Rattle.rules.specs.Event.{Event, Instance, sameInstance, stateOf}
 use Rattle.rules.specs.Core.{onCore}
 use Rattle.rules.specs.History.{hasInstances, isTracked, named, names, kindIn, cores, instances, activates, lastTime}
-use Rattle.rules.specs.Refusals.{less, timeFalls, sourceClash, targetClash, secondKind, noRoom, offChart, notNext, coreBroken, countBroken, rules, answerTo, unseen}
+use Rattle.rules.specs.Refusals.{less, timeFalls, sourceClash, targetClash, secondKind, noRoom, offChart, notNext, coreBroken, countBroken, eventTests, answerTo, unseen}
+use Rattle.rules.specs.First.{takenOf}
 use Rattle.rules.specs.Verdict.{answer, Accepted, taken}
-use Rattle.rules.specs.Lines.{kindNumber, wordNumber, eventFrom, eventIn, eventOfLine, withEvent, eventsOf, requests}
+use Rattle.rules.specs.Lines.{kindNumber, eventFrom, eventIn, eventOfLine, withEvent, eventsOf, requests}
 use Rattle.rules.proofs.Tests.{both}
 use Rattle.rules.proofs.CoreWords.{isStep}
 use Rattle.rules.proofs.Answers.{all-fit}
@@ -61,10 +62,10 @@ abbrev requested : ℕ → ℕ → Bool
 requested k a = implies (eqb k semaphore) (isStep (stepFor (chartOf k) a) || member a requests)
 
 abbrev right : Kind → Action → Bool
-right k a = implies (isOf k a) (stepped (kindNumber k) (wordNumber a) && requested (kindNumber k) (wordNumber a))
+right k a = implies (isOf k a) (stepped (kindNumber k) (actionCode a) && requested (kindNumber k) (actionCode a))
 
 tested : (k : Kind) → all (right k) actions ≡ true
-unfolding actions isOf among actionsOf actionCode kindNumber wordNumber hasInstances isProcess isStep chartOf processChart runnableChart semaphoreChart
+unfolding actions isOf among actionsOf actionCode kindNumber hasInstances isProcess isStep chartOf processChart runnableChart semaphoreChart
 tested Stimulus = refl
 tested Task = refl
 tested Interrupt = refl
@@ -121,7 +122,7 @@ pub record Met (e : Event) : Type 0 where
 pub line-meets : (l : List ℕ) (e : ReadEvent) (count : ℕ) → readLine l ≡ EventLine e count → Met (eventFrom e (fieldOf l 2) (fieldOf l 5) count)
 line-meets l e count q =
     let a = said l e count q .allowed in
-    let w = both (stepped (kindNumber (e .kind)) (wordNumber (e .action))) _ (implied (isOf (e .kind) (e .action)) _ (every (right (e .kind)) (tested (e .kind)) (e .action)) (a .of-kind)) in
+    let w = both (stepped (kindNumber (e .kind)) (actionCode (e .action))) _ (implied (isOf (e .kind) (e .action)) _ (every (right (e .kind)) (tested (e .kind)) (e .action)) (a .of-kind)) in
     let c = subst (Counted (e .kind)) (a .means) (counted (e .kind) (fieldOf l 8)) in
     record {
       worded = implied (hasInstances (kindNumber (e .kind))) _ (w .0);
@@ -162,7 +163,7 @@ unjudged-zero Semaphore q = cc
 -- "STI, SCHED, EVENT and SIG lines are read and their fields checked, but only move the time"
 pub only-time : (h : List Event) → Accepted h → (e : ReadEvent) (source target : List ℕ) (count : ℕ) → judged (e .kind) ≡ false →
     answer h (eventFrom e source target count) ≡ cond (less (e .time) (lastTime h)) 8 0
-unfolding answerTo rules timeFalls secondKind sourceClash targetClash noRoom offChart notNext coreBroken countBroken names named kindIn instances onCore hasInstances isTracked isProcess activates chartOf
+unfolding answerTo eventTests timeFalls secondKind sourceClash targetClash noRoom offChart notNext coreBroken countBroken names named kindIn instances onCore hasInstances isTracked isProcess activates chartOf
 only-time h a e source target count j =
     let f = all-fit h a in
     rw (unjudged-zero (e .kind) j, le-ltb 256 (length (names h)) (f .names-fit), le-ltb 64 (length (cores h)) (f .cores-fit), le-ltb 1024 (length (instances h)) (f .instances-fit))
@@ -185,7 +186,7 @@ read-worded (l ∷ ls) = by-reading (readLine l) refl (read-worded ls)
     by-reading (Refused n) q w = w
 
 taken-worded : (es h : List Event) → Worded h → Worded es → Worded (taken h es)
-unfolding taken
+unfolding takenOf
 taken-worded [] h w v = w
 taken-worded (e ∷ es) h w v = by-answer (answer h e) (taken-worded es (e ∷ h) (v .0, w) (v .1))
   where

@@ -11,23 +11,24 @@ use lib.ListN.{length}
 use borrow.Author.Tests.{eqb-true, leb-true, ne-eqb, le-leb, lt-leb}
 use Rattle.line.specs.declared.reading.Reading.{Reading}
 use Rattle.line.specs.declared.reading.Reading.the-variants.{Version, Comment, TimeScale, Creator, CreationDate, EventLine, Refused}
-use Rattle.line.specs.Answer.{test, lowest}
+use Rattle.line.specs.Answer.{test, lowest, holds, IsLowest}
 use Rattle.line.specs.Parameter.{isCreator, isCreationDate}
 use Rattle.line.specs.Reading.{readLine, answerOf}
 use Rattle.line.specs.Condition.{refuses1, refuses2, isScale, refuses3, refuses5, refuses6, refuses7}
-use Rattle.line.proofs.Lowest.{holds, lowest-exactly, lowest-none}
+use Rattle.line.proofs.Lowest.{lowest-exactly, lowest-none}
 use Rattle.line.proofs.Answers.{answer-lowest}
+use Rattle.bill.specs.Scale.{scaleNumber}
 use Rattle.rules.specs.declared.place.Place.{Place}
 use Rattle.rules.specs.Lists.{any, latest, orElse}
 use Rattle.rules.specs.Lines.{eventIn, eventOfLine}
-use Rattle.rules.specs.Trace.{scaleNumber, scaleIn, orZero, isSome, placeOf, tooMuch, versionWrong, parameterWrong, unscaled, placeTests, answerInPlace, firstAnswer, readAnswer, placed}
+use Rattle.rules.specs.Trace.{scaleIn, orZero, isSome, placeOf, tooMuch, versionWrong, parameterWrong, unscaled, placeTests, answerInPlace}
+use Rattle.rules.specs.PlaceCode.{firstAnswer, readAnswer, answerByReading}
 use Rattle.rules.proofs.Tests.{neither}
 use Rattle.rules.proofs.Told.{Told, testsOf, toldBy, told-right}
 
 -- ---- "given exactly when": the conditions of the table, in the order of their numbers
 
-pub place-exactly : (p : Place) (l : List ℕ) (n : ℕ) → 0 < n →
-    (answerInPlace p l ≡ n) ↔ ((holds n (placeTests p l) ≡ true) × ((m : ℕ) → m < n → holds m (placeTests p l) ≡ false))
+pub place-exactly : (p : Place) (l : List ℕ) (n : ℕ) → 0 < n → (answerInPlace p l ≡ n) ↔ IsLowest (placeTests p l) n
 unfolding answerInPlace placeTests
 place-exactly p l n pos = lowest-exactly (placeTests p l) refl n pos
 
@@ -62,9 +63,9 @@ record Answers (p : Place) (r : Reading) (low : ℕ) : Type 0 where
   first : firstAnswer r ≡ cond (not (toldBy r .version)) 2 (fromThree p (toldBy r) low)
   later : readAnswer p r ≡ cond (toldBy r .version-line) 2 (fromThree p (toldBy r) low)
 
-seldom-three : (b : Bool) (low : ℕ) → 0 ≡ low → cond b 3 0 ≡ cond (b || false) 3 low
-seldom-three true low q = refl
-seldom-three false low q = q
+three-or-low : (b : Bool) (low : ℕ) → 0 ≡ low → cond b 3 0 ≡ cond (b || false) 3 low
+three-or-low true low q = refl
+three-or-low false low q = q
 
 module _ (p : Place) (low : ℕ) where
   -- a refused reading is one of 2, 3, and 5 to 7
@@ -81,8 +82,8 @@ module _ (p : Place) (low : ℕ) where
   unfolding answerOf
   answers Version q = record { first = q; later = refl }
   answers Comment q = record { first = refl; later = q }
-  answers (TimeScale s) q = record { first = refl; later = seldom-three (not (eqb (p .scale) 0) || p .started) low q }
-  answers Creator q = record { first = refl; later = seldom-three (p .creator || p .started) low q }
+  answers (TimeScale s) q = record { first = refl; later = three-or-low (not (eqb (p .scale) 0) || p .started) low q }
+  answers Creator q = record { first = refl; later = three-or-low (p .creator || p .started) low q }
   answers CreationDate q = record { first = refl; later = rw q }
   answers (EventLine e count) q = record { first = refl; later = rw q }
   answers (Refused n) q = refused-answers n (eqb n 2) (leb 4 n) refl refl q
@@ -95,8 +96,8 @@ in-order false true v w f g x p q = p
 in-order false false v w f g x p q = q
 
 -- 1 comes before all others
-too-long : (p : Place) (l : List ℕ) → refuses1 l ≡ true → placed p (readLine l) ≡ answerInPlace p l
-unfolding placed readLine answerInPlace placeTests tooMuch refuses1
+too-long : (p : Place) (l : List ℕ) → refuses1 l ≡ true → answerByReading p (readLine l) ≡ answerInPlace p l
+unfolding answerByReading readLine answerInPlace placeTests tooMuch refuses1
 too-long p l q = rw q (by-count (leb 1000000000 (p .lines)) (eqb (p .lines) 0) _)
   where
     by-count : (many first : Bool) (x : ℕ) → cond many 1 (cond first (firstAnswer (Refused 1)) (readAnswer p (Refused 1))) ≡ cond (many || true) 1 x
@@ -116,11 +117,11 @@ alone-right : (l : List ℕ) → refuses1 l ≡ false → answerOf (readLine l) 
 unfolding refuses2 refuses3 testsOf
 alone-right l q = answer-lowest l ∙ rw (← (told-right l q), q)
 
-pub placed-right : (p : Place) (l : List ℕ) → placed p (readLine l) ≡ answerInPlace p l
-unfolding placed
-placed-right p l = by-length (refuses1 l) refl
+pub by-reading-right : (p : Place) (l : List ℕ) → answerByReading p (readLine l) ≡ answerInPlace p l
+unfolding answerByReading
+by-reading-right p l = by-length (refuses1 l) refl
   where
-    by-length : (b : Bool) → refuses1 l ≡ b → placed p (readLine l) ≡ answerInPlace p l
+    by-length : (b : Bool) → refuses1 l ≡ b → answerByReading p (readLine l) ≡ answerInPlace p l
     by-length true q = too-long p l q
     by-length false q =
         let t = toldBy (readLine l) in
@@ -170,5 +171,4 @@ line-next h l q =
 pub place-next : (h : List (List ℕ)) (l : List ℕ) → answerInPlace (placeOf h) l ≡ 0 → placeOf (l ∷ h) ≡ nextPlace (placeOf h) (readLine l)
 unfolding placeTests tooMuch
 place-next h l q =
-    let short = neither (tooMuch (placeOf h) l) false (place-none (placeOf h) l .0 q 1) .0 in
-    line-next h l (neither (leb 1000000000 (placeOf h .lines)) (refuses1 l) short .1)
+    line-next h l (neither (leb 1000000000 (placeOf h .lines)) (refuses1 l) (place-none (placeOf h) l .0 q 1) .1)

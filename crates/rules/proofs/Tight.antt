@@ -1,28 +1,25 @@
 -- How tight the contracts of the rules' code are: no second answer, and wrong answers that they shut out.
 use mathlib.Core.Path.{_≡_, refl}
-use mathlib.Core.Bool.{Bool, true, false, cond}
+use mathlib.Core.Bool.{Bool, true, false, not, cond}
 use mathlib.Core.List.{List}
-use Prim.Native.Nat.{ℕ, _-_}
+use Prim.Native.Nat.{ℕ}
 use lib.Dec.{eqb}
 use Rattle.text.proofs.Tight.{unique, ShutsOut, shut-out}
 use Rattle.words.specs.declared.kind.Kind.{Kind}
 use Rattle.words.specs.declared.kind.Kind.the-variants.{Stimulus}
-use Rattle.words.specs.declared.action.Action.{Action}
-use Rattle.words.specs.declared.action.Action.the-variants.{Start}
-use Rattle.words.specs.declared.scale.Scale.{Scale}
-use Rattle.words.specs.declared.scale.Scale.the-variants.{Nanoseconds}
-use Rattle.words.specs.Action.{actionCode}
 use Rattle.line.specs.declared.reading.Reading.{Reading}
 use Rattle.line.specs.declared.reading.Reading.the-variants.{Comment}
 use Rattle.rules.specs.declared.chart.Move.{Move}
 use Rattle.rules.specs.declared.chart.Move.the-variants.{To, Off}
 use Rattle.rules.specs.declared.place.Place.{Place}
-use Rattle.rules.specs.Words.{task, runnable, start, free, TERMINATED, RUNNING, FULL}
+use Rattle.rules.specs.Words.{task, interrupt, runnable, semaphore, activate, mtalimitexceeded, start, free, TERMINATED, RUNNING, FULL}
 use Rattle.rules.specs.Chart.{Step}
 use Rattle.rules.specs.Charts.{processChart, runnableChart, semaphoreChart, isProcess, chartOf}
+use Rattle.rules.specs.Core.{takes, no-core, coreClass}
+use Rattle.rules.specs.History.{hasInstances, isTracked, activates}
 use Rattle.rules.specs.Rows.{moveBy}
-use Rattle.rules.specs.Lines.{kindNumber, wordNumber}
-use Rattle.rules.specs.Trace.{scaleNumber, placed}
+use Rattle.rules.specs.Lines.{kindNumber}
+use Rattle.rules.specs.PlaceCode.{answerByReading}
 
 -- ---- `process_step`, `runnable_step`, `semaphore_step`, `chart_step`: for any chart
 
@@ -55,7 +52,67 @@ pub chart-not-still : ShutsOut {A = ℕ × ℕ × ℕ} (λ (k, a, s). moveBy (ch
 unfolding moveBy chartOf isProcess processChart
 chart-not-still = shut-out isOff (task, start, RUNNING) refl refl
 
--- ---- `kind_number`, `word_number`, `scale_number`
+-- ---- `is_process`, `with_instances`, `tracked`, `numbers_instance`, `core_class`
+
+pub is-process-unique : (k : ℕ) (x y : Bool) → x ≡ isProcess k → y ≡ isProcess k → x ≡ y
+is-process-unique = unique isProcess
+
+-- interrupt routines are processes too
+pub is-process-not-tasks : ShutsOut isProcess (eqb task)
+unfolding isProcess
+is-process-not-tasks = shut-out (λ b. b) interrupt refl refl
+
+pub with-instances-unique : (k : ℕ) (x y : Bool) → x ≡ hasInstances k → y ≡ hasInstances k → x ≡ y
+with-instances-unique = unique hasInstances
+
+-- semaphores have none
+pub with-instances-not-as-tracked : ShutsOut hasInstances isTracked
+unfolding hasInstances isTracked isProcess
+with-instances-not-as-tracked = shut-out not semaphore refl refl
+
+-- runnables have some
+pub with-instances-not-processes : ShutsOut hasInstances isProcess
+unfolding hasInstances isProcess
+with-instances-not-processes = shut-out (λ b. b) runnable refl refl
+
+pub tracked-unique : (k : ℕ) (x y : Bool) → x ≡ isTracked k → y ≡ isTracked k → x ≡ y
+tracked-unique = unique isTracked
+
+-- semaphores are tracked
+pub tracked-not-by-instances : ShutsOut isTracked hasInstances
+unfolding isTracked hasInstances isProcess
+tracked-not-by-instances = shut-out (λ b. b) semaphore refl refl
+
+-- types that are not judged are not
+pub tracked-not-always : ShutsOut isTracked (λ k. true)
+unfolding isTracked hasInstances isProcess
+tracked-not-always = shut-out not 0 refl refl
+
+pub numbers-unique : (k a : ℕ) (x y : Bool) → x ≡ activates k a → y ≡ activates k a → x ≡ y
+numbers-unique k = unique (activates k)
+
+abbrev numbers : ℕ × ℕ → Bool
+numbers (k, a) = activates k a
+
+-- mtalimitexceeded numbers a process's instance too
+pub numbers-not-by-activate : ShutsOut numbers (λ (k, a). eqb a activate)
+unfolding activates isProcess
+numbers-not-by-activate = shut-out (λ b. b) (task, mtalimitexceeded) refl refl
+
+-- start numbers no process's instance
+pub numbers-not-by-start : ShutsOut numbers (λ (k, a). eqb a start)
+unfolding activates isProcess
+numbers-not-by-start = shut-out not (task, start) refl refl
+
+pub core-class-unique : (k a x y : ℕ) → x ≡ coreClass k a → y ≡ coreClass k a → x ≡ y
+core-class-unique k = unique (coreClass k)
+
+-- a runnable's start takes no core
+pub core-class-not-by-word : ShutsOut {A = ℕ × ℕ} (λ (k, a). coreClass k a) (λ (k, a). coreClass task a)
+unfolding coreClass isProcess takes
+core-class-not-by-word = shut-out (eqb no-core) (runnable, start) refl refl
+
+-- ---- `kind_number`, `scale_number`
 
 pub kind-number-unique : (k : Kind) (x y : ℕ) → x ≡ kindNumber k → y ≡ kindNumber k → x ≡ y
 kind-number-unique = unique kindNumber
@@ -65,33 +122,14 @@ pub kind-not-judged : ShutsOut kindNumber (λ k. cond (eqb (kindNumber k) 0) tas
 unfolding kindNumber
 kind-not-judged = shut-out (eqb 0) Stimulus refl refl
 
-pub word-number-unique : (a : Action) (x y : ℕ) → x ≡ wordNumber a → y ≡ wordNumber a → x ≡ y
-word-number-unique = unique wordNumber
-
-pub word-number-not-its-code : ShutsOut wordNumber actionCode
-unfolding wordNumber actionCode
-word-number-not-its-code = shut-out (eqb start) Start refl refl
-
-pub scale-number-unique : (s : Scale) (x y : ℕ) → x ≡ scaleNumber s → y ≡ scaleNumber s → x ≡ y
-scale-number-unique = unique scaleNumber
-
-pub scale-number-not-from-zero : ShutsOut scaleNumber (λ s. scaleNumber s - 1)
-unfolding scaleNumber
-scale-number-not-from-zero = shut-out (eqb 2) Nanoseconds refl refl
-
--- the longest first
-pub scale-number-not-turned : ShutsOut scaleNumber (λ s. 6 - scaleNumber s)
-unfolding scaleNumber
-scale-number-not-turned = shut-out (eqb 2) Nanoseconds refl refl
-
 -- ---- `answer_in_place`
 
-pub place-unique : (p : Place) (r : Reading) (x y : ℕ) → x ≡ placed p r → y ≡ placed p r → x ≡ y
-place-unique p = unique (placed p)
+pub place-unique : (p : Place) (r : Reading) (x y : ℕ) → x ≡ answerByReading p r → y ≡ answerByReading p r → x ≡ y
+place-unique p = unique (answerByReading p)
 
 abbrev nothingBefore : Place
 nothingBefore = record { lines = 0; scale = 0; creator = false; date = false; started = false }
 
-pub place-not-any-first : ShutsOut {A = Place × Reading} (λ (p, r). placed p r) (λ (p, r). cond (eqb (p .lines) 0) 0 (placed p r))
-unfolding placed
+pub place-not-any-first : ShutsOut {A = Place × Reading} (λ (p, r). answerByReading p r) (λ (p, r). cond (eqb (p .lines) 0) 0 (answerByReading p r))
+unfolding answerByReading
 place-not-any-first = shut-out (eqb 2) (nothingBefore, Comment) refl refl

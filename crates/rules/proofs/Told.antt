@@ -25,7 +25,7 @@ use Rattle.line.specs.declared.note.Note.the-variants.{Means, Wrong}
 use Rattle.line.specs.declared.event.Event.{Event}
 use Rattle.line.specs.declared.reading.Reading.{Reading}
 use Rattle.line.specs.declared.reading.Reading.the-variants.{Version, Comment, TimeScale, Creator, CreationDate, EventLine, Refused}
-use Rattle.line.specs.Part.{partsOf, fieldOf}
+use Rattle.fields.specs.Part.{partsOf, fieldOf}
 use Rattle.line.specs.Note.{maxInstance, noteOf}
 use Rattle.line.specs.Rule.{ruleBroken}
 use Rattle.line.specs.Date.{isMoment}

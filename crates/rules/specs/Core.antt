@@ -1,6 +1,6 @@
 -- What a core is after a history, and the core rule as a run.
 use mathlib.Core.Path.{_≡_}
-use mathlib.Core.Bool.{Bool, true, false, _&&_, _||_}
+use mathlib.Core.Bool.{Bool, true, false, _&&_, _||_, cond}
 use mathlib.Core.Option.{Option, none, some}
 use mathlib.Core.List.{List, [], _∷_}
 use Prim.Native.Nat.{ℕ}
@@ -40,6 +40,22 @@ keeps a = member a keepers
 -- an event on a core: one of these on T or I. "release and release_parking neither track nor change one, and their source isn't looked up"
 unfoldable pub onCore : Event → Bool
 onCore e = isProcess (e .kind) && (takes (e .word) || (gives (e .word) || keeps (e .word)))
+
+-- what an event of a type and a word does to a core, as a number
+abbrev pub no-core : ℕ
+no-core = 0
+
+abbrev pub takes-core : ℕ
+takes-core = 1
+
+abbrev pub gives-core : ℕ
+gives-core = 2
+
+abbrev pub keeps-core : ℕ
+keeps-core = 3
+
+unfoldable pub coreClass : ℕ → ℕ → ℕ
+coreClass k a = cond (isProcess k) (cond (takes a) takes-core (cond (gives a) gives-core (cond (keeps a) keeps-core no-core))) no-core
 
 abbrev pub on : List ℕ → Event → Bool
 on c e = onCore e && sameBytes c (e .source)

@@ -10,12 +10,13 @@ use lib.ListN.{length}
 use Rattle.text.specs.Bytes.{sameBytes}
 use Rattle.rules.specs.Lists.{any, only}
 use Rattle.rules.specs.Words.{core, semaphore}
+use Rattle.rules.specs.Limits.{nameLimit, coreLimit, instanceLimit}
 use Rattle.rules.specs.Chart.{Run}
 use Rattle.rules.specs.Charts.{chartOf}
 use Rattle.rules.specs.Event.{Event, Instance, wordsOf}
 use Rattle.rules.specs.Core.{Core, on, CoreRun}
 use Rattle.rules.specs.History.{isTracked, names, cores, instances, activates}
-use Rattle.rules.specs.Refusals.{countFollows, fixed}
+use Rattle.rules.specs.Refusals.{countFollows, countAllowed}
 use Rattle.rules.specs.Lines.{eventsOf}
 use Rattle.rules.specs.Trace.{placeOf, InPlace}
 
@@ -42,11 +43,11 @@ uses n k e = (isTracked (e .kind) && (eqb k (e .kind) && sameBytes n (e .target)
 abbrev pub OneKind : List Event → Type 0
 OneKind es = (n : List ℕ) (j k : ℕ) → any (uses n j) es ≡ true → any (uses n k) es ≡ true → j ≡ k
 
--- "tracked names (cores, T, I, R, SEM) | 256, of them 64 cores"; "process and runnable instances | 1,024"
+-- not "the names or instances that the line adds don't fit"
 pub record Fits (es : List Event) : Type 0 where
-  pub names-fit : length (names es) ≤ 256
-  pub cores-fit : length (cores es) ≤ 64
-  pub instances-fit : length (instances es) ≤ 1024
+  pub names-fit : length (names es) ≤ nameLimit
+  pub cores-fit : length (cores es) ≤ coreLimit
+  pub instances-fit : length (instances es) ≤ instanceLimit
 
 -- "activate or mtalimitexceeded of one process, or start of one runnable": of the one of kind k that is named n
 unfoldable pub numbers : ℕ → List ℕ → Event → Bool
@@ -67,7 +68,7 @@ CountAfter d e = countFollows (some (d .count)) (e .word) (e .count) ≡ true
 
 -- "Always: increment at least 1; free and unlock 0; lock 1; used, unlock_full, lock_used and full at least 1; overfull at least 2."
 abbrev pub FixedCount : Event → Type 0
-FixedCount e = e .kind ≡ semaphore → fixed (e .word) (e .count) ≡ true
+FixedCount e = e .kind ≡ semaphore → countAllowed (e .word) (e .count) ≡ true
 
 -- ---- the events of a trace
 

@@ -1,6 +1,8 @@
--- The rules of events: charts, histories, the refusals 8 to 14, the verdict and the figures of the sheet.
+-- The rules of events: charts, histories, the refusals 8 to 14, the verdict, the figures of the sheet and what is printed.
 pub mod Words
+pub mod Limits
 pub mod Lists
+pub mod First
 pub mod Chart
 pub mod Charts
 pub mod Event
@@ -12,4 +14,6 @@ pub mod Sheet
 pub mod Rows
 pub mod Lines
 pub mod Trace
+pub mod Text
+pub mod PlaceCode
 pub mod Lawful

@@ -1,9 +1,10 @@
 -- A few functions on lists and on what may be missing.
 use Prim.Native.Nat.{ℕ, zero, suc, _+_}
-use mathlib.Core.Bool.{Bool, true, false, _||_}
+use mathlib.Core.Bool.{Bool, true, false}
 use mathlib.Core.Option.{Option, none, some}
 use mathlib.Core.List.{List, [], _∷_, _++_}
 use lib.Dec.{eqb}
+pub use Rattle.words.specs.Named.{any}
 
 abbrev pub oneIf : Bool → ℕ
 oneIf true = 1
@@ -27,11 +28,6 @@ module _ {A : Type 0} where
   abbrev pub orElse : Option A → Option A → Option A
   orElse none o = o
   orElse (some x) o = some x
-
-  -- whether some element passes the test
-  abbrev pub any : (A → Bool) → List A → Bool
-  any f [] = false
-  any f (x ∷ xs) = f x || any f xs
 
   -- the elements that pass the test
   abbrev pub only : (A → Bool) → List A → List A

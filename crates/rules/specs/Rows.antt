@@ -1,4 +1,5 @@
--- What the code of a chart step answers: for any chart, and how it searches the rows of one.
+-- For the code alone: what it answers to a chart step, for any chart, and how it searches the rows of one. What is to be believed is the chart (Chart, Charts)
+-- and rule 11; the theorems `step-answer` and `step-state` (proofs/Steps) say that the answer is theirs, and `moves` (proofs/Rows) that the rows say the same.
 use mathlib.Core.Bool.{Bool, true, false, not, _&&_, _||_, cond}
 use mathlib.Core.Option.{Option, none, some}
 use mathlib.Core.List.{List, [], _∷_}

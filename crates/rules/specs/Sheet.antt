@@ -2,6 +2,7 @@
 use mathlib.Core.List.{List, [], _∷_}
 use Prim.Native.Nat.{ℕ, _+_, _-_, _*_}
 use Rattle.text.specs.Bytes.{sameBytes}
+use Rattle.bill.specs.Rows.{Row, Sheet}
 use Rattle.rules.specs.Lists.{sumOver, oneIf}
 use Rattle.rules.specs.Event.{Event}
 use Rattle.rules.specs.Core.{Core, unknown, idle, held, coreAt}
@@ -70,10 +71,6 @@ span (e ∷ h) = e .time - firstTime e h
 
 -- ---- the sheet: a row for each name, "in order of first mention"
 
-pub record Row : Type 0 where
-  pub name : List ℕ
-  pub figures : List ℕ
-
 -- "a core line gives held, idle, unknown"
 abbrev pub coreRows : List (List ℕ) → List Event → List Row
 coreRows [] h = []
@@ -82,11 +79,6 @@ coreRows (c ∷ cs) h = record { name = c; figures = heldTicks c h ∷ idleTicks
 abbrev pub processRows : List (List ℕ) → List Event → List Row
 processRows [] h = []
 processRows (p ∷ ps) h = record { name = p; figures = charge p h ∷ [] } ∷ processRows ps h
-
-pub record Sheet : Type 0 where
-  pub span : ℕ
-  pub cores : List Row
-  pub processes : List Row
 
 unfoldable pub sheet : List Event → Sheet
 sheet h = record { span = span h; cores = coreRows (cores h) h; processes = processRows (processes h) h }

@@ -7,29 +7,21 @@ use mathlib.Core.List.{List, [], _∷_}
 use Prim.Native.Nat.{ℕ, _+_}
 use lib.Dec.{eqb, leb}
 use lib.ListN.{length}
-use Rattle.words.specs.declared.scale.Scale.{Scale}
-use Rattle.words.specs.declared.scale.Scale.the-variants.{Picoseconds, Nanoseconds, Microseconds, Milliseconds, Seconds}
 use Rattle.line.specs.declared.reading.Reading.{Reading}
 use Rattle.line.specs.declared.reading.Reading.the-variants.{Version, Comment, TimeScale, Creator, CreationDate, EventLine, Refused}
 use Rattle.line.specs.Answer.{Test, test, lowest}
 use Rattle.line.specs.Parameter.{isVersion, isVersionLine, timeScale, isCreator, isCreationDate}
 use Rattle.line.specs.Reading.{isEventLine, readLine}
 use Rattle.line.specs.Condition.{isScale, refuses1, refuses3, refuses5, refuses6, refuses7}
+use Rattle.bill.specs.Scale.{scaleNumber}
 use Rattle.rules.specs.declared.place.Place.{Place}
 use Rattle.rules.specs.Lists.{any, latest, ifZero}
+use Rattle.rules.specs.First.{AllTaken, takenOf, firstRefusal}
 use Rattle.rules.specs.Event.{Event}
 use Rattle.rules.specs.Lines.{eventOfLine, eventsOf}
 use Rattle.rules.specs.Verdict.{answer, Accepted}
 
 -- ---- what the lines taken say, as the next line needs it
-
--- a time scale's number, from 1
-unfoldable pub scaleNumber : Scale → ℕ
-scaleNumber Picoseconds = 1
-scaleNumber Nanoseconds = 2
-scaleNumber Microseconds = 3
-scaleNumber Milliseconds = 4
-scaleNumber Seconds = 5
 
 abbrev pub scaleIn : Reading → Option ℕ
 scaleIn Version = none
@@ -110,53 +102,24 @@ unfoldable pub atEnd : List (List ℕ) → ℕ × ℕ
 atEnd [] = (2, 1)
 atEnd (l ∷ h) = cond (eqb (placeOf (l ∷ h) .scale) 0) (4, length (l ∷ h) + 1) (0, 0)
 
--- the lines taken, and the verdict, of a list of lines, THE OLDEST FIRST, that came after the history h.
--- "A refused line changes nothing but the remembered verdict: number and line .. Further lines get that verdict again."
-unfoldable pub takenLines : List (List ℕ) → List (List ℕ) → List (List ℕ)
-takenLines h [] = h
-takenLines h (l ∷ ls) = ifZero (answerAt h l) (takenLines (l ∷ h) ls) h
+-- the lines taken, and the first refusal, of a list of lines that came after the history h
+abbrev pub takenLines : List (List ℕ) → List (List ℕ) → List (List ℕ)
+takenLines = takenOf answerAt
 
+abbrev pub refusalOn : List (List ℕ) → List (List ℕ) → ℕ × ℕ
+refusalOn = firstRefusal answerAt
+
+-- the verdict is the refusal, and that of the end where all lines are taken
 unfoldable pub verdictOn : List (List ℕ) → List (List ℕ) → ℕ × ℕ
-verdictOn h [] = atEnd h
-verdictOn h (l ∷ ls) = ifZero (answerAt h l) (verdictOn (l ∷ h) ls) (answerAt h l, length h + 1)
+verdictOn h ls = ifZero (refusalOn h ls .0) (atEnd (takenLines h ls)) (refusalOn h ls)
 
 -- ---- "every line is well formed and in its place": none of 1 to 7 refuses any line of a history
 
 abbrev pub InPlace : List (List ℕ) → Type 0
-InPlace [] = Unit {0}
-InPlace (l ∷ h) = (answerInPlace (placeOf h) l ≡ 0) × InPlace h
+InPlace = AllTaken (λ h l. answerInPlace (placeOf h) l)
 
 -- what demand 2 asks of a whole trace: it has lines, each well formed and in its place, a time scale among them, and events that break no rule
 pub record Sound (h : List (List ℕ)) : Type 0 where
   pub in-place : InPlace h
   pub scaled : placeOf h .scale ≡ 0 → ⊥
   pub accepted : Accepted (eventsOf h)
-
--- ---- how the judge decides 1 to 7: from the reading
-
-abbrev pub seldom : Bool → Bool → ℕ
-seldom seen late = cond (seen || late) 3 0
-
-abbrev pub needsScale : ℕ → ℕ → ℕ
-needsScale scale n = cond (eqb scale 0) 4 n
-
-abbrev pub readAnswer : Place → Reading → ℕ
-readAnswer p Version = 2
-readAnswer p Comment = 0
-readAnswer p (TimeScale s) = seldom (not (eqb (p .scale) 0)) (p .started)
-readAnswer p Creator = seldom (p .creator) (p .started)
-readAnswer p CreationDate = seldom (p .date) (p .started)
-readAnswer p (EventLine e count) = needsScale (p .scale) 0
-readAnswer p (Refused n) = cond (leb n 3) n (needsScale (p .scale) n)
-
-abbrev pub firstAnswer : Reading → ℕ
-firstAnswer Version = 0
-firstAnswer Comment = 2
-firstAnswer (TimeScale s) = 2
-firstAnswer Creator = 2
-firstAnswer CreationDate = 2
-firstAnswer (EventLine e count) = 2
-firstAnswer (Refused n) = cond (eqb n 1) 1 2
-
-unfoldable pub placed : Place → Reading → ℕ
-placed p r = cond (leb 1000000000 (p .lines)) 1 (cond (eqb (p .lines) 0) (firstAnswer r) (readAnswer p r))

@@ -6,6 +6,7 @@ ghost use lib.ListN.{length, getD};
 ghost use Rattle.rules.specs.Charts.{processChart, runnableChart, semaphoreChart, chartOf};
 ghost use Rattle.rules.specs.Rows.{rowServes, enteredIn, moveIn, moveBy};
 use crate::numbers::*;
+use words::code::*;
 
 // What an event does to an entity: it is in the state from now on, 0 for none yet, or the chart does not allow it.
 pub enum Move {

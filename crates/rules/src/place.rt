@@ -2,9 +2,8 @@
 ghost use mathlib.Core.Path.{_≡_};
 ghost use mathlib.Core.Bool.{cond};
 ghost use lib.Dec.{leb};
-ghost use Rattle.rules.specs.Trace.{scaleNumber, seldom, needsScale, firstAnswer, readAnswer, placed};
+ghost use Rattle.rules.specs.PlaceCode.{needsScale, firstAnswer, readAnswer, repeatedOrLate, answerByReading};
 use line::reading::Reading;
-use words::scale::Scale;
 
 // How many lines were taken, the number of the time scale (0 where there is none yet), and whether a creator, a creation date, an event was
 // given.
@@ -16,22 +15,9 @@ pub struct Place {
     pub started: bool,
 }
 
-// A time scale's number, from 1.
-pub fn scale_number(scale: Scale) -> u32
-    ensures { λ r. ⌜ r ≡ scaleNumber scale ⌝ }
-{
-    match scale {
-        Scale::Picoseconds => 1,
-        Scale::Nanoseconds => 2,
-        Scale::Microseconds => 3,
-        Scale::Milliseconds => 4,
-        Scale::Seconds => 5,
-    }
-}
-
 // 3 for a parameter that was given before or comes after the first event.
-fn at_most_one(seen: bool, late: bool) -> u32
-    ensures { λ r. ⌜ r ≡ seldom seen late ⌝ }
+fn repeated_or_late(seen: bool, late: bool) -> u32
+    ensures { λ r. ⌜ r ≡ repeatedOrLate seen late ⌝ }
 {
     if seen {
         return 3;
@@ -83,9 +69,9 @@ fn later_answer(p: Place, r: Reading) -> u32
     match r {
         Reading::Version => 2,
         Reading::Comment => 0,
-        Reading::TimeScale(_) => at_most_one(p.scale != 0, p.started),
-        Reading::Creator => at_most_one(p.creator, p.started),
-        Reading::CreationDate => at_most_one(p.date, p.started),
+        Reading::TimeScale(_) => repeated_or_late(p.scale != 0, p.started),
+        Reading::Creator => repeated_or_late(p.creator, p.started),
+        Reading::CreationDate => repeated_or_late(p.date, p.started),
         Reading::EventLine(_, _) => needs_scale(p.scale, 0),
         Reading::Refused(n) => refused_answer(p.scale, n as u32),
     }
@@ -93,7 +79,7 @@ fn later_answer(p: Place, r: Reading) -> u32
 
 // The lowest of 1 to 7 that applies to a line in its place, 0 where none does.
 pub fn answer_in_place(p: Place, r: Reading) -> u32
-    ensures { λ n. ⌜ n ≡ placed p r ⌝ }
+    ensures { λ n. ⌜ n ≡ answerByReading p r ⌝ }
 {
     if 1000000000 <= p.lines {
         return 1;

@@ -1,4 +1,4 @@
--- The text of every trace fits: the tables have at most 256 names of at most 64 bytes, and no figure has more than 20 digits.
+-- What is printed of valid tables fits: they have at most 256 names of at most 64 bytes, and no figure has more than 20 digits.
 use mathlib.Core.Bool.{Bool, true, false, cond}
 use mathlib.Core.List.{List, []}
 use Prim.Native.Nat.{ℕ, _+_, _-_, _%_, _^_, _≤_, _<_}
@@ -6,19 +6,19 @@ use native.Mathlib.Omega.{arith}
 use lib.Dec.{eqb}
 use lib.ListN.{length, length-append}
 use Rattle.text.proofs.Digits.{digits-short}
+use Rattle.bill.specs.declared.section.Section.the-variants.{Cores, Processes}
+use Rattle.bill.specs.declared.verdict.Verdict.{Verdict}
+use Rattle.bill.specs.Text.{sheetText}
+use Rattle.bill.specs.Verdict.{acceptedText, refusedText, verdictText, reportText}
+use Rattle.bill.proofs.Scales.{scale-short}
+use Rattle.bill.proofs.VerdictLine.{length-accepted, length-refused}
 use Rattle.tables.specs.Entry.{verdictNumber, verdictLine, lineCount, scaleEntry, firstTime, lastTime}
-use Rattle.tables.proofs.Valid.{Valid, valid}
-use Rattle.judge.specs.declared.feed.Verdict.{Verdict}
+use Rattle.tables.proofs.Valid.{Valid}
 use Rattle.judge.specs.Feed.{verdict, verdictIn}
-use Rattle.promises.proofs.Judged.{never-16}
-use Rattle.sheet.specs.declared.section.Section.the-variants.{Cores, Processes}
-use Rattle.sheet.specs.Text.{sheetText}
 use Rattle.sheet.specs.Sheet.{sheetIn}
 use Rattle.sheet.proofs.Short.{section-short}
 use Rattle.sheet.proofs.Written.{sheet-length}
-use Rattle.run.specs.Report.{acceptedText, refusedText, verdictText, reportText, traceText, textMost}
-use Rattle.run.proofs.Printed.{after-text}
-use Rattle.run.proofs.Texts.{scale-short, length-accepted, length-refused}
+use Rattle.run.specs.Report.{textMost}
 
 -- ---- the line that tells the verdict: no number of it needs more than 64 bits
 
@@ -60,13 +60,10 @@ sheet-short : {names nums ticks : List ℕ} → Valid names nums ticks → (b : 
 sheet-short {names} {nums} {ticks} v true = omega (arith, sheet-length names nums ticks, section-short v Cores, section-short v Processes)
 sheet-short v false = omega arith
 
-report-short : {names nums ticks : List ℕ} → Valid names nums ticks → length (reportText (verdictIn nums ticks) (sheetIn names nums ticks)) ≤ textMost
+pub report-fits : {names nums ticks : List ℕ} → Valid names nums ticks → length (reportText (verdictIn nums ticks) (sheetIn names nums ticks)) ≤ textMost
 unfolding reportText
-report-short {names} {nums} {ticks} v =
+report-fits {names} {nums} {ticks} v =
     let w = verdictIn nums ticks in
     let b = eqb (w .number) 0 in
     omega
     (arith, length-append (verdictText w) (cond b (sheetText (sheetIn names nums ticks)) []), line-short w (verdict-small v), sheet-short v b)
-
-pub text-fits : (ls : List (List ℕ)) → length (traceText ls) ≤ textMost
-text-fits ls = rw (← (after-text ls)) (report-short (valid _ _ _ (never-16 ls)))

@@ -10,17 +10,19 @@ use lib.ListN.{length, take, drop, length-append, length-drop}
 use borrow.Author.Tests.{eq-eqb, ne-eqb, le-leb, lt-leb, leb-true, leb-false}
 use Rattle.text.specs.Put.{written, Put, after, put}
 use Rattle.text.proofs.Writes.{length-written, put-fits}
+use Rattle.bill.specs.declared.verdict.Verdict.{Verdict}
+use Rattle.bill.specs.Text.{sheetText}
+use Rattle.bill.specs.Verdict.{verdictText, reportText}
+use Rattle.rules.specs.Limits.{lastRefusal}
 use Rattle.rules.proofs.Tests.{if-some}
 use Rattle.tables.specs.Entry.{verdictNumber, lineCount, scaleEntry}
 use Rattle.tables.specs.Range.{tableAnswer}
 use Rattle.tables.proofs.Valid.{valid, three-answers}
-use Rattle.judge.specs.declared.feed.Verdict.{Verdict}
 use Rattle.judge.specs.Feed.{tables, verdict, verdictIn, verdictOf}
 use Rattle.sheet.specs.declared.sheet.Printed.{Printed}
 use Rattle.sheet.specs.declared.sheet.Printed.the-variants.{Done, NotPrinted}
-use Rattle.sheet.specs.Text.{sheetText}
 use Rattle.sheet.specs.Sheet.{Sheeted, sheeted, sheetIn, sheetWritten}
-use Rattle.run.specs.Report.{verdictText, reportText, reportWritten}
+use Rattle.run.specs.Report.{reportWritten}
 use Rattle.run.proofs.Behind.{backed, part-all, back-same, back-written, front-written}
 
 module _ (names nums ticks : List ℕ) where
@@ -29,12 +31,12 @@ module _ (names nums ticks : List ℕ) where
   abbrev own : ℕ
   own = tableAnswer names nums ticks
 
-  pub told-most : own ≡ 0 → verdictIn nums ticks .number ≤ 14
+  pub told-most : own ≡ 0 → verdictIn nums ticks .number ≤ lastRefusal
   unfolding verdictIn
   told-most e = by-tests (eqb (verdictNumber nums) 0) (eqb (lineCount nums) 0) (eqb (scaleEntry nums) 0) _ _ _ _ _
     where
       by-tests : (a b d : Bool) (l m n s r : ℕ) →
-          cond a (cond b (verdict 2 1 0 s) (cond d (verdict 4 l 0 s) (verdict 0 0 n s))) (verdict (verdictNumber nums) m r s) .number ≤ 14
+          cond a (cond b (verdict 2 1 0 s) (cond d (verdict 4 l 0 s) (verdict 0 0 n s))) (verdict (verdictNumber nums) m r s) .number ≤ lastRefusal
       by-tests true true d l m n s r = omega arith
       by-tests true false true l m n s r = omega arith
       by-tests true false false l m n s r = omega arith

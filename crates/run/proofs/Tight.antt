@@ -6,10 +6,10 @@ use lib.Dec.{eqb}
 use lib.ListN.{take}
 use Rattle.text.specs.Pieces.{pieces}
 use Rattle.text.proofs.Tight.{unique, ShutsOut, shut-out}
-use Rattle.line.specs.Part.{partsOf}
+use Rattle.fields.specs.Part.{partsOf}
 use Rattle.line.specs.Event.{eventReading}
 use Rattle.line.specs.Reading.{hasBreak, isEventLine, readLine}
-use Rattle.rules.specs.Trace.{placed}
+use Rattle.rules.specs.PlaceCode.{answerByReading}
 use Rattle.tables.specs.Entry.{verdictNumber}
 use Rattle.tables.proofs.Zeros.{fresh-answer}
 use Rattle.judge.specs.Feed.{Tables, placeIn, remembered, placedLine, lined, fedLine, freshTables}
@@ -29,7 +29,7 @@ last-unique t buf = unique (lastTaken t buf)
 
 -- nothing carried over is no line
 pub last-not-empty : ShutsOut {A = Tables × List ℕ × ℕ} (λ (t, buf, n). lastTaken t buf n) (λ (t, buf, n). fedLine t (take n buf) .left)
-unfolding lastTaken fedLine lined placedLine placeIn placed readLine hasBreak isEventLine eventReading partsOf pieces remembered
+unfolding lastTaken fedLine lined placedLine placeIn answerByReading readLine hasBreak isEventLine eventReading partsOf pieces remembered
 last-not-empty = shut-out (λ t. eqb (verdictNumber (t .nums)) 0) (freshTables, [], 0) refl (rw fresh-answer)
 
 -- ---- `report`

@@ -1,4 +1,3 @@
 -- What is printed of a trace, and how it is taken chunk by chunk.
 pub mod Report
 pub mod Chunk
-pub mod Answers

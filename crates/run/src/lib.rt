@@ -1,4 +1,3 @@
-// A trace from its chunks to what is printed of it.
+// A trace chunk by chunk, and what is printed of it. In come the tables and bytes as they were read; out go the tables after them, and the text.
 pub mod chunk;
 pub mod report;
-pub mod verdict;

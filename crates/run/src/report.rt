@@ -2,13 +2,13 @@
 ghost use mathlib.Core.Path.{_≡_};
 ghost use Rattle.sheet.specs.Sheet.{sheeted};
 ghost use Rattle.run.specs.Report.{reportWritten};
-use crate::verdict::put_verdict;
-use crate::verdict::verdict_length;
+use bill::verdict::put_verdict;
+use bill::verdict::verdict_length;
 use judge::feed::verdict_now;
 use sheet::sheet::Printed;
 use sheet::sheet::sheet;
 
-// No text is longer: `text-fits`.
+// No text is longer: `report-fits`.
 pub const TEXT_MOST: usize = 65655;
 
 // The text at the front of the output. The sheet is written first, behind the room for the verdict: if it does not fit, nothing was written.

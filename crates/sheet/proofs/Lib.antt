@@ -1,9 +1,6 @@
 -- The laws of the charge sheet.
-pub mod Texts
+pub mod Rooms
 pub mod Written
 pub mod Rows
 pub mod Short
-pub mod Figures
-pub mod ShownRows
-pub mod Demand
 pub mod Tight

@@ -11,13 +11,13 @@ use lib.ListN.{length, length-append}
 use Rattle.text.specs.Put.{after, put}
 use Rattle.text.proofs.Writes.{put-two}
 use Rattle.line.proofs.Texts.{first-room, next-room}
+use Rattle.bill.specs.declared.section.Section.{Section}
+use Rattle.bill.specs.Rows.{Row}
+use Rattle.bill.specs.Text.{rowText, rowsText}
+use Rattle.bill.proofs.Texts.{rows-snoc, length-rows}
 use Rattle.rules.specs.Lists.{keep}
-use Rattle.rules.specs.Sheet.{Row}
 use Rattle.tables.specs.Entry.{nameCount, kindAt}
-use Rattle.sheet.specs.declared.section.Section.{Section}
-use Rattle.sheet.specs.Text.{rowText, rowsText}
 use Rattle.sheet.specs.Sheet.{belongs, rowIn, rowsTo, rowsIn}
-use Rattle.sheet.proofs.Texts.{rows-snoc, length-rows}
 
 -- a row that may be left out makes the lines longer by at most its own
 pub keep-lines : (b : Bool) (rs : List Row) (r : Row) → let n = length (rowsText (rs ++ keep b r [])) in (length (rowsText rs) ≤ n) × (n ≤ length (rowsText rs) + length (rowText r))

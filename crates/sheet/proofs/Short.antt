@@ -7,18 +7,18 @@ use native.Mathlib.Omega.{arith}
 use lib.Dec.{eqb, ltb}
 use lib.ListN.{length, length-append}
 use Rattle.text.proofs.Digits.{digits-short}
+use Rattle.bill.specs.declared.section.Section.{Section}
+use Rattle.bill.specs.declared.section.Section.the-variants.{Cores, Processes}
+use Rattle.bill.specs.Rows.{Row}
+use Rattle.bill.specs.Text.{figuresText, rowText, rowsText, sectionText, title}
+use Rattle.bill.proofs.Texts.{length-figure, length-three, length-row, length-section}
 use Rattle.rules.specs.Lists.{keep}
-use Rattle.rules.specs.Sheet.{Row}
 use Rattle.tables.specs.Entry.{nameCount, kindAt, lengthAt, markAt, heldAt, idleAt, unknownAt, nameAt}
 use Rattle.tables.proofs.Found.{name-size}
 use Rattle.tables.proofs.Valid.{Valid}
-use Rattle.sheet.specs.declared.section.Section.{Section}
-use Rattle.sheet.specs.declared.section.Section.the-variants.{Cores, Processes}
 use Rattle.sheet.specs.Figure.{openAt, heldIn, idleIn, holds, chargeTo, chargeIn}
-use Rattle.sheet.specs.Text.{figuresText, rowText, rowsText, sectionText}
-use Rattle.sheet.specs.Sheet.{belongs, figuresIn, rowIn, rowsTo, rowsIn, title}
+use Rattle.sheet.specs.Sheet.{belongs, figuresIn, rowIn, rowsTo, rowsIn}
 use Rattle.sheet.proofs.Rows.{keep-lines}
-use Rattle.sheet.proofs.Texts.{length-figure, length-three, length-row, length-section}
 
 -- ---- a figure is an entry of 64 bits, so it has at most 20 digits
 

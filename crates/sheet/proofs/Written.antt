@@ -8,13 +8,13 @@ use borrow.Author.Tests.{le-leb, lt-leb}
 use Rattle.text.specs.Put.{written, Put, after, put}
 use Rattle.text.proofs.Writes.{put-fits, put-two}
 use Rattle.line.proofs.Texts.{Room}
+use Rattle.bill.specs.declared.section.Section.{Section}
+use Rattle.bill.specs.declared.section.Section.the-variants.{Cores, Processes}
+use Rattle.bill.specs.Text.{sectionText, sheetText, title}
 use Rattle.rules.proofs.Tests.{if-some}
 use Rattle.tables.specs.Range.{tableAnswer}
-use Rattle.sheet.specs.declared.section.Section.{Section}
-use Rattle.sheet.specs.declared.section.Section.the-variants.{Cores, Processes}
 use Rattle.sheet.specs.declared.sheet.Printed.the-variants.{Done, NotPrinted}
-use Rattle.sheet.specs.Text.{sectionText, sheetText}
-use Rattle.sheet.specs.Sheet.{rowsIn, sheetIn, title, sheeted, sheetWritten}
+use Rattle.sheet.specs.Sheet.{rowsIn, sheetIn, sheeted, sheetWritten}
 
 module _ (names nums ticks : List ℕ) where
   abbrev pub sectionIn : Section → List ℕ

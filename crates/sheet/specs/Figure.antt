@@ -3,9 +3,9 @@
 use mathlib.Core.Bool.{Bool, _&&_, cond}
 use mathlib.Core.List.{List}
 use Prim.Native.Nat.{ℕ, zero, suc, _+_, _-_, _%_, _^_}
-use lib.Dec.{eqb, leb, ltb}
+use lib.Dec.{eqb, ltb}
 use Rattle.rules.specs.Words.{core}
-use Rattle.tables.specs.Entry.{nameCount, kindAt, markAt, ownerAt, lastTime, heldAt, idleAt, sinceAt}
+use Rattle.tables.specs.Entry.{nameCount, kindAt, markAt, lastTime, heldAt, idleAt, sinceAt}
 
 -- the ticks since then
 unfoldable pub openAt : List ℕ → ℕ → ℕ
@@ -20,7 +20,7 @@ idleIn nums ticks i = cond (eqb (markAt nums i) 1) ((idleAt ticks i + openAt tic
 
 -- row k is a core that is held by an instance of the process in row i
 unfoldable pub holds : List ℕ → ℕ → ℕ → Bool
-holds nums i k = eqb (kindAt nums k) core && (leb 2 (markAt nums k) && (leb (markAt nums k) 1025 && eqb (ownerAt nums (markAt nums k - 2)) i))
+holds nums i k = eqb (kindAt nums k) core && eqb (markAt nums k) (i + 2)
 
 -- "A process's charge": what is stored, and what is open on each core that it holds, of the first n rows
 unfoldable pub chargeTo : List ℕ → List ℕ → ℕ → ℕ → ℕ

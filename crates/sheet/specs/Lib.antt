@@ -1,4 +1,3 @@
--- The charge sheet: its figures from the tables, its rows, its text, and what writing it leaves.
+-- The charge sheet from the tables: its figures, its rows, and what writing it leaves.
 pub mod Figure
-pub mod Text
 pub mod Sheet

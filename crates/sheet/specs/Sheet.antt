@@ -4,20 +4,19 @@ use mathlib.Core.List.{List, [], _∷_, _++_}
 use Prim.Native.Nat.{ℕ, zero, suc, _-_}
 use lib.Dec.{eqb, leb}
 use lib.ListN.{length}
-use Rattle.text.specs.Literal.{bytes}
 use Rattle.text.specs.Put.{written}
+use Rattle.bill.specs.declared.section.Section.{Section}
+use Rattle.bill.specs.declared.section.Section.the-variants.{Cores, Processes}
+use Rattle.bill.specs.Rows.{Row, Sheet}
+use Rattle.bill.specs.Text.{sheetText}
 use Rattle.rules.specs.Lists.{keep, ifZero}
 use Rattle.rules.specs.Words.{core}
 use Rattle.rules.specs.Charts.{isProcess}
-use Rattle.rules.specs.Sheet.{Row, Sheet}
 use Rattle.tables.specs.Entry.{nameCount, kindAt, nameAt, firstTime, lastTime, unknownAt}
 use Rattle.tables.specs.Range.{tableAnswer}
-use Rattle.sheet.specs.declared.section.Section.{Section}
-use Rattle.sheet.specs.declared.section.Section.the-variants.{Cores, Processes}
 use Rattle.sheet.specs.declared.sheet.Printed.{Printed}
 use Rattle.sheet.specs.declared.sheet.Printed.the-variants.{Done, NotPrinted}
 use Rattle.sheet.specs.Figure.{heldIn, idleIn, chargeIn}
-use Rattle.sheet.specs.Text.{sheetText}
 
 -- ---- the rows of a section
 
@@ -49,10 +48,6 @@ sheetIn names nums ticks = record {
 }
 
 -- ---- what writing leaves
-
-abbrev pub title : Section → List ℕ
-title Cores = bytes "cores "
-title Processes = bytes "processes "
 
 pub record Sheeted : Type 0 where
   pub answer : Printed

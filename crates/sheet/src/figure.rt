@@ -3,7 +3,7 @@ ghost use mathlib.Core.Path.{_≡_};
 ghost use Prim.Native.Nat.{_≤_, _<_};
 ghost use lib.ListN.{length};
 ghost use Rattle.tables.specs.Entry.{nameCount, numsSize, ticksSize, nameRows};
-ghost use Rattle.sheet.specs.Figure.{openAt, heldIn, idleIn, holds, chargeTo, chargeIn};
+ghost use Rattle.sheet.specs.Figure.{openAt, heldIn, idleIn, holds, chargeIn};
 use rules::numbers::CORE;
 use std::num::wrapping_add_u64;
 use tables::entry::*;
@@ -43,20 +43,10 @@ pub(crate) fn idle_ticks(nums: &[u32], ticks: &[u64], i: usize) -> u64
 
 // Whether row k is a core that is held by an instance of the process in row i.
 fn holds_core(nums: &[u32], i: usize, k: usize) -> bool
-    requires { ⌜ (length (now nums) ≡ numsSize) × (k < nameRows) ⌝ }
+    requires { ⌜ (length (now nums) ≡ numsSize) × ((i < nameRows) × (k < nameRows)) ⌝ }
     ensures { λ r. ⌜ r ≡ holds (now (nums .entry)) i k ⌝ }
 {
-    if nums[KIND + k] != CORE {
-        return false;
-    }
-    let mark = nums[MARK + k] as usize;
-    if mark < 2 {
-        return false;
-    }
-    if 1025 < mark {
-        return false;
-    }
-    nums[OWNER + (mark - 2)] as usize == i
+    (nums[KIND + k] == CORE) & (nums[MARK + k] as usize == i + 2)
 }
 
 // The charge of the process in row i.

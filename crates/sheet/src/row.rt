@@ -1,30 +1,20 @@
 // One line of a section: its length, and writing it.
 ghost use mathlib.Core.Path.{_≡_};
-ghost use mathlib.Core.List.{[], _∷_};
 ghost use Prim.Native.Nat.{_+_, _≤_, _<_};
 ghost use lib.ListN.{length};
 ghost use Rattle.text.specs.Put.{put, after};
+ghost use Rattle.bill.specs.Text.{figuresText, rowText};
 ghost use Rattle.tables.specs.Entry.{nameCount, numsSize, ticksSize, nameRows};
 ghost use Rattle.tables.specs.Range.{tableAnswer};
-ghost use Rattle.sheet.specs.Text.{figuresText, rowText};
 ghost use Rattle.sheet.specs.Sheet.{figuresIn, rowIn};
 use crate::figure::charge;
 use crate::figure::held_ticks;
 use crate::figure::idle_ticks;
-use crate::section::Section;
+use bill::figure::put_figure;
+use bill::section::Section;
 use tables::entry::*;
 use text::put::digit_count;
 use text::put::put_bytes;
-use text::put::put_number;
-
-// A figure after a blank.
-fn put_figure(n: u64, out: &mut [u8], at: usize) -> usize
-    requires { ⌜ at + length (figuresText (n ∷ [])) ≤ length (now out) ⌝ }
-    ensures { λ r. ⌜ after r (now (out .exit)) ≡ put (now (out .entry)) at (figuresText (n ∷ [])) ⌝ }
-{
-    let next = put_bytes(b" ", out, at);
-    put_number(n, out, next)
-}
 
 // How many bytes the figures of the row i take.
 fn figures_length(nums: &[u32], ticks: &[u64], section: Section, i: usize) -> usize

@@ -1,14 +1,9 @@
-// The two sections of a sheet, in their order.
+// Which names stand in a section of the sheet.
 ghost use mathlib.Core.Path.{_≡_};
 ghost use Rattle.sheet.specs.Sheet.{belongs};
+use bill::section::Section;
+use rules::kind::is_process;
 use rules::numbers::CORE;
-use rules::numbers::INTERRUPT;
-use rules::numbers::TASK;
-
-pub enum Section {
-    Cores,
-    Processes,
-}
 
 // Whether a name of the kind stands in the section.
 pub(crate) fn in_section(section: Section, kind: u32) -> bool
@@ -16,6 +11,6 @@ pub(crate) fn in_section(section: Section, kind: u32) -> bool
 {
     match section {
         Section::Cores => kind == CORE,
-        Section::Processes => kind == TASK || kind == INTERRUPT,
+        Section::Processes => is_process(kind),
     }
 }

@@ -3,13 +3,15 @@ ghost use mathlib.Core.Path.{_≡_};
 ghost use Prim.Native.Nat.{_+_, _≤_};
 ghost use lib.ListN.{length};
 ghost use Rattle.text.specs.Put.{put, after};
+ghost use Rattle.bill.specs.Text.{rowsText, sectionText, title};
 ghost use Rattle.tables.specs.Range.{tableAnswer};
-ghost use Rattle.sheet.specs.Text.{rowsText, sectionText};
-ghost use Rattle.sheet.specs.Sheet.{title, rowsIn, sheeted, sheetWritten};
+ghost use Rattle.sheet.specs.Sheet.{rowsIn, sheeted, sheetWritten};
 use crate::row::put_row;
 use crate::row::row_length;
-use crate::section::Section;
 use crate::section::in_section;
+use bill::section::Section;
+use bill::section::put_title;
+use bill::section::title_length;
 use tables::entry::KIND;
 use tables::entry::NAMES;
 use tables::range::table_answer;
@@ -79,24 +81,6 @@ fn put_rows(
         i += 1;
     }
     next
-}
-
-fn title_length(section: Section) -> usize
-    ensures { λ r. ⌜ r ≡ length (title section) ⌝ }
-{
-    match section {
-        Section::Cores => 6,
-        Section::Processes => 10,
-    }
-}
-
-fn put_title(section: Section, out: &mut [u8], at: usize) -> usize
-    ensures { λ r. ⌜ after r (now (out .exit)) ≡ put (now (out .entry)) at (title section) ⌝ }
-{
-    match section {
-        Section::Cores => put_bytes(b"cores ", out, at),
-        Section::Processes => put_bytes(b"processes ", out, at),
-    }
 }
 
 // How many bytes a section takes.

@@ -12,18 +12,20 @@ use Rattle.text.proofs.Writes.{put-length}
 use Rattle.rules.specs.Words.{core, semaphore}
 use Rattle.rules.specs.Event.{Event}
 use Rattle.rules.specs.History.{hasInstances, activates}
-use Rattle.tables.specs.Entry.{Tables, tables, startedEntry, nameCount, firstTime}
+use Rattle.tables.specs.Entry.{Tables, tables, nameRows, instanceRows, nameRoom, linesIndex, startedIndex, namesIndex, coresIndex, instancesIndex}
+use Rattle.tables.specs.Entry.{lineCount, startedEntry, nameCount, coreCount, instanceCount, firstTime}
+use Rattle.tables.specs.Sized.{Sized}
 use Rattle.tables.proofs.Stores.{other}
-use Rattle.tables.proofs.Valid.{Sizes, sizes-mean}
+use Rattle.tables.proofs.Valid.{sizes-mean}
 use Rattle.decide.specs.declared.happening.Happening.{Happening}
 use Rattle.decide.specs.declared.sight.Sight.{Sight}
 use Rattle.decide.specs.Happening.{asEvent}
 use Rattle.decide.specs.Known.{newCore, newName, newInstance}
-use Rattle.store.specs.Store.{coreRow, targetRow, instanceRow, storeName, storeRow, storeSums, storeInstance, storeMark, storeNumber, takenNames, withRows, withTarget, withCore, withHeads, takenNums, settled, withTimes, withSums, takenTicks, stored}
+use Rattle.store.specs.Store.{coreRow, targetRow, instanceRow, storeName, storeRow, storeSums, storeInstance, storeMark, storeHolder, storeNumber, takenNames, withRows, withTarget, withCore, withHeads, takenNums, settled, withTimes, withSums, takenTicks, stored}
 
 -- ---- tables of the right sizes
 
-pub stored-sized : (t : Tables) (s : Sight) (state : ℕ) (h : Happening) (source target : List ℕ) → Sizes (t .names) (t .nums) (t .ticks)
+pub stored-sized : (t : Tables) (s : Sight) (state : ℕ) (h : Happening) (source target : List ℕ) → Sized (t .names) (t .nums) (t .ticks)
     → stored t s state h source target ≡ tables (takenNames (t .names) (t .nums) s (asEvent h source target)) (takenNums (t .nums) s state h (length source) (length target)) (takenTicks (t .ticks) (t .nums) s (h .kind) (h .time))
 unfolding stored
 stored-sized t s state h source target z = rw (sizes-mean (t .names) (t .nums) (t .ticks) .shows z)
@@ -41,19 +43,25 @@ unmade {r} {v} x e t p = rw (ne-eqb v 1 (λ q. t (e ∙ q))) p
 skip : (l : List ℕ) (i j v : ℕ) → i < j → getD (set l i v) j 0 ≡ getD l j 0
 skip l i j v h = other l i j v (λ q. omega arith)
 
-pub heads-stored : {a b d e : ℕ} (nums : List ℕ) (names cores instances : ℕ) → a ≡ (getD nums 2 0 + 1) % 2 ^ 32 → b ≡ (getD (set (set nums 2 a) 6 1) 7 0 + names) % 2 ^ 32 → d ≡ (getD (set (set (set nums 2 a) 6 1) 7 b) 8 0 + cores) % 2 ^ 32 → e ≡ (getD (set (set (set (set nums 2 a) 6 1) 7 b) 8 d) 9 0 + instances) % 2 ^ 32 → set (set (set (set (set nums 2 a) 6 1) 7 b) 8 d) 9 e ≡ withHeads nums names cores instances
+pub heads-stored : {a b d e : ℕ} (nums : List ℕ) (names cores instances : ℕ) →
+    let one = set (set nums linesIndex a) startedIndex 1 in
+    let two = set one namesIndex b in
+    let three = set two coresIndex d in
+    a ≡ (lineCount nums + 1) % 2 ^ 32 → b ≡ (nameCount one + names) % 2 ^ 32 → d ≡ (coreCount two + cores) % 2 ^ 32 → e ≡ (instanceCount three + instances) % 2 ^ 32 →
+    set three instancesIndex e ≡ withHeads nums names cores instances
 unfolding withHeads
 heads-stored {a} {b} {d} {e} nums names cores instances p q r t =
-    let l = set (set nums 2 a) 6 1 in
-    let f : (j : ℕ) → 6 < j → getD l j 0 ≡ getD nums j 0 = λ j h. skip (set nums 2 a) 6 j 1 h ∙ skip nums 2 j a (omega arith) in
-    let q' : b ≡ (getD nums 7 0 + names) % 2 ^ 32 = rw (f 7 (omega arith)) at q in
-    let r' : d ≡ (getD nums 8 0 + cores) % 2 ^ 32 = rw (skip l 7 8 b (omega arith), f 8 (omega arith)) at r in
-    let t' : e ≡ (getD nums 9 0 + instances) % 2 ^ 32 = rw (skip (set l 7 b) 8 9 d (omega arith), skip l 7 9 b (omega arith), f 9 (omega arith)) at t in
+    let l = set (set nums linesIndex a) startedIndex 1 in
+    let f : (j : ℕ) → startedIndex < j → getD l j 0 ≡ getD nums j 0 = λ j h. skip (set nums linesIndex a) startedIndex j 1 h ∙ skip nums linesIndex j a (omega arith) in
+    let q' : b ≡ (nameCount nums + names) % 2 ^ 32 = rw (f namesIndex (omega arith)) at q in
+    let r' : d ≡ (coreCount nums + cores) % 2 ^ 32 = rw (skip l namesIndex coresIndex b (omega arith), f coresIndex (omega arith)) at r in
+    let t' : e ≡ (instanceCount nums + instances) % 2 ^ 32 =
+    rw (skip (set l namesIndex b) coresIndex instancesIndex d (omega arith), skip l namesIndex instancesIndex b (omega arith), f instancesIndex (omega arith)) at t in
     rw (p, q', r', t')
 
 -- ---- the stores to nums after one another, with the rows and counts as they were before them
 
-pub nums-taken : {i p j x y z : ℕ} {a b d e : List ℕ} (nums : List ℕ) (s : Sight) (t : ℕ) (h : Happening) (n m : ℕ) → i ≡ coreRow nums s → p ≡ targetRow nums s → j ≡ instanceRow nums s → x ≡ newCore s → y ≡ newName s (h .kind) → z ≡ newInstance s (h .kind) → a ≡ withRows nums s (h .kind) n m → b ≡ withTarget a p j t h → d ≡ withCore b (s .class) i j → e ≡ withHeads d (x + y) x z → e ≡ takenNums nums s t h n m
+pub nums-taken : {i p j x y z : ℕ} {a b d e : List ℕ} (nums : List ℕ) (s : Sight) (t : ℕ) (h : Happening) (n m : ℕ) → i ≡ coreRow nums s → p ≡ targetRow nums s → j ≡ instanceRow nums s → x ≡ newCore s → y ≡ newName s (h .kind) → z ≡ newInstance s (h .kind) → a ≡ withRows nums s (h .kind) n m → b ≡ withTarget a p j t h → d ≡ withCore b (s .class) i p (h .number) → e ≡ withHeads d (x + y) x z → e ≡ takenNums nums s t h n m
 unfolding takenNums
 nums-taken nums s t h n m pi pp pj px py pz pa pb pd pe = pe ∙ rw (pd, pb, pa, pi, pp, pj, px, py, pz)
 
@@ -72,27 +80,31 @@ length-two a b f x l h e =
 pub length-storeName : (names : List ℕ) (i : ℕ) (name : List ℕ) → length (storeName names i name) ≡ length names
 unfolding storeName
 length-storeName names i name =
-    length-cond (ltb i 256) (put names (64 * i) name .output) names (put-length names (64 * i) name refl) refl
+    length-cond (ltb i nameRows) (put names (nameRoom * i) name .output) names (put-length names (nameRoom * i) name refl) refl
 
 pub length-storeRow : (nums : List ℕ) (i kind n : ℕ) → length (storeRow nums i kind n) ≡ length nums
 unfolding storeRow
-length-storeRow nums i kind n = length-cond (ltb i 256) _ nums (simp length-set) refl
+length-storeRow nums i kind n = length-cond (ltb i nameRows) _ nums (simp length-set) refl
 
 pub length-storeSums : (ticks : List ℕ) (i unknown since : ℕ) → length (storeSums ticks i unknown since) ≡ length ticks
 unfolding storeSums
-length-storeSums ticks i unknown since = length-cond (ltb i 256) _ ticks (simp length-set) refl
+length-storeSums ticks i unknown since = length-cond (ltb i nameRows) _ ticks (simp length-set) refl
 
 pub length-storeInstance : (nums : List ℕ) (j owner number state : ℕ) → length (storeInstance nums j owner number state) ≡ length nums
 unfolding storeInstance
-length-storeInstance nums j owner number state = length-cond (ltb j 1024 && ltb owner 256) _ nums (simp length-set) refl
+length-storeInstance nums j owner number state = length-cond (ltb j instanceRows && ltb owner nameRows) _ nums (simp length-set) refl
 
 pub length-storeMark : (nums : List ℕ) (i mark : ℕ) → length (storeMark nums i mark) ≡ length nums
 unfolding storeMark
-length-storeMark nums i mark = length-cond (ltb i 256) _ nums (simp length-set) refl
+length-storeMark nums i mark = length-cond (ltb i nameRows) _ nums (simp length-set) refl
+
+pub length-storeHolder : (nums : List ℕ) (i p n : ℕ) → length (storeHolder nums i p n) ≡ length nums
+unfolding storeHolder
+length-storeHolder nums i p n = length-cond (ltb i nameRows && ltb p nameRows) _ nums (simp length-set) refl
 
 pub length-storeNumber : (nums : List ℕ) (i n : ℕ) → length (storeNumber nums i n) ≡ length nums
 unfolding storeNumber
-length-storeNumber nums i n = length-cond (ltb i 256) _ nums (simp length-set) refl
+length-storeNumber nums i n = length-cond (ltb i nameRows) _ nums (simp length-set) refl
 
 pub length-takenNames : (names nums : List ℕ) (s : Sight) (e : Event) → length (takenNames names nums s e) ≡ length names
 unfolding takenNames
@@ -124,12 +136,11 @@ length-withTarget nums i j t h =
     (λ m. length-storeNumber m i (h .number))
     (length-storeInstance nums j i (h .number) t))
 
-pub length-withCore : (nums : List ℕ) (class i j : ℕ) → length (withCore nums class i j) ≡ length nums
+pub length-withCore : (nums : List ℕ) (class i p n : ℕ) → length (withCore nums class i p n) ≡ length nums
 unfolding withCore
-length-withCore nums class i j =
+length-withCore nums class i p n =
     length-cond (eqb class 0) nums _ refl
-    (length-cond (eqb class 2) (storeMark nums i 1) _ (length-storeMark nums i 1)
-    (length-cond (ltb j 1024) (storeMark nums i (j + 2)) nums (length-storeMark nums i (j + 2)) refl))
+    (length-cond (eqb class 2) (storeMark nums i 1) (storeHolder nums i p n) (length-storeMark nums i 1) (length-storeHolder nums i p n))
 
 pub length-withHeads : (nums : List ℕ) (names cores instances : ℕ) → length (withHeads nums names cores instances) ≡ length nums
 unfolding withHeads
@@ -142,7 +153,7 @@ length-takenNums nums s t h n m = simp (length-withHeads, length-withCore, lengt
 pub length-settled : (ticks : List ℕ) (class i p time : ℕ) → length (settled ticks class i p time) ≡ length ticks
 unfolding settled
 length-settled ticks class i p time =
-    length-cond (ltb i 256 && ltb p 256) _ ticks
+    length-cond (ltb i nameRows && ltb p nameRows) _ ticks
     (length-cond (eqb class 1) _ _ (simp length-set) (length-cond (eqb class 2) _ ticks (simp length-set) refl))
     refl
 

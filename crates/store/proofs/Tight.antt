@@ -9,7 +9,7 @@ use Rattle.rules.specs.Charts.{isProcess}
 use Rattle.rules.specs.History.{hasInstances, isTracked, activates}
 use Rattle.tables.specs.declared.find.Found.the-variants.{Nothing}
 use Rattle.tables.specs.Entry.{Tables, tables}
-use Rattle.tables.specs.Range.{isSized}
+use Rattle.tables.specs.Sized.{isSized}
 use Rattle.decide.specs.declared.happening.Happening.{Happening}
 use Rattle.decide.specs.declared.sight.Sight.{Sight}
 use Rattle.decide.specs.Happening.{asEvent}

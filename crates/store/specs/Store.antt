@@ -7,6 +7,7 @@ use lib.Dec.{eqb, ltb}
 use lib.ListN.{length, set}
 use Rattle.text.specs.Put.{put}
 use Rattle.rules.specs.Words.{core, semaphore}
+use Rattle.rules.specs.Core.{no-core, takes-core, gives-core}
 use Rattle.rules.specs.Event.{Event}
 use Rattle.rules.specs.History.{hasInstances, activates}
 use Rattle.tables.specs.declared.find.Found.{Found}
@@ -14,7 +15,7 @@ use Rattle.tables.specs.declared.find.Found.the-variants.{At, Nothing}
 use Rattle.tables.specs.Entry.{Tables, tables, storeAt, nameRows, instanceRows, nameRoom, linesIndex, startedIndex, namesIndex, coresIndex, instancesIndex, firstIndex, lastIndex}
 use Rattle.tables.specs.Entry.{kindColumn, lengthColumn, markColumn, numberColumn, numberedColumn, ownerColumn, instanceColumn, stateColumn, heldColumn, idleColumn, unknownColumn, sinceColumn}
 use Rattle.tables.specs.Entry.{lineCount, startedEntry, nameCount, coreCount, instanceCount, firstTime, heldAt, idleAt, sinceAt}
-use Rattle.tables.specs.Range.{isSized}
+use Rattle.tables.specs.Sized.{isSized}
 use Rattle.decide.specs.declared.happening.Happening.{Happening}
 use Rattle.decide.specs.declared.sight.Sight.{Sight}
 use Rattle.decide.specs.Happening.{asEvent}
@@ -62,6 +63,10 @@ storeInstance nums j owner number state =
 unfoldable pub storeMark : List ℕ → ℕ → ℕ → List ℕ
 storeMark nums i mark = cond (ltb i nameRows) (storeAt markColumn nums i mark) nums
 
+-- the holder of a core: 2 more than the row of its name, and its number
+unfoldable pub storeHolder : List ℕ → ℕ → ℕ → ℕ → List ℕ
+storeHolder nums i p n = cond (ltb i nameRows && ltb p nameRows) (storeAt numberColumn (storeAt markColumn nums i (p + 2)) i n) nums
+
 -- a last number or count
 unfoldable pub storeNumber : List ℕ → ℕ → ℕ → List ℕ
 storeNumber nums i n = cond (ltb i nameRows) (storeAt numberedColumn (storeAt numberColumn nums i n) i 1) nums
@@ -86,9 +91,9 @@ withTarget nums i j t h =
     (let one = cond (hasInstances (h .kind)) (storeInstance nums j i (h .number) t) nums in
     cond (activates (h .kind) (h .word)) (storeNumber one i (h .number)) one)
 
--- "make it held", "make it idle"
-unfoldable pub withCore : List ℕ → ℕ → ℕ → ℕ → List ℕ
-withCore nums class i j = cond (eqb class 0) nums (cond (eqb class 2) (storeMark nums i 1) (cond (ltb j instanceRows) (storeMark nums i (j + 2)) nums))
+-- "make it held" by the instance n of the process in row p, "make it idle": an idle core's number stays as it was, and nothing looks at it
+unfoldable pub withCore : List ℕ → ℕ → ℕ → ℕ → ℕ → List ℕ
+withCore nums class i p n = cond (eqb class no-core) nums (cond (eqb class gives-core) (storeMark nums i 1) (storeHolder nums i p n))
 
 unfoldable pub withHeads : List ℕ → ℕ → ℕ → ℕ → List ℕ
 withHeads nums names cores instances =
@@ -99,7 +104,7 @@ withHeads nums names cores instances =
 unfoldable pub takenNums : List ℕ → Sight → ℕ → Happening → ℕ → ℕ → List ℕ
 takenNums nums s t h n m =
     withHeads
-    (withCore (withTarget (withRows nums s (h .kind) n m) (targetRow nums s) (instanceRow nums s) t h) (s .class) (coreRow nums s) (instanceRow nums s))
+    (withCore (withTarget (withRows nums s (h .kind) n m) (targetRow nums s) (instanceRow nums s) t h) (s .class) (coreRow nums s) (targetRow nums s) (h .number))
     (newCore s + newName s (h .kind))
     (newCore s)
     (newInstance s (h .kind))
@@ -108,8 +113,8 @@ takenNums nums s t h n m =
 unfoldable pub settled : List ℕ → ℕ → ℕ → ℕ → ℕ → List ℕ
 settled ticks class i p time =
     cond (ltb i nameRows && ltb p nameRows)
-    (cond (eqb class 1) (storeAt sinceColumn (storeAt idleColumn ticks i ((idleAt ticks i + (time - sinceAt ticks i)) % 2 ^ 64)) i time)
-    (cond (eqb class 2)
+    (cond (eqb class takes-core) (storeAt sinceColumn (storeAt idleColumn ticks i ((idleAt ticks i + (time - sinceAt ticks i)) % 2 ^ 64)) i time)
+    (cond (eqb class gives-core)
     (let one = storeAt heldColumn ticks i ((heldAt ticks i + (time - sinceAt ticks i)) % 2 ^ 64) in
     storeAt sinceColumn (storeAt heldColumn one p ((heldAt one p + (time - sinceAt ticks i)) % 2 ^ 64)) i time)
     ticks))

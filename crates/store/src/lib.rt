@@ -1,2 +1,2 @@
-// What taking an event line stores in the lent tables. Nothing is decided.
+// What taking an event line stores. In come the lent tables, the event and what was decided; out go the tables after it. Nothing is decided.
 pub mod take;

@@ -5,17 +5,17 @@ ghost use Prim.Native.Nat.{_+_, _-_};
 ghost use lib.Dec.{eqb};
 ghost use lib.ListN.{length};
 ghost use Rattle.tables.specs.Entry.{tables, namesSize, numsSize, ticksSize};
+ghost use Rattle.tables.specs.Sized.{Sized};
 ghost use Rattle.decide.specs.Happening.{asEvent};
 ghost use Rattle.decide.specs.Known.{newCore, newName, newInstance};
-ghost use Rattle.store.specs.Store.{coreRow, targetRow, instanceRow, storeName, storeRow, storeSums, storeInstance, storeMark, storeNumber, takenNames, withRows, withTarget, withCore, withHeads, takenNums, settled, withTimes, withSums, takenTicks, stored};
+ghost use Rattle.store.specs.Store.{coreRow, targetRow, instanceRow, storeName, storeRow, storeSums, storeInstance, storeMark, storeHolder, storeNumber, takenNames, withRows, withTarget, withCore, withHeads, takenNums, settled, withTimes, withSums, takenTicks, stored};
 use decide::happening::Happening;
 use decide::known::one_new;
-use decide::plan::numbers_instance;
 use decide::sight::Sight;
-use decide::sight::tracked;
-use decide::sight::with_instances;
-use rules::numbers::CORE;
-use rules::numbers::SEMAPHORE;
+use rules::kind::numbers_instance;
+use rules::kind::tracked;
+use rules::kind::with_instances;
+use rules::numbers::*;
 use std::num::wrapping_add_u32;
 use std::num::wrapping_add_u64;
 use tables::entry::*;
@@ -28,7 +28,7 @@ fn new_core(s: Sight) -> u32
     ensures { λ r. ⌜ r ≡ newCore s ⌝ }
 {
     let row = s.source;
-    one_new(s.class != 0, row) as u32
+    one_new(s.class != NO_CORE, row) as u32
 }
 
 fn new_name(s: Sight, kind: u32) -> u32
@@ -149,6 +149,21 @@ fn store_mark(nums: &mut [u32], i: usize, mark: u32)
     nums[MARK + i] = mark;
 }
 
+// The holder of a core: the row of its name, and its number.
+fn store_holder(nums: &mut [u32], i: usize, p: usize, number: u32)
+    requires { ⌜ length (now nums) ≡ numsSize ⌝ }
+    ensures { λ _. ⌜ now (nums .exit) ≡ storeHolder (now (nums .entry)) i p number ⌝ }
+{
+    if NAME_ROWS <= i {
+        return;
+    }
+    if NAME_ROWS <= p {
+        return;
+    }
+    nums[MARK + i] = p as u32 + 2;
+    nums[NUMBER + i] = number;
+}
+
 // A last number or count.
 fn store_number(nums: &mut [u32], i: usize, n: u32)
     requires { ⌜ length (now nums) ≡ numsSize ⌝ }
@@ -210,21 +225,18 @@ fn store_target(nums: &mut [u32], i: usize, j: usize, state: u32, h: Happening)
 }
 
 // What the core is from now on.
-fn store_core(nums: &mut [u32], class: u32, i: usize, j: usize)
+fn store_core(nums: &mut [u32], class: u32, i: usize, p: usize, number: u32)
     requires { ⌜ length (now nums) ≡ numsSize ⌝ }
-    ensures { λ _. ⌜ now (nums .exit) ≡ withCore (now (nums .entry)) class i j ⌝ }
+    ensures { λ _. ⌜ now (nums .exit) ≡ withCore (now (nums .entry)) class i p number ⌝ }
 {
-    if class == 0 {
+    if class == NO_CORE {
         return;
     }
-    if class == 2 {
+    if class == GIVES_CORE {
         store_mark(nums, i, 1);
         return;
     }
-    if INSTANCE_ROWS <= j {
-        return;
-    }
-    store_mark(nums, i, j as u32 + 2);
+    store_holder(nums, i, p, number);
 }
 
 // One line and so many names, cores and instances more, and an event was taken.
@@ -252,7 +264,7 @@ fn take_nums(nums: &mut [u32], s: Sight, state: u32, h: Happening, n: usize, m: 
     let instance = new_instance(s, h.kind);
     store_rows(nums, s, h.kind, n, m);
     store_target(nums, p, j, state, h);
-    store_core(nums, s.class, i, j);
+    store_core(nums, s.class, i, p, h.number);
     store_heads(nums, core + name, core, instance);
 }
 
@@ -304,12 +316,12 @@ fn settle(ticks: &mut [u64], class: u32, i: usize, p: usize, time: u64)
         return;
     }
     let more = gap(time, ticks[SINCE + i]);
-    if class == 1 {
+    if class == TAKES_CORE {
         ticks[IDLE + i] = wrapping_add_u64(ticks[IDLE + i], more);
         ticks[SINCE + i] = time;
         return;
     }
-    if class != 2 {
+    if class != GIVES_CORE {
         return;
     }
     ticks[HELD + i] = wrapping_add_u64(ticks[HELD + i], more);
@@ -351,7 +363,7 @@ fn take_in(
     source: &[u8],
     target: &[u8],
 )
-    requires { ⌜ (length (now names) ≡ namesSize) × ((length (now nums) ≡ numsSize) × (length (now ticks) ≡ ticksSize)) ⌝ }
+    requires { ⌜ Sized (now names) (now nums) (now ticks) ⌝ }
     ensures { λ _. ⌜ (now (names .exit) ≡ takenNames (now (names .entry)) (now (nums .entry)) s (asEvent h (now (source .entry)) (now (target .entry)))) × ((now (nums .exit) ≡ takenNums (now (nums .entry)) s state h (length (now (source .entry))) (length (now (target .entry)))) × (now (ticks .exit) ≡ takenTicks (now (ticks .entry)) (now (nums .entry)) s (h .kind) (h .time))) ⌝ }
 {
     take_names(names, nums, s, h, source, target);

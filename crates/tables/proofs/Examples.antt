@@ -33,7 +33,7 @@ instance-states = refl
 abbrev marksOf : ℕ → ℕ → List ℕ
 marksOf kind k = only (λ m. markOk (rows k RUNNING) kind m) (0 ∷ 1 ∷ 2 ∷ 3 ∷ 4 ∷ 5 ∷ [])
 
--- a core is idle, 1, or held by the first instance, 2, where that is a process's; the second instance, 3, and one that is not there, 4, hold none
+-- a core is idle, 1, or held by an instance of the name, 2, where that is a process's; those of names that are not there, 3 and on, hold none
 pub core-states :
     (marksOf core core ∷ marksOf core task ∷ marksOf core interrupt ∷ marksOf core runnable ∷ marksOf core semaphore ∷ [])
     ≡ ((1 ∷ []) ∷ (1 ∷ 2 ∷ []) ∷ (1 ∷ 2 ∷ []) ∷ (1 ∷ []) ∷ (1 ∷ []) ∷ [])

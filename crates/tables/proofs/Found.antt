@@ -16,7 +16,7 @@ use Rattle.text.proofs.Bools.{is-false, or-l, or-r}
 use Rattle.text.proofs.Words.{same-eq, eq-same}
 use Rattle.tables.specs.declared.find.Found.{Found}
 use Rattle.tables.specs.declared.find.Found.the-variants.{At, Nothing}
-use Rattle.tables.specs.Entry.{namesSize, numsSize, nameCount, lengthAt, nameAt, instanceCount, ownerAt, instanceAt}
+use Rattle.tables.specs.Entry.{nameRows, instanceRows, nameRoom, namesSize, numsSize, nameCount, lengthAt, nameAt, instanceCount, ownerAt, instanceAt}
 use Rattle.tables.specs.Find.{firstFrom, lastBelow, rowIs, findName, instanceIs, findInstance}
 use Rattle.tables.proofs.Means.{Means, means-le, means-lt, means-eq, means-and}
 
@@ -124,46 +124,46 @@ means-same : (s t : List ℕ) → Means (sameBytes s t) (s ≡ t)
 means-same s t = record { holds = same-eq s t; shows = eq-same s t }
 
 pub row-means : (names nums name : List ℕ) (i : ℕ)
-    → Means (rowIs names nums name i) ((i < 256) × ((lengthAt nums i ≡ length name) × ((lengthAt nums i ≤ 64) × (nameAt names nums i ≡ name))))
+    → Means (rowIs names nums name i) ((i < nameRows) × ((lengthAt nums i ≡ length name) × ((lengthAt nums i ≤ nameRoom) × (nameAt names nums i ≡ name))))
 unfolding rowIs
 row-means names nums name i =
-    means-and (means-lt i 256) (means-and (means-eq (lengthAt nums i) (length name)) (means-and (means-le (lengthAt nums i) 64) (means-same (nameAt names nums i) name)))
+    means-and (means-lt i nameRows) (means-and (means-eq (lengthAt nums i) (length name)) (means-and (means-le (lengthAt nums i) nameRoom) (means-same (nameAt names nums i) name)))
 
 -- the part of the names that code lends for row i is its name
-pub lent-name : (names nums : List ℕ) (i : ℕ) → take ((64 * i + lengthAt nums i) - 64 * i) (drop (64 * i) names) ≡ nameAt names nums i
-lent-name names nums i = let e : (64 * i + lengthAt nums i) - 64 * i ≡ lengthAt nums i = omega arith in rw e
+pub lent-name : (names nums : List ℕ) (i : ℕ) → take ((nameRoom * i + lengthAt nums i) - nameRoom * i) (drop (nameRoom * i) names) ≡ nameAt names nums i
+lent-name names nums i = let e : (nameRoom * i + lengthAt nums i) - nameRoom * i ≡ lengthAt nums i = omega arith in rw e
 
 pub row-name : (names nums name : List ℕ) (i : ℕ) → rowIs names nums name i ≡ true → nameAt names nums i ≡ name
 row-name names nums name i e = row-means names nums name i .holds e .1 .1 .1
 
 -- a row with another byte at an index of the name does not hold it, however long it is
-pub other-name : (names name : List ℕ) (i j : ℕ) → j < length name → (getD names (64 * i + j) 0 ≡ getD name j 0 → ⊥) → (nums : List ℕ) → rowIs names nums name i ≡ false
+pub other-name : (names name : List ℕ) (i j : ℕ) → j < length name → (getD names (nameRoom * i + j) 0 ≡ getD name j 0 → ⊥) → (nums : List ℕ) → rowIs names nums name i ≡ false
 other-name names name i j h other nums =
     is-false (rowIs names nums name i) (λ e.
     let m = row-means names nums name i .holds e in
     let l : j < lengthAt nums i = omega (arith, m .1 .0) in
-    other (sym (getD-drop (64 * i) names j 0) ∙ sym (getD-take (lengthAt nums i) (drop (64 * i) names) j 0 l) ∙ ap (λ (s : List ℕ). getD s j 0) (m .1 .1 .1)))
+    other (sym (getD-drop (nameRoom * i) names j 0) ∙ sym (getD-take (lengthAt nums i) (drop (nameRoom * i) names) j 0 l) ∙ ap (λ (s : List ℕ). getD s j 0) (m .1 .1 .1)))
 
 -- bytes compared together: where two of them differ, the row does not hold the name
-pub differ-turn : (names name : List ℕ) (i n at k : ℕ) (differ : Bool) → at ≡ 64 * i + n → n + k < length name
+pub differ-turn : (names name : List ℕ) (i n at k : ℕ) (differ : Bool) → at ≡ nameRoom * i + n → n + k < length name
     → (differ ≡ true → (nums : List ℕ) → rowIs names nums name i ≡ false)
     → differ || not (eqb (getD names (at + k) 0) (getD name (n + k) 0)) ≡ true → (nums : List ℕ) → rowIs names nums name i ≡ false
 differ-turn names name i n at k true a h so e nums = so refl nums
 differ-turn names name i n at k false a h so e nums =
-    let j : at + k ≡ 64 * i + (n + k) = omega arith in
+    let j : at + k ≡ nameRoom * i + (n + k) = omega arith in
     other-name names name i (n + k) h (eqb-false _ _ (not-true _ (rw j at e))) nums
 
-pub name-size : (names nums : List ℕ) (i : ℕ) → length names ≡ namesSize → i < 256 → lengthAt nums i ≤ 64 → length (nameAt names nums i) ≡ lengthAt nums i
+pub name-size : (names nums : List ℕ) (i : ℕ) → length names ≡ namesSize → i < nameRows → lengthAt nums i ≤ nameRoom → length (nameAt names nums i) ≡ lengthAt nums i
 name-size names nums i s h k = simp (length-take, length-drop) (omega arith)
 
-pub name-row : (names nums name : List ℕ) (i : ℕ) → length names ≡ namesSize → i < 256 → lengthAt nums i ≤ 64 → nameAt names nums i ≡ name → rowIs names nums name i ≡ true
+pub name-row : (names nums name : List ℕ) (i : ℕ) → length names ≡ namesSize → i < nameRows → lengthAt nums i ≤ nameRoom → nameAt names nums i ≡ name → rowIs names nums name i ≡ true
 name-row names nums name i s h k e = row-means names nums name i .shows (h, (sym (name-size names nums i s h k) ∙ ap length e, (k, e)))
 
-pub instance-means : (nums : List ℕ) (owner number j : ℕ) → Means (instanceIs nums owner number j) ((j < 1024) × ((instanceAt nums j ≡ number) × (ownerAt nums j ≡ owner)))
+pub instance-means : (nums : List ℕ) (owner number j : ℕ) → Means (instanceIs nums owner number j) ((j < instanceRows) × ((instanceAt nums j ≡ number) × (ownerAt nums j ≡ owner)))
 unfolding instanceIs
-instance-means nums owner number j = means-and (means-lt j 1024) (means-and (means-eq (instanceAt nums j) number) (means-eq (ownerAt nums j) owner))
+instance-means nums owner number j = means-and (means-lt j instanceRows) (means-and (means-eq (instanceAt nums j) number) (means-eq (ownerAt nums j) owner))
 
 -- a row whose number or owner is another is not that instance
 pub other-instance : (nums : List ℕ) (owner number j : ℕ) → eqb (instanceAt nums j) number && eqb (ownerAt nums j) owner ≡ false → instanceIs nums owner number j ≡ false
 unfolding instanceIs
-other-instance nums owner number j e = rw e (and-false (ltb j 1024))
+other-instance nums owner number j e = rw e (and-false (ltb j instanceRows))

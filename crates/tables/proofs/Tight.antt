@@ -9,7 +9,8 @@ use Rattle.text.proofs.Tight.{unique, ShutsOut, shut-out}
 use Rattle.tables.specs.declared.find.Found.{Found}
 use Rattle.tables.specs.Entry.{namesSize, numsSize, ticksSize}
 use Rattle.tables.specs.Find.{findName, findInstance}
-use Rattle.tables.specs.Range.{isSized, tableAnswer}
+use Rattle.tables.specs.Sized.{isSized}
+use Rattle.tables.specs.Range.{tableAnswer}
 use Rattle.tables.specs.Fresh.{Cleared, cleared, clearedOf}
 use Rattle.tables.proofs.Valid.{sizes-mean}
 

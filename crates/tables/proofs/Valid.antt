@@ -9,21 +9,18 @@ use lib.ListN.{length, drop, length-take}
 use Rattle.text.specs.Name.{isName}
 use Rattle.text.proofs.Names.{name-length}
 use Rattle.rules.specs.Words.{core, semaphore}
+use Rattle.rules.specs.Limits.{lastRefusal}
 use Rattle.rules.specs.Chart.{isStateOf}
 use Rattle.rules.specs.Charts.{chartOf}
 use Rattle.rules.specs.History.{hasInstances}
-use Rattle.tables.specs.Entry.{namesSize, numsSize, ticksSize}
+use Rattle.tables.specs.Entry.{nameRows, instanceRows, nameRoom, namesSize, numsSize, ticksSize}
 use Rattle.tables.specs.Entry.{verdictNumber, verdictLine, lineCount, scaleEntry, creatorEntry, dateEntry, startedEntry, nameCount, coreCount, instanceCount}
 use Rattle.tables.specs.Entry.{kindAt, lengthAt, markAt, numberedAt, ownerAt, stateAt, firstTime, lastTime, heldAt, idleAt, unknownAt, sinceAt, nameAt}
-use Rattle.tables.specs.Range.{isSized, headsOk, countsOk, timesOk, markOk, maxSum, sumsOk, bytesOk, nameOk, instanceOk, inRange, tableAnswer}
+use Rattle.tables.specs.Sized.{Sized, isSized}
+use Rattle.tables.specs.Range.{headsOk, countsOk, timesOk, markOk, maxSum, sumsOk, bytesOk, nameOk, instanceOk, inRange, tableAnswer}
 use Rattle.tables.proofs.Means.{Means, means-le, means-lt, means-eq, means-true, means-and, means-up, means-as, fails}
 
 -- ---- what is in range
-
-pub record Sizes (names nums ticks : List ℕ) : Type 0 where
-  pub names-size : length names ≡ namesSize
-  pub nums-size : length nums ≡ numsSize
-  pub ticks-size : length ticks ≡ ticksSize
 
 pub record NameRow (names nums ticks : List ℕ) (i : ℕ) : Type 0 where
   pub kind-some : core ≤ kindAt nums i
@@ -31,7 +28,7 @@ pub record NameRow (names nums ticks : List ℕ) (i : ℕ) : Type 0 where
   pub numbered : numberedAt nums i ≤ 1
   pub mark : markOk nums (kindAt nums i) (markAt nums i) ≡ true
   pub length-some : 1 ≤ lengthAt nums i
-  pub length-most : lengthAt nums i ≤ 64
+  pub length-most : lengthAt nums i ≤ nameRoom
   pub named : isName (nameAt names nums i) ≡ true
   pub held : heldAt ticks i ≤ maxSum
   pub idle : idleAt ticks i ≤ maxSum
@@ -44,17 +41,17 @@ pub record InstanceRow (nums : List ℕ) (j : ℕ) : Type 0 where
   pub state : isStateOf (chartOf (kindAt nums (ownerAt nums j))) (stateAt nums j) ≡ true
 
 pub record Valid (names nums ticks : List ℕ) : Type 0 where
-  pub sizes : Sizes names nums ticks
-  pub verdict : verdictNumber nums ≤ 14
+  pub sizes : Sized names nums ticks
+  pub verdict : verdictNumber nums ≤ lastRefusal
   pub verdict-line : verdictLine nums ≤ 1000000001
   pub lines : lineCount nums ≤ 1000000000
   pub scale : scaleEntry nums ≤ 5
   pub creator : creatorEntry nums ≤ 1
   pub date : dateEntry nums ≤ 1
   pub started : startedEntry nums ≤ 1
-  pub name-count : nameCount nums ≤ 256
+  pub name-count : nameCount nums ≤ nameRows
   pub core-count : coreCount nums ≤ 64
-  pub instance-count : instanceCount nums ≤ 1024
+  pub instance-count : instanceCount nums ≤ instanceRows
   pub last-time : lastTime ticks ≤ 72057594037927935
   pub first-time : firstTime ticks ≤ lastTime ticks
   pub name-row : (i : ℕ) → i < nameCount nums → NameRow names nums ticks i
@@ -62,7 +59,7 @@ pub record Valid (names nums ticks : List ℕ) : Type 0 where
 
 -- ---- what the tests mean
 
-pub sizes-mean : (names nums ticks : List ℕ) → Means (isSized (length names) (length nums) (length ticks)) (Sizes names nums ticks)
+pub sizes-mean : (names nums ticks : List ℕ) → Means (isSized (length names) (length nums) (length ticks)) (Sized names nums ticks)
 unfolding isSized
 sizes-mean names nums ticks =
     means-as (means-and (means-eq (length names) namesSize) (means-and (means-eq (length nums) numsSize) (means-eq (length ticks) ticksSize)))
@@ -70,18 +67,18 @@ sizes-mean names nums ticks =
     (λ s. (s .names-size, (s .nums-size, s .ticks-size)))
 
 heads-mean : (nums : List ℕ)
-    → Means (headsOk nums) ((verdictNumber nums ≤ 14) × ((verdictLine nums ≤ 1000000001) × ((lineCount nums ≤ 1000000000) × ((scaleEntry nums ≤ 5) × ((creatorEntry nums ≤ 1) × (dateEntry nums ≤ 1))))))
+    → Means (headsOk nums) ((verdictNumber nums ≤ lastRefusal) × ((verdictLine nums ≤ 1000000001) × ((lineCount nums ≤ 1000000000) × ((scaleEntry nums ≤ 5) × ((creatorEntry nums ≤ 1) × (dateEntry nums ≤ 1))))))
 unfolding headsOk
 heads-mean nums =
-    means-and (means-le (verdictNumber nums) 14)
+    means-and (means-le (verdictNumber nums) lastRefusal)
     (means-and (means-le (verdictLine nums) 1000000001)
     (means-and (means-le (lineCount nums) 1000000000)
     (means-and (means-le (scaleEntry nums) 5) (means-and (means-le (creatorEntry nums) 1) (means-le (dateEntry nums) 1)))))
 
-pub counts-mean : (nums : List ℕ) → Means (countsOk nums) ((startedEntry nums ≤ 1) × ((nameCount nums ≤ 256) × ((coreCount nums ≤ 64) × (instanceCount nums ≤ 1024))))
+pub counts-mean : (nums : List ℕ) → Means (countsOk nums) ((startedEntry nums ≤ 1) × ((nameCount nums ≤ nameRows) × ((coreCount nums ≤ 64) × (instanceCount nums ≤ instanceRows))))
 unfolding countsOk
 counts-mean nums =
-    means-and (means-le (startedEntry nums) 1) (means-and (means-le (nameCount nums) 256) (means-and (means-le (coreCount nums) 64) (means-le (instanceCount nums) 1024)))
+    means-and (means-le (startedEntry nums) 1) (means-and (means-le (nameCount nums) nameRows) (means-and (means-le (coreCount nums) 64) (means-le (instanceCount nums) instanceRows)))
 
 times-mean : (ticks : List ℕ) → Means (timesOk ticks) ((lastTime ticks ≤ 72057594037927935) × (firstTime ticks ≤ lastTime ticks))
 unfolding timesOk
@@ -93,9 +90,9 @@ sums-mean ticks i =
     means-and (means-le (heldAt ticks i) maxSum)
     (means-and (means-le (idleAt ticks i) maxSum) (means-and (means-le (unknownAt ticks i) maxSum) (means-le (sinceAt ticks i) (lastTime ticks))))
 
-bytes-mean : (names nums : List ℕ) (i : ℕ) → Means (bytesOk names nums i) ((lengthAt nums i ≤ 64) × (isName (nameAt names nums i) ≡ true))
+bytes-mean : (names nums : List ℕ) (i : ℕ) → Means (bytesOk names nums i) ((lengthAt nums i ≤ nameRoom) × (isName (nameAt names nums i) ≡ true))
 unfolding bytesOk
-bytes-mean names nums i = means-and (means-le (lengthAt nums i) 64) (means-true (isName (nameAt names nums i)))
+bytes-mean names nums i = means-and (means-le (lengthAt nums i) nameRoom) (means-true (isName (nameAt names nums i)))
 
 name-mean : (names nums ticks : List ℕ) (i : ℕ) → Means (nameOk names nums ticks i) (NameRow names nums ticks i)
 unfolding nameOk
@@ -111,7 +108,7 @@ name-mean names nums ticks i =
       kind-known = p .1 .0;
       numbered = p .1 .1 .0;
       mark = p .1 .1 .1 .0;
-      length-some = omega (arith, name-length (nameAt names nums i) (p .1 .1 .1 .1 .0 .1), length-take (lengthAt nums i) (drop (64 * i) names));
+      length-some = omega (arith, name-length (nameAt names nums i) (p .1 .1 .1 .1 .0 .1), length-take (lengthAt nums i) (drop (nameRoom * i) names));
       length-most = p .1 .1 .1 .1 .0 .0;
       named = p .1 .1 .1 .1 .0 .1;
       held = p .1 .1 .1 .1 .1 .0;
@@ -131,7 +128,7 @@ instance-mean nums j =
     (λ r. (r .owner, (r .owner-kind, r .state)))
 
 module _ (names nums ticks : List ℕ) where
-  range-mean : Sizes names nums ticks → Means (inRange names nums ticks) (Valid names nums ticks)
+  range-mean : Sized names nums ticks → Means (inRange names nums ticks) (Valid names nums ticks)
   unfolding inRange
   range-mean s =
       means-as
@@ -198,10 +195,10 @@ module _ (names nums ticks : List ℕ) where
   unfolding tableAnswer
   three-answers = answer-some (isSized (length names) (length nums) (length ticks)) (inRange names nums ticks)
 
-  pub answer-unsized : tableAnswer names nums ticks ≡ 15 → Sizes names nums ticks → ⊥
+  pub answer-unsized : tableAnswer names nums ticks ≡ 15 → Sized names nums ticks → ⊥
   unfolding tableAnswer
   answer-unsized e s = answer-15 (isSized (length names) (length nums) (length ticks)) (inRange names nums ticks) e (sizes-mean names nums ticks .shows s)
 
-  pub unsized-answer : (Sizes names nums ticks → ⊥) → tableAnswer names nums ticks ≡ 15
+  pub unsized-answer : (Sized names nums ticks → ⊥) → tableAnswer names nums ticks ≡ 15
   unfolding tableAnswer
   unsized-answer h = rw (fails (sizes-mean names nums ticks) h)

@@ -8,10 +8,12 @@ use native.Mathlib.Omega.{arith}
 use lib.ListN.{length, getD, set, drop, replicate, length-set, length-replicate}
 use lib.Seq.{drop-length}
 use borrow.Author.Fill.{fill-none, fill-more}
-use Rattle.tables.specs.Entry.{namesSize, numsSize, ticksSize}
-use Rattle.tables.specs.Range.{isSized, tableAnswer}
+use Rattle.tables.specs.Entry.{verdictIndex, verdictLineIndex, linesIndex, scaleIndex, creatorIndex, dateIndex, startedIndex, namesIndex, coresIndex, instancesIndex}
+use Rattle.tables.specs.Entry.{firstIndex, lastIndex, namesSize, numsSize, ticksSize}
+use Rattle.tables.specs.Sized.{Sized, isSized}
+use Rattle.tables.specs.Range.{tableAnswer}
 use Rattle.tables.specs.Fresh.{Cleared, cleared, clearedOf}
-use Rattle.tables.proofs.Valid.{Sizes, Valid, sizes-mean, answers}
+use Rattle.tables.proofs.Valid.{Valid, sizes-mean, answers}
 
 -- ---- the loop: the first i entries of d are 0, the rest are as they were
 
@@ -49,24 +51,24 @@ entry-zero (suc n) (suc i) = entry-zero n i
 length-zeros : (n : ℕ) → length (zeros n) ≡ n
 length-zeros n = length-replicate n 0
 
-zeros-valid : (names nums ticks : List ℕ) → Sizes names nums ticks → ((i : ℕ) → getD nums i 0 ≡ 0) → ((i : ℕ) → getD ticks i 0 ≡ 0) → Valid names nums ticks
+zeros-valid : (names nums ticks : List ℕ) → Sized names nums ticks → ((i : ℕ) → getD nums i 0 ≡ 0) → ((i : ℕ) → getD ticks i 0 ≡ 0) → Valid names nums ticks
 zeros-valid names nums ticks s n t =
     record {
       sizes = s;
-      verdict = omega (arith, n 0);
-      verdict-line = omega (arith, n 1);
-      lines = omega (arith, n 2);
-      scale = omega (arith, n 3);
-      creator = omega (arith, n 4);
-      date = omega (arith, n 5);
-      started = omega (arith, n 6);
-      name-count = omega (arith, n 7);
-      core-count = omega (arith, n 8);
-      instance-count = omega (arith, n 9);
-      last-time = omega (arith, t 1);
-      first-time = omega (arith, t 0);
-      name-row = λ i h. absurd (omega (arith, n 7));
-      instance-row = λ j h. absurd (omega (arith, n 9));
+      verdict = omega (arith, n verdictIndex);
+      verdict-line = omega (arith, n verdictLineIndex);
+      lines = omega (arith, n linesIndex);
+      scale = omega (arith, n scaleIndex);
+      creator = omega (arith, n creatorIndex);
+      date = omega (arith, n dateIndex);
+      started = omega (arith, n startedIndex);
+      name-count = omega (arith, n namesIndex);
+      core-count = omega (arith, n coresIndex);
+      instance-count = omega (arith, n instancesIndex);
+      last-time = omega (arith, t lastIndex);
+      first-time = omega (arith, t firstIndex);
+      name-row = λ i h. absurd (omega (arith, n namesIndex));
+      instance-row = λ j h. absurd (omega (arith, n instancesIndex));
     }
 
 pub fresh-valid : Valid (zeros namesSize) (zeros numsSize) (zeros ticksSize)

@@ -3,6 +3,7 @@
 use mathlib.Core.List.{List}
 use Prim.Native.Nat.{ℕ, _+_, _*_}
 use lib.ListN.{getD, set, take, drop}
+use Rattle.rules.specs.Limits.{nameLimit, instanceLimit}
 
 -- the three tables
 pub record Tables : Type 0 where
@@ -34,12 +35,12 @@ entryAt c t i = getD t (c .base + i) 0
 abbrev pub storeAt : Column → List ℕ → ℕ → ℕ → List ℕ
 storeAt c t i v = set t (c .base + i) v
 
--- how many rows there are: "tracked names .. | 256", "process and runnable instances | 1,024"; and "name, note | 1 to 64 bytes"
+-- how many rows there are: one for each name and each instance that may be tracked; and "name, note | 1 to 64 bytes"
 abbrev pub nameRows : ℕ
-nameRows = 256
+nameRows = nameLimit
 
 abbrev pub instanceRows : ℕ
-instanceRows = 1024
+instanceRows = instanceLimit
 
 abbrev pub nameRoom : ℕ
 nameRoom = 64
@@ -77,7 +78,8 @@ coresIndex = 8
 abbrev pub instancesIndex : ℕ
 instancesIndex = 9
 
--- by name: its kind, its length, its state (a core's or a semaphore's), its last number or count, and whether it has one
+-- by name: its kind, its length, its state (a core's or a semaphore's), its last number or count (of a core the number of the instance that holds it),
+-- and whether it has a last one
 abbrev pub kindColumn : Column
 kindColumn = column 10 nameRows
 
@@ -128,7 +130,7 @@ sinceColumn = column (past unknownColumn) nameRows
 -- ---- the sizes
 
 abbrev pub namesSize : ℕ
-namesSize = 16384
+namesSize = nameRoom * nameRows
 
 abbrev pub numsSize : ℕ
 numsSize = past stateColumn

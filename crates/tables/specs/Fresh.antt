@@ -4,7 +4,7 @@ use mathlib.Core.List.{List}
 use Prim.Native.Nat.{ℕ}
 use lib.ListN.{length, replicate}
 use Rattle.tables.specs.Entry.{namesSize, numsSize, ticksSize}
-use Rattle.tables.specs.Range.{isSized}
+use Rattle.tables.specs.Sized.{isSized}
 
 -- an answer with the three tables afterwards
 pub record Cleared : Type 0 where

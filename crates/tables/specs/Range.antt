@@ -8,26 +8,25 @@ use lib.Dec.{eqb, leb, ltb}
 use lib.ListN.{length}
 use Rattle.text.specs.Name.{isName}
 use Rattle.rules.specs.Words.{core, semaphore}
+use Rattle.rules.specs.Limits.{coreLimit, lastRefusal}
 use Rattle.rules.specs.Chart.{isStateOf}
 use Rattle.rules.specs.Charts.{isProcess, chartOf}
 use Rattle.rules.specs.History.{hasInstances}
-use Rattle.tables.specs.Entry.{nameRows, instanceRows, nameRoom, namesSize, numsSize, ticksSize}
+use Rattle.tables.specs.Entry.{nameRows, instanceRows, nameRoom, numsSize}
 use Rattle.tables.specs.Entry.{verdictNumber, verdictLine, lineCount, scaleEntry, creatorEntry, dateEntry, startedEntry, nameCount, coreCount, instanceCount}
 use Rattle.tables.specs.Entry.{kindAt, lengthAt, markAt, numberedAt, ownerAt, stateAt, firstTime, lastTime, heldAt, idleAt, unknownAt, sinceAt, nameAt}
+use Rattle.tables.specs.Sized.{isSized}
 
-unfoldable pub isSized : ℕ → ℕ → ℕ → Bool
-isSized names nums ticks = eqb names namesSize && (eqb nums numsSize && eqb ticks ticksSize)
-
--- the verdict is one of 0 to 14, at a line up to the one past the last; at most 1,000,000,000 lines; the line level's entries
+-- the verdict is one that is remembered, at a line up to the one past the last; at most 1,000,000,000 lines; the line level's entries
 unfoldable pub headsOk : List ℕ → Bool
 headsOk nums =
-    leb (verdictNumber nums) 14
+    leb (verdictNumber nums) lastRefusal
     && (leb (verdictLine nums) 1000000001
     && (leb (lineCount nums) 1000000000 && (leb (scaleEntry nums) 5 && (leb (creatorEntry nums) 1 && leb (dateEntry nums) 1))))
 
 -- "tracked names (cores, T, I, R, SEM) | 256, of them 64 cores"; "process and runnable instances | 1,024"
 unfoldable pub countsOk : List ℕ → Bool
-countsOk nums = leb (startedEntry nums) 1 && (leb (nameCount nums) nameRows && (leb (coreCount nums) 64 && leb (instanceCount nums) instanceRows))
+countsOk nums = leb (startedEntry nums) 1 && (leb (nameCount nums) nameRows && (leb (coreCount nums) coreLimit && leb (instanceCount nums) instanceRows))
 
 -- what the code needs before it looks at rows: every row that is counted is there
 pub record Counted (nums : List ℕ) : Type 0 where
@@ -39,11 +38,12 @@ pub record Counted (nums : List ℕ) : Type 0 where
 unfoldable pub timesOk : List ℕ → Bool
 timesOk ticks = leb (lastTime ticks) 72057594037927935 && leb (firstTime ticks) (lastTime ticks)
 
--- instance j can hold a core: it is there, and one of a process ("one process instance at a time")
+-- an instance of the name in row p can hold a core: the name is there, and a process's ("one process instance at a time")
 unfoldable pub holderOk : List ℕ → ℕ → Bool
-holderOk nums j = ltb j (instanceCount nums) && (ltb (ownerAt nums j) (nameCount nums) && isProcess (kindAt nums (ownerAt nums j)))
+holderOk nums p = ltb p (nameCount nums) && isProcess (kindAt nums p)
 
--- the state of a core: idle, 1, or held by instance j, 2 + j
+-- the state of a core: idle, 1, or held by an instance of the process in row p, 2 + p. The instance's number, which lies in the core's own entry of
+-- numbers, may be any, and whether that instance has a row is not asked: 16 asks what an entry is by itself and what it points to.
 unfoldable pub coreOk : List ℕ → ℕ → Bool
 coreOk nums mark = cond (ltb mark 2) (eqb mark 1) (holderOk nums (mark - 2))
 

@@ -1,9 +1,12 @@
-// Where each entry lies: the one place in code that names a base or a size. "Numbers, states and charges lie in lent tables of u32 and u64 entries", in columns: entry BASE + i.
+// Where each entry lies: the one place in code that names a base or a size. "Numbers, states and charges lie in lent tables of u32 and u64
+// entries", in columns: entry BASE + i.
+use rules::numbers::INSTANCE_LIMIT;
+use rules::numbers::NAME_LIMIT;
 
 // how many rows a column has, by name and by instance, and how many bytes a name
-pub const NAME_ROWS: usize = 256;
+pub const NAME_ROWS: usize = NAME_LIMIT as usize;
 
-pub const INSTANCE_ROWS: usize = 1024;
+pub const INSTANCE_ROWS: usize = INSTANCE_LIMIT as usize;
 
 pub const NAME_ROOM: usize = 64;
 

@@ -2,14 +2,14 @@
 ghost use mathlib.Core.Path.{_≡_};
 ghost use Prim.Native.Nat.{_<_, _≤_};
 ghost use lib.ListN.{length};
-ghost use Rattle.tables.specs.Range.{isSized, Counted, countsOk, headsOk, timesOk, holderOk, coreOk, markOk, sumsOk, bytesOk, nameOk, instanceOk, upTo, inRange, tableAnswer};
+ghost use Rattle.tables.specs.Sized.{Sized, isSized};
+ghost use Rattle.tables.specs.Range.{Counted, countsOk, headsOk, timesOk, holderOk, coreOk, markOk, sumsOk, bytesOk, nameOk, instanceOk, upTo, inRange, tableAnswer};
 ghost use Rattle.tables.specs.Entry.{namesSize, numsSize, ticksSize, nameRows, instanceRows};
 use crate::entry::*;
-use crate::state::is_process;
 use crate::state::of_semaphore;
 use crate::state::state_ok;
-use rules::numbers::CORE;
-use rules::numbers::SEMAPHORE;
+use rules::kind::is_process;
+use rules::numbers::*;
 use text::name::name;
 
 // Whether the three tables have their sizes.
@@ -30,7 +30,7 @@ fn heads_ok(nums: &[u32]) -> bool
     requires { ⌜ length (now nums) ≡ numsSize ⌝ }
     ensures { λ r. ⌜ r ≡ headsOk (now (nums .entry)) ⌝ }
 {
-    (nums[VERDICT] <= 14)
+    (nums[VERDICT] <= LAST_REFUSAL)
         & ((nums[VERDICT_LINE] <= 1000000001)
             & ((nums[LINES] <= 1000000000)
                 & ((nums[SCALE] <= 5) & ((nums[CREATOR] <= 1) & (nums[DATE] <= 1)))))
@@ -42,7 +42,8 @@ fn counts_ok(nums: &[u32]) -> bool
     ensures { λ r. ⌜ r ≡ countsOk (now (nums .entry)) ⌝ }
 {
     (nums[STARTED] <= 1)
-        & ((nums[NAMES] <= 256) & ((nums[CORES] <= 64) & (nums[INSTANCES] <= 1024)))
+        & ((nums[NAMES] <= NAME_LIMIT)
+            & ((nums[CORES] <= CORE_LIMIT) & (nums[INSTANCES] <= INSTANCE_LIMIT)))
 }
 
 // The first and the last time.
@@ -53,22 +54,18 @@ fn times_ok(ticks: &[u64]) -> bool
     (ticks[LAST] <= 72057594037927935) & (ticks[FIRST] <= ticks[LAST])
 }
 
-// Whether instance j can hold a core: it is there, and belongs to a process.
-fn holder_ok(nums: &[u32], j: u32) -> bool
+// Whether an instance of the name in row p can hold a core: the name is there, and a process's.
+fn holder_ok(nums: &[u32], p: u32) -> bool
     requires { ⌜ Counted (now nums) ⌝ }
-    ensures { λ r. ⌜ r ≡ holderOk (now (nums .entry)) j ⌝ }
+    ensures { λ r. ⌜ r ≡ holderOk (now (nums .entry)) p ⌝ }
 {
-    if nums[INSTANCES] <= j {
+    if nums[NAMES] <= p {
         return false;
     }
-    let row = nums[OWNER + j as usize];
-    if nums[NAMES] <= row {
-        return false;
-    }
-    is_process(nums[KIND + row as usize])
+    is_process(nums[KIND + p as usize])
 }
 
-// The state of a core: idle (1), or held by instance j (2 + j).
+// The state of a core: idle (1), or held by an instance of the process in row p (2 + p).
 fn core_ok(nums: &[u32], mark: u32) -> bool
     requires { ⌜ Counted (now nums) ⌝ }
     ensures { λ r. ⌜ r ≡ coreOk (now (nums .entry)) mark ⌝ }
@@ -119,7 +116,7 @@ fn bytes_ok(names: &[u8], nums: &[u32], i: usize) -> bool
 
 // The whole row of name i.
 fn name_ok(names: &[u8], nums: &[u32], ticks: &[u64], i: usize) -> bool
-    requires { ⌜ (i < nameRows) × ((length (now names) ≡ namesSize) × ((length (now ticks) ≡ ticksSize) × Counted (now nums))) ⌝ }
+    requires { ⌜ (i < nameRows) × (Sized (now names) (now nums) (now ticks) × Counted (now nums)) ⌝ }
     ensures { λ r. ⌜ r ≡ nameOk (now (names .entry)) (now (nums .entry)) (now (ticks .entry)) i ⌝ }
 {
     let kind = nums[KIND + i];
@@ -142,7 +139,7 @@ fn instance_ok(nums: &[u32], j: usize) -> bool
 }
 
 fn names_ok(names: &[u8], nums: &[u32], ticks: &[u64], n: usize) -> bool
-    requires { ⌜ (n ≤ nameRows) × ((length (now names) ≡ namesSize) × ((length (now ticks) ≡ ticksSize) × Counted (now nums))) ⌝ }
+    requires { ⌜ (n ≤ nameRows) × (Sized (now names) (now nums) (now ticks) × Counted (now nums)) ⌝ }
     ensures { λ r. ⌜ r ≡ upTo (nameOk (now (names .entry)) (now (nums .entry)) (now (ticks .entry))) n ⌝ }
 {
     let mut i = 0;
@@ -171,7 +168,7 @@ fn instances_ok(nums: &[u32], n: usize) -> bool
 
 // Whether every entry is in its range. The counts are tested first, since they tell how many rows there are to test.
 fn in_range(names: &[u8], nums: &[u32], ticks: &[u64]) -> bool
-    requires { ⌜ (length (now names) ≡ namesSize) × ((length (now nums) ≡ numsSize) × (length (now ticks) ≡ ticksSize)) ⌝ }
+    requires { ⌜ Sized (now names) (now nums) (now ticks) ⌝ }
     ensures { λ r. ⌜ r ≡ inRange (now (names .entry)) (now (nums .entry)) (now (ticks .entry)) ⌝ }
 {
     if !counts_ok(nums) {

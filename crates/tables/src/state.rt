@@ -2,16 +2,10 @@
 ghost use mathlib.Core.Path.{_≡_};
 ghost use mathlib.Core.Bool.{_&&_};
 ghost use Rattle.rules.specs.Chart.{isStateOf};
-ghost use Rattle.rules.specs.Charts.{isProcess, processChart, runnableChart, semaphoreChart, chartOf};
+ghost use Rattle.rules.specs.Charts.{processChart, runnableChart, semaphoreChart, chartOf};
 ghost use Rattle.rules.specs.History.{hasInstances};
+use rules::kind::is_process;
 use rules::numbers::*;
-
-// Whether the kind is one of the processes, T and I.
-pub(crate) fn is_process(kind: u32) -> bool
-    ensures { λ r. ⌜ r ≡ isProcess kind ⌝ }
-{
-    (kind == TASK) | (kind == INTERRUPT)
-}
 
 // A process has every state but SUSPENDED.
 fn of_process(state: u32) -> bool

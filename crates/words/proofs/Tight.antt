@@ -3,7 +3,7 @@ use mathlib.Core.Path.{_≡_, refl}
 use mathlib.Core.Bool.{Bool, true, false, not, cond}
 use mathlib.Core.List.{List, _++_}
 use Prim.Native.Nat.{ℕ, suc, _+_}
-use lib.Dec.{eqb}
+use lib.Dec.{eqb, ltb}
 use lib.ListN.{length, getD}
 use Rattle.text.specs.Literal.{bytes}
 use Rattle.text.specs.Bytes.{sameBytes}
@@ -24,7 +24,8 @@ use Rattle.words.specs.Named.{pick}
 use Rattle.words.specs.Kind.{kindWord, kindOf}
 use Rattle.words.specs.Action.{wordOf, actionCode, actionsOf, actionOf, among, isOf}
 use Rattle.words.specs.Pair.{pairWith, namedBy}
-use Rattle.words.specs.Class.{classOf}
+use Rattle.words.specs.Code.{waiting}
+use Rattle.words.specs.Class.{no-class, unparking, beginning, classAt, classOf}
 use Rattle.words.specs.Scale.{scaleWord, scaleOf}
 
 -- ---- `kind_of`, `kind_length`, `put_kind`
@@ -103,15 +104,23 @@ pub put-word-not-idle : ShutsOut {A = Action × List ℕ × ℕ} (λ (a, out, at
 unfolding put written wordOf sameBytes
 put-word-not-idle = shut-out (λ p. sameBytes (p .output) (bytes "xrun")) (Run, bytes "xxxx", 1) refl refl
 
--- ---- `class_of`, `is_of`
+-- ---- `class_of`, `class_at`, `is_of`
 
 pub class-unique : (a : Action) (x y : ℕ) → x ≡ classOf a → y ≡ classOf a → x ≡ y
 class-unique = unique classOf
 
 -- start is a runnable's event too
-pub class-not-of-processes : ShutsOut classOf (λ a. cond (eqb (classOf a) 3) 2 (classOf a))
-unfolding classOf actionCode
-class-not-of-processes = shut-out (eqb 3) Start refl refl
+pub class-not-of-processes : ShutsOut classOf (λ a. cond (eqb (classOf a) beginning) unparking (classOf a))
+unfolding classOf classAt actionCode
+class-not-of-processes = shut-out (eqb beginning) Start refl refl
+
+pub class-at-unique : (n x y : ℕ) → x ≡ classAt n → y ≡ classAt n → x ≡ y
+class-at-unique = unique classAt
+
+-- the last event's, past the last code
+pub class-at-not-the-last : ShutsOut classAt (λ n. cond (ltb waiting n) (classAt waiting) (classAt n))
+unfolding classAt
+class-at-not-the-last = shut-out (eqb no-class) 38 refl refl
 
 pub is-of-unique : (k : Kind) (a : Action) (x y : Bool) → x ≡ isOf k a → y ≡ isOf k a → x ≡ y
 is-of-unique k = unique (isOf k)

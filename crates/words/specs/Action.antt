@@ -51,6 +51,46 @@ use Rattle.words.specs.declared.action.Action.the-variants.{
 use Rattle.words.specs.declared.action.ActionFound.{ActionFound}
 use Rattle.words.specs.declared.action.ActionFound.the-variants.{ThisAction, NoAction}
 use Rattle.words.specs.Named.{firstNamed, any}
+use Rattle.words.specs.Code.{
+  trigger,
+  activate,
+  interrupt-suspended,
+  mtalimitexceeded,
+  park,
+  poll,
+  poll-parking,
+  preempt,
+  release,
+  release-parking,
+  resume,
+  run,
+  start,
+  terminate,
+  wait,
+  suspend,
+  schedule,
+  schedulepoint,
+  clear-event,
+  set-event,
+  wait-event,
+  read,
+  write,
+  assigned,
+  decrement,
+  free,
+  full,
+  increment,
+  lock,
+  lock-used,
+  overfull,
+  queued,
+  released,
+  requestsemaphore,
+  unlock,
+  unlock-full,
+  used,
+  waiting,
+}
 
 -- the word of each event
 unfoldable pub wordOf : Action → List ℕ
@@ -95,44 +135,44 @@ wordOf Waiting = bytes "waiting"
 
 -- the number of each event, in the order of 000's sections
 unfoldable pub actionCode : Action → ℕ
-actionCode Trigger = 0
-actionCode Activate = 1
-actionCode InterruptSuspended = 2
-actionCode Mtalimitexceeded = 3
-actionCode Park = 4
-actionCode Poll = 5
-actionCode PollParking = 6
-actionCode Preempt = 7
-actionCode Release = 8
-actionCode ReleaseParking = 9
-actionCode Resume = 10
-actionCode Run = 11
-actionCode Start = 12
-actionCode Terminate = 13
-actionCode Wait = 14
-actionCode Suspend = 15
-actionCode Schedule = 16
-actionCode Schedulepoint = 17
-actionCode ClearEvent = 18
-actionCode SetEvent = 19
-actionCode WaitEvent = 20
-actionCode Read = 21
-actionCode Write = 22
-actionCode Assigned = 23
-actionCode Decrement = 24
-actionCode Free = 25
-actionCode Full = 26
-actionCode Increment = 27
-actionCode Lock = 28
-actionCode LockUsed = 29
-actionCode Overfull = 30
-actionCode Queued = 31
-actionCode Released = 32
-actionCode Requestsemaphore = 33
-actionCode Unlock = 34
-actionCode UnlockFull = 35
-actionCode Used = 36
-actionCode Waiting = 37
+actionCode Trigger = trigger
+actionCode Activate = activate
+actionCode InterruptSuspended = interrupt-suspended
+actionCode Mtalimitexceeded = mtalimitexceeded
+actionCode Park = park
+actionCode Poll = poll
+actionCode PollParking = poll-parking
+actionCode Preempt = preempt
+actionCode Release = release
+actionCode ReleaseParking = release-parking
+actionCode Resume = resume
+actionCode Run = run
+actionCode Start = start
+actionCode Terminate = terminate
+actionCode Wait = wait
+actionCode Suspend = suspend
+actionCode Schedule = schedule
+actionCode Schedulepoint = schedulepoint
+actionCode ClearEvent = clear-event
+actionCode SetEvent = set-event
+actionCode WaitEvent = wait-event
+actionCode Read = read
+actionCode Write = write
+actionCode Assigned = assigned
+actionCode Decrement = decrement
+actionCode Free = free
+actionCode Full = full
+actionCode Increment = increment
+actionCode Lock = lock
+actionCode LockUsed = lock-used
+actionCode Overfull = overfull
+actionCode Queued = queued
+actionCode Released = released
+actionCode Requestsemaphore = requestsemaphore
+actionCode Unlock = unlock
+actionCode UnlockFull = unlock-full
+actionCode Used = used
+actionCode Waiting = waiting
 
 -- for the code alone: where each word begins among all words, in the order of the codes
 abbrev pub starts : List ℕ

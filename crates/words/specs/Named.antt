@@ -5,7 +5,8 @@ use mathlib.Core.List.{List, [], _∷_}
 use Rattle.text.specs.Bytes.{sameBytes}
 
 module _ {A : Type 0} where
-  -- the first where the test holds, and else the second
+  -- the first where the test holds, and else the second: `cond`, but as it is written until it is unfolded, so that the law of a chain of words
+  -- (`step`, proofs/Chains) finds the parts of each
   unfoldable pub pick : Bool → A → A → A
   pick true x y = x
   pick false x y = y

@@ -5,7 +5,8 @@ ghost use lib.ListN.{length, take, drop};
 ghost use Rattle.text.specs.Bytes.{sameBytes};
 ghost use Rattle.text.specs.Put.{put, after};
 ghost use Rattle.words.specs.Named.{pick};
-ghost use Rattle.words.specs.Action.{actionOf, actionCode, wordOf, wordStart, actionFrom, processActions, runnableActions, schedulerActions, osEventActions, signalActions, semaphoreRequests, semaphoreStates};
+ghost use Rattle.words.specs.Action.{actionOf, wordOf, wordStart, actionFrom, processActions, runnableActions, schedulerActions, osEventActions, signalActions, semaphoreRequests, semaphoreStates};
+use crate::code::action_code;
 use crate::kind::Kind;
 use text::bytes::same;
 use text::put::put_bytes;
@@ -180,52 +181,6 @@ pub fn action_of(kind: Kind, s: &[u8]) -> ActionFound
     }
 }
 
-// The code of an event: its place among the 38, in the order of 000's sections.
-pub fn action_code(action: Action) -> usize
-    ensures { λ r. ⌜ r ≡ actionCode action ⌝ }
-{
-    match action {
-        Action::Trigger => 0,
-        Action::Activate => 1,
-        Action::InterruptSuspended => 2,
-        Action::Mtalimitexceeded => 3,
-        Action::Park => 4,
-        Action::Poll => 5,
-        Action::PollParking => 6,
-        Action::Preempt => 7,
-        Action::Release => 8,
-        Action::ReleaseParking => 9,
-        Action::Resume => 10,
-        Action::Run => 11,
-        Action::Start => 12,
-        Action::Terminate => 13,
-        Action::Wait => 14,
-        Action::Suspend => 15,
-        Action::Schedule => 16,
-        Action::Schedulepoint => 17,
-        Action::ClearEvent => 18,
-        Action::SetEvent => 19,
-        Action::WaitEvent => 20,
-        Action::Read => 21,
-        Action::Write => 22,
-        Action::Assigned => 23,
-        Action::Decrement => 24,
-        Action::Free => 25,
-        Action::Full => 26,
-        Action::Increment => 27,
-        Action::Lock => 28,
-        Action::LockUsed => 29,
-        Action::Overfull => 30,
-        Action::Queued => 31,
-        Action::Released => 32,
-        Action::Requestsemaphore => 33,
-        Action::Unlock => 34,
-        Action::UnlockFull => 35,
-        Action::Used => 36,
-        Action::Waiting => 37,
-    }
-}
-
 // Where each event's word begins among all words, which stand one after the other in the order of the codes, and how long it is.
 const STARTS: [usize; 38] = [
     0,
@@ -313,7 +268,7 @@ const LENGTHS: [usize; 38] = [
 fn word_start(action: Action) -> usize
     ensures { λ r. ⌜ r ≡ wordStart action ⌝ }
 {
-    let code = action_code(action);
+    let code = action_code(action) as usize;
     STARTS[code]
 }
 
@@ -321,7 +276,7 @@ fn word_start(action: Action) -> usize
 pub fn word_length(action: Action) -> usize
     ensures { λ r. ⌜ r ≡ length (wordOf action) ⌝ }
 {
-    let code = action_code(action);
+    let code = action_code(action) as usize;
     LENGTHS[code]
 }
 

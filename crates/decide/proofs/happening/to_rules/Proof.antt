@@ -1,4 +1,4 @@
--- `decide::happening::to_rules` meets its contract: the two calls give the numbers of the type and of the word.
+-- `decide::happening::to_rules` meets its contract: the two calls give the number of the type and the code of the word.
 use borrow.Author.Needs.{needs}
 use Rattle.decide.proofs.happening.to_rules.Statement.{statement}
 use Rattle.decide.proofs.happening.to_rules.Tie as tie
@@ -9,4 +9,4 @@ to-rules-spec =
     (tie.spec
     (λ c κs. search needs)
     (λ c κs. search needs)
-    (λ c. rw (c .before .kind-number .ensures, c .word-number .ensures)))
+    (λ c. rw (c .before .kind-number .ensures, c .action-code .ensures)))

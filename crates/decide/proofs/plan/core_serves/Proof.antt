@@ -1,7 +1,6 @@
 -- `decide::plan::core_serves` meets its contract: at each exit the tests passed say which case of the definition it is.
-use borrow.Author.Needs.{needs}
 use borrow.Author.Tests.{eq-eqb, ne-eqb}
-use Rattle.decide.specs.Known.{coreServes}
+use Rattle.decide.specs.PlanCode.{coreServes}
 use Rattle.decide.proofs.plan.core_serves.Statement.{statement}
 use Rattle.decide.proofs.plan.core_serves.Tie as tie
 
@@ -12,11 +11,4 @@ core-serves-spec =
     (tie.spec
     (λ c. rw (eq-eqb _ 1 (c .if1 .taken)))
     (λ c. rw (ne-eqb _ 1 (c .before .if1 .left), eq-eqb _ 0 (c .if2 .taken)))
-    (λ c. search needs)
-    (λ c. search needs)
-    (λ c. let d = c .before .before in rw (ne-eqb _ 1 (d .before .if1 .left), ne-eqb _ 0 (d .if2 .left), c .enum-told .given .1))
-    (λ c κs. search needs)
-    (λ c.
-    let i = c .before .before in
-    let d = i .before .before in
-    rw (ne-eqb _ 1 (d .before .if1 .left), ne-eqb _ 0 (d .if2 .left), i .instance .given .1) (c .names-row .ensures)))
+    (λ c. rw (ne-eqb _ 1 (c .before .if1 .left), ne-eqb _ 0 (c .if2 .left))))

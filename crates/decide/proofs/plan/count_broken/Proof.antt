@@ -1,7 +1,7 @@
 -- `decide::plan::count_broken` meets its contract: at each exit the tests passed say what the definition's tests say.
 use borrow.Author.Needs.{needs}
 use borrow.Author.Tests.{eq-eqb, ne-eqb, not-true, not-false}
-use Rattle.decide.specs.Known.{countBrokenIn}
+use Rattle.decide.specs.PlanCode.{countBrokenIn}
 use Rattle.decide.proofs.plan.count_broken.Statement.{statement}
 use Rattle.decide.proofs.plan.count_broken.Tie as tie
 

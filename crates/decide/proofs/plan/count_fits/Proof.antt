@@ -1,13 +1,14 @@
 -- `decide::plan::count_fits` meets its contract: three words fix the count, and the others have a least one.
 use borrow.Author.Needs.{needs}
 use borrow.Author.Tests.{ne-eqb}
-use Rattle.rules.specs.Refusals.{fixed}
+use Rattle.rules.specs.Refusals.{countAllowed}
+use Rattle.rules.specs.Words.{free, unlock, lock}
 use Rattle.decide.proofs.Counts.{least-fits}
 use Rattle.decide.proofs.plan.count_fits.Statement.{statement}
 use Rattle.decide.proofs.plan.count_fits.Tie as tie
 
 pub count-fits-spec : {M : Type 1} → statement M
-unfolding fixed
+unfolding countAllowed
 count-fits-spec =
     tie.close
     (tie.spec
@@ -17,4 +18,4 @@ count-fits-spec =
     (λ c κs. search needs)
     (λ c.
     let d = c .before in
-    rw (c .least-count .ensures) (least-fits _ _ (ne-eqb _ 16 (d .before .before .if1 .left)) (ne-eqb _ 17 (d .before .if2 .left)) (ne-eqb _ 18 (d .if3 .left)))))
+    rw (c .least-count .ensures) (least-fits _ _ (ne-eqb _ free (d .before .before .if1 .left)) (ne-eqb _ unlock (d .before .if2 .left)) (ne-eqb _ lock (d .if3 .left)))))

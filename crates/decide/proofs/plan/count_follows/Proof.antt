@@ -1,7 +1,8 @@
 -- `decide::plan::count_follows` meets its contract: at each exit the tests passed say which case of the definition it is.
 use borrow.Author.Needs.{needs}
 use borrow.Author.Tests.{eq-eqb, ne-eqb}
-use Rattle.decide.specs.Known.{countFollowsIn}
+use Rattle.decide.specs.PlanCode.{countFollowsIn}
+use Rattle.rules.specs.Words.{increment, decrement}
 use Rattle.decide.proofs.plan.count_follows.Statement.{statement}
 use Rattle.decide.proofs.plan.count_follows.Tie as tie
 
@@ -11,7 +12,7 @@ count-follows-spec =
     tie.close
     (tie.spec
     (λ c. search needs)
-    (λ c. rw (eq-eqb _ 29 (c .if1 .taken)))
+    (λ c. rw (eq-eqb _ increment (c .if1 .taken)))
     (λ c. search needs)
-    (λ c. rw (ne-eqb _ 29 (c .before .if1 .left), eq-eqb _ 30 (c .if2 .taken)))
-    (λ c. rw (ne-eqb _ 29 (c .before .if1 .left), ne-eqb _ 30 (c .if2 .left))))
+    (λ c. rw (ne-eqb _ increment (c .before .if1 .left), eq-eqb _ decrement (c .if2 .taken)))
+    (λ c. rw (ne-eqb _ increment (c .before .if1 .left), ne-eqb _ decrement (c .if2 .left))))

@@ -2,7 +2,8 @@
 use borrow.Author.Needs.{needs}
 use mathlib.Core.Path.{_≡_}
 use Rattle.decide.specs.Happening.{asEvent}
-use Rattle.decide.specs.Decide.{testsPlan, planOf}
+use Rattle.decide.specs.Decide.{planOf}
+use Rattle.decide.specs.PlanCode.{testsPlan}
 use Rattle.decide.proofs.Plans.{tests-decide}
 use Rattle.decide.proofs.plan.decide_in.Statement.{statement}
 use Rattle.decide.proofs.plan.decide_in.Tie as tie

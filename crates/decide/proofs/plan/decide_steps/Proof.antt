@@ -5,7 +5,7 @@ use Rattle.rules.specs.Charts.{chartOf}
 use Rattle.rules.specs.Rows.{moveBy}
 use Rattle.rules.specs.declared.chart.Move.the-variants.{To}
 use Rattle.decide.specs.Known.{stateIn}
-use Rattle.decide.specs.Decide.{stepsPlan}
+use Rattle.decide.specs.PlanCode.{stepsPlan}
 use Rattle.decide.proofs.plan.decide_steps.Statement.{statement}
 use Rattle.decide.proofs.plan.decide_steps.Tie as tie
 

@@ -1,6 +1,6 @@
 -- `decide::plan::kind_clash` meets its contract: a name without a kind clashes with none.
 use borrow.Author.Tests.{eq-eqb, ne-eqb}
-use Rattle.decide.specs.Known.{kindClash}
+use Rattle.decide.specs.PlanCode.{kindClash}
 use Rattle.decide.proofs.plan.kind_clash.Statement.{statement}
 use Rattle.decide.proofs.plan.kind_clash.Tie as tie
 

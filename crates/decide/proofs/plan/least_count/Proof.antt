@@ -1,6 +1,7 @@
 -- `decide::plan::least_count` meets its contract: each word of the list is tested.
 use borrow.Author.Tests.{ne-eqb}
-use Rattle.decide.specs.Known.{leastCount}
+use Rattle.decide.specs.PlanCode.{leastCount}
+use Rattle.rules.specs.Words.{increment, lock-used, full, overfull, unlock-full, used}
 use Rattle.decide.proofs.plan.least_count.Statement.{statement}
 use Rattle.decide.proofs.plan.least_count.Tie as tie
 
@@ -17,10 +18,10 @@ least-count-spec =
     (λ c. rw (c .if6 .taken))
     (λ c.
     rw (
-      ne-eqb _ 29 (c .before .before .before .before .before .if1 .left),
-      ne-eqb _ 23 (c .before .before .before .before .if2 .left),
-      ne-eqb _ 22 (c .before .before .before .if3 .left),
-      ne-eqb _ 19 (c .before .before .if4 .left),
-      ne-eqb _ 20 (c .before .if5 .left),
-      ne-eqb _ 21 (c .if6 .left),
+      ne-eqb _ increment (c .before .before .before .before .before .if1 .left),
+      ne-eqb _ used (c .before .before .before .before .if2 .left),
+      ne-eqb _ unlock-full (c .before .before .before .if3 .left),
+      ne-eqb _ lock-used (c .before .before .if4 .left),
+      ne-eqb _ full (c .before .if5 .left),
+      ne-eqb _ overfull (c .if6 .left),
     )))

@@ -5,7 +5,8 @@ use lib.Dec.{eqb}
 use borrow.Author.Needs.{needs}
 use native.Mathlib.Omega.{arith}
 use borrow.Author.Tests.{lt-ltb, le-ltb}
-use Rattle.decide.specs.Known.{noRoomIn}
+use Rattle.decide.specs.PlanCode.{noRoomIn}
+use Rattle.rules.specs.Limits.{nameLimit, coreLimit}
 use Rattle.decide.proofs.Counts.{one-at-most}
 use Rattle.decide.proofs.plan.no_room.Statement.{statement}
 use Rattle.decide.proofs.plan.no_room.Tie as tie
@@ -32,20 +33,23 @@ no-room-spec =
     (λ c κs. search needs)
     (λ c κs. search needs)
     (λ c. search needs)
+    (λ c. search needs)
     (λ c. omega (arith, c .shared-slice-known2 .given 7))
     (λ c. omega (arith, c .shared-slice-known2 .given 7, core-small (c .before .before .before .before .before)))
     (λ c. omega (arith, c .shared-slice-known2 .given 7, core-small (c .before .before .before .before .before), name-small (c .before .before .before)))
     (λ c.
     let w = c .before .before .before in
     let n = w .before in
-    rw (← (n .before .tracked .ensures), ← (n .one-new2 .ensures), ← (n .before .before .one-new .ensures), lt-ltb 256 _ (c .if1 .taken)))
+    rw (← (n .before .tracked .ensures), ← (n .one-new2 .ensures), ← (n .before .before .one-new .ensures), lt-ltb nameLimit _ (c .if1 .taken)))
+    (λ c. search needs)
     (λ c. search needs)
     (λ c. omega (arith, c .shared-slice-known3 .given 8))
     (λ c. omega (arith, c .shared-slice-known3 .given 8, core-small (c .before .before .before .before .before .before .before)))
     (λ c.
     let e = c .before .before in
     let n = e .before .before .before .before in
-    rw (← (n .before .tracked .ensures), ← (n .one-new2 .ensures), ← (n .before .before .one-new .ensures), le-ltb 256 _ (e .if1 .left), lt-ltb 64 _ (c .if2 .taken)))
+    rw (← (n .before .tracked .ensures), ← (n .one-new2 .ensures), ← (n .before .before .one-new .ensures), le-ltb nameLimit _ (e .if1 .left), lt-ltb coreLimit _ (c .if2 .taken)))
+    (λ c. search needs)
     (λ c. search needs)
     (λ c. omega (arith, c .shared-slice-known4 .given 9))
     (λ c. omega (arith, c .shared-slice-known4 .given 9, instance-small (c .before .before .before .before .before)))
@@ -58,8 +62,8 @@ no-room-spec =
       ← (n .before .tracked .ensures),
       ← (n .one-new2 .ensures),
       ← (n .before .before .one-new .ensures),
-      le-ltb 256 _ (e .if1 .left),
-      le-ltb 64 _ (f .if2 .left),
+      le-ltb nameLimit _ (e .if1 .left),
+      le-ltb coreLimit _ (f .if2 .left),
       ← (i .before .with-instances .ensures),
       ← (i .one-new3 .ensures),
     )))

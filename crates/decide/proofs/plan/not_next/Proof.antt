@@ -1,7 +1,7 @@
 -- `decide::plan::not_next` meets its contract: at each exit the tests passed say what the definition's tests say.
 use borrow.Author.Needs.{needs}
 use borrow.Author.Tests.{not-true, not-false}
-use Rattle.decide.specs.Known.{notNextIn}
+use Rattle.decide.specs.PlanCode.{notNextIn}
 use Rattle.decide.proofs.plan.not_next.Statement.{statement}
 use Rattle.decide.proofs.plan.not_next.Tie as tie
 

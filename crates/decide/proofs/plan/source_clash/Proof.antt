@@ -1,7 +1,7 @@
 -- `decide::plan::source_clash` meets its contract: at each exit the tests passed say what the definition's tests say.
 use borrow.Author.Needs.{needs}
 use borrow.Author.Tests.{eq-eqb, ne-eqb}
-use Rattle.decide.specs.Known.{sourceClashIn}
+use Rattle.decide.specs.PlanCode.{sourceClashIn}
 use Rattle.decide.proofs.plan.source_clash.Statement.{statement}
 use Rattle.decide.proofs.plan.source_clash.Tie as tie
 

@@ -1,7 +1,7 @@
 -- `decide::plan::target_clash` meets its contract: only a tracked target can clash.
 use borrow.Author.Needs.{needs}
 use borrow.Author.Tests.{not-true, not-false}
-use Rattle.decide.specs.Known.{targetClashIn}
+use Rattle.decide.specs.PlanCode.{targetClashIn}
 use Rattle.decide.proofs.plan.target_clash.Statement.{statement}
 use Rattle.decide.proofs.plan.target_clash.Tie as tie
 

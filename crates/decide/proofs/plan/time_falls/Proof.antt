@@ -1,7 +1,7 @@
 -- `decide::plan::time_falls` meets its contract: no time falls before the first event line.
 use borrow.Author.Needs.{needs}
 use borrow.Author.Tests.{eq-eqb, ne-eqb}
-use Rattle.decide.specs.Known.{timeFallsIn}
+use Rattle.decide.specs.PlanCode.{timeFallsIn}
 use Rattle.decide.proofs.plan.time_falls.Statement.{statement}
 use Rattle.decide.proofs.plan.time_falls.Tie as tie
 

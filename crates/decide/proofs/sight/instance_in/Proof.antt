@@ -4,6 +4,7 @@ use mathlib.Core.Bool.{true}
 use borrow.Author.Needs.{needs}
 use native.Mathlib.Omega.{arith}
 use borrow.Author.Tests.{not-true, not-false, lt-ltb, le-ltb}
+use Rattle.tables.specs.Entry.{nameRows}
 use Rattle.decide.proofs.sight.instance_in.Statement.{statement}
 use Rattle.decide.proofs.sight.instance_in.Tie as tie
 
@@ -18,7 +19,7 @@ instance-in-spec =
     (λ c. search needs)
     (λ c. search needs)
     (λ c. rw (needed (c .before .before), c .enum-told .given .1))
-    (λ c. let t = c .before .before in rw (needed (t .before .before), t .target .given .1, le-ltb (t .target .given .0 .0) 256 (c .if2 .taken)))
+    (λ c. let t = c .before .before in rw (needed (t .before .before), t .target .given .1, le-ltb (t .target .given .0 .0) nameRows (c .if2 .taken)))
     (λ c. search needs)
     (λ c κs. search needs)
-    (λ c. let t = c .before .before .before in rw (needed (t .before .before), t .target .given .1, lt-ltb (t .target .given .0 .0) 256 (omega arith)) (c .find-instance .ensures)))
+    (λ c. let t = c .before .before .before in rw (needed (t .before .before), t .target .given .1, lt-ltb (t .target .given .0 .0) nameRows (omega arith)) (c .find-instance .ensures)))

@@ -7,7 +7,7 @@ use native.Mathlib.Omega.{arith}
 use borrow.Author.Needs.{needs}
 use lib.ListN.{length, take}
 use Rattle.judge.specs.Feed.{tables}
-use Rattle.input.specs.Reads.{bufferSize, SoFar}
+use Rattle.input.specs.Reads.{bufferSize, ReadSoFar}
 use Rattle.input.proofs.Sizes.{buffer-sized}
 use Rattle.input.proofs.Grown.{more-size, stop-size, none-yet, broke-off, came-all, came-more, came-enough, came-broken, taken-read, taken-failed}
 use Rattle.input.proofs.reads.read_to_end.Statement.{statement}
@@ -20,7 +20,7 @@ Inv-loop names₀ nums₀ ticks₀ buf₀ have₀ total₀ names nums ticks buf 
     × (length names ≡ length names₀)
     × (length nums ≡ length nums₀)
     × (length ticks ≡ length ticks₀)
-    × SoFar total (tables names₀ nums₀ ticks₀) (tables names nums ticks) (take have buf)
+    × ReadSoFar total (tables names₀ nums₀ ticks₀) (tables names nums ticks) (take have buf)
 
 abbrev μ-loop : tie.MeasureT-loop
 μ-loop names₀ nums₀ ticks₀ buf₀ have₀ total₀ names nums ticks buf have total = 9223372036854775808 - total

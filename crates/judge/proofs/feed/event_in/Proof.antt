@@ -1,6 +1,7 @@
 -- `judge::feed::event_in` meets its contract: the plan is the definition's, and either arm carries it out. Assumes nothing.
 use mathlib.Core.Path.{_≡_, _∙_}
 use borrow.Author.Needs.{needs}
+use Rattle.fields.proofs.Parts.{between-field}
 use Rattle.judge.specs.Feed.{tables, carried, eventLined}
 use Rattle.judge.proofs.Feeds.{refused-carried, taken-carried, carried-lined}
 use Rattle.judge.proofs.feed.event_in.Statement.{statement}
@@ -10,15 +11,18 @@ use Rattle.judge.proofs.feed.event_in.Tie as tie
 abbrev begun : tie.After-decide → tie.Start
 begun c = c .before .before .before .before .before .before .before .before .before .before .before
 
--- the plan carried out
+-- the plan carried out; source and target are the fields 2 and 5, which stand between their commas
 planned : (c : tie.After-decide) →
     let f = c .before .before .before .before in
     let a = begun c .args in
     let t = tables (a .names .now) (a .nums .now) (a .ticks .now) in
-    carried (c .decide .result) t (f .before .before .to-rules .result) (f .before .field .result .now) (f .field2 .result .now) ≡ eventLined t (a .l .now) (a .e) (a .count)
+    carried (c .decide .result) t (f .before .before .to-rules .result) (f .before .between .result .now) (f .between2 .result .now) ≡ eventLined t (a .l .now) (a .e) (a .count)
 planned c =
     let f = c .before .before .before .before in
-    carried-lined _ _ _ _ (begun c .pre) (f .before .before .to-rules .ensures) (f .before .field .ensures .bytes) (f .field2 .ensures .bytes) (c .decide .ensures)
+    let pre = begun c .pre in
+    let source = between-field _ 0 _ (rw (pre .1) at (f .before .between .ensures)) in
+    let target = between-field _ 3 _ (rw (pre .1) at (f .between2 .ensures)) in
+    carried-lined _ _ _ _ (pre .0) (f .before .before .to-rules .ensures) (source .bytes) (target .bytes) (c .decide .ensures)
 
 returns : tie.Need-returns
 returns c =
@@ -30,7 +34,7 @@ returns-2 : tie.Need-returns-2
 returns-2 c =
     let t = c .before .before .before .before .before .before in
     let p = t .before .before .before .before .before in
-    taken-carried _ _ _ _ (begun (p .before .before) .pre) (p .p2 .given .1) (t .take .ensures) ∙ planned (p .before .before)
+    taken-carried _ _ _ _ (begun (p .before .before) .pre .0) (p .p2 .given .1) (t .take .ensures) ∙ planned (p .before .before)
 
 pub event-in-spec : {M : Type 1} → statement M
 event-in-spec =

@@ -26,7 +26,7 @@ feed-chunk-spec =
     let i = l .before .before .before .before in
     omega (
       arith,
-      sized _ (i .before .table-answer .ensures) (i .if1 .left) .1 .0,
+      sized _ (i .before .table-answer .ensures) (i .if1 .left) .nums-size,
       lines-alike _ (l .lines-in .ensures .1) .nums-kept,
     ))
     (λ c. search needs)

@@ -5,9 +5,9 @@ use mathlib.Core.Logic.{⊎-elim}
 use lib.ListN.{length}
 use borrow.Author.Needs.{needs}
 use Rattle.walk.specs.Lines.{linesOf}
-use Rattle.tables.specs.Range.{isSized}
+use Rattle.tables.specs.Sized.{Sized, isSized}
 use Rattle.judge.specs.Feed.{Tables, tables, freshTables, allLined}
-use Rattle.judge.proofs.Feeds.{Alike, Sized, alike-sized, sized-alike, fresh-sized, fits-sized, same-tables, lines-alike, fresh-start, rest-lined, all-lined, refused-trace, judged-trace}
+use Rattle.judge.proofs.Feeds.{Alike, alike-sized, sized-alike, fresh-sized, fits-sized, same-tables, lines-alike, fresh-start, rest-lined, all-lined, refused-trace, judged-trace}
 use Rattle.judge.proofs.feed.judge.Statement.{statement}
 use Rattle.judge.proofs.feed.judge.Tie as tie
 
@@ -40,7 +40,7 @@ all c =
     (c .if2 .came)
     ∙ ap (λ (t : Tables). allLined t (linesOf (cleared (start c) .before .before .before .before .before .before .before .before .args .trace .now))) (started (start c) .1)
 
-sized : (c : tie.Joined2) → Sized (ended c)
+sized : (c : tie.Joined2) → let t = ended c in Sized (t .names) (t .nums) (t .ticks)
 sized c = alike-sized (lines-alike _ (all c)) (fresh-sized refl)
 
 alike : (c : tie.Joined2) → Alike (entry (start c)) (ended c)
@@ -62,7 +62,7 @@ judge-spec =
     (λ c κs.
     let l = c .before .before .before .before .before .before .before .before .before .before .before in
     alike-sized (lines-alike _ (l .lines-in .ensures .1)) (fresh-sized (started (l .before .before .before .before) .1)))
-    (λ c κs. sized (c .before .before) .1)
+    (λ c κs. let s = sized (c .before .before) in (s .nums-size, s .ticks-size))
     (λ c. alike (c .before .before .before) .names-kept)
     (λ c. alike (c .before .before .before) .nums-kept)
     (λ c. alike (c .before .before .before) .ticks-kept)

@@ -1,6 +1,7 @@
 -- `judge::feed::line_in` meets its contract: a verdict stays, and a line is refused by its place or read. Assumes nothing.
-use mathlib.Core.Path.{_≡_, _∙_}
+use mathlib.Core.Path.{_≡_, ap, _∙_}
 use borrow.Author.Needs.{needs}
+use Rattle.line.specs.declared.reading.Split.{Split}
 use Rattle.judge.specs.Feed.{tables, placedLine, lined}
 use Rattle.judge.proofs.Feeds.{verdict-again, placed-lined, refused-placed, read-placed}
 use Rattle.judge.proofs.feed.line_in.Statement.{statement}
@@ -8,12 +9,12 @@ use Rattle.judge.proofs.feed.line_in.Tie as tie
 
 -- by the answer in its place
 placed : (c : tie.After-answer-in-place) →
-    let a = c .before .before .before .before .before .before .before .before .before .before .args in
+    let a = c .before .before .before .before .before .before .before .before .before .before .before .args in
     let t = tables (a .names .now) (a .nums .now) (a .ticks .now) in
     placedLine (c .answer-in-place .result) t (a .l .now) ≡ lined t (a .l .now)
 placed c =
-    let r = c .before .before .before in
-    placed-lined _ _ (r .before .if1 .left) (c .before .place-in .ensures) (r .read .ensures) (c .answer-in-place .ensures)
+    let r = c .before .before .before .before in
+    placed-lined _ _ (r .before .if1 .left) (c .before .place-in .ensures) (ap (λ (s : Split). s .reading) (r .read-split .ensures)) (c .answer-in-place .ensures)
 
 returns : tie.Need-returns
 returns c = verdict-again _ _ (c .if1 .taken)
@@ -24,11 +25,16 @@ returns-2 c =
     let i = r .before .before in
     refused-placed _ _ (i .if2 .taken) (r .remember .ensures .0) (r .remember .ensures .1) ∙ placed (i .before)
 
+read-in-requires : tie.Need-read-in-requires
+read-in-requires c κs =
+    let i = c .before .before .before in
+    (search needs, ap (λ (s : Split). s .commas) (i .before .before .before .before .before .read-split .ensures))
+
 returns-3 : tie.Need-returns-3
 returns-3 c =
     let r = c .before .before .before .before .before .before in
     let i = r .before .before .before .before in
-    read-placed _ _ (i .if2 .left) (i .before .before .before .before .read .ensures) (r .read-in .ensures) ∙ placed (i .before)
+    read-placed _ _ (i .if2 .left) (ap (λ (s : Split). s .reading) (i .before .before .before .before .before .read-split .ensures)) (r .read-in .ensures) ∙ placed (i .before)
 
 pub line-in-spec : {M : Type 1} → statement M
 line-in-spec =
@@ -42,7 +48,7 @@ line-in-spec =
     (λ c κs. search needs)
     (λ c. search needs)
     returns-2
-    (λ c κs. search needs)
+    read-in-requires
     (λ c. search needs)
     (λ c. search needs)
     (λ c. search needs)

@@ -10,5 +10,5 @@ verdict-now-spec =
     (tie.spec
     (λ c κs. search needs)
     (λ c. unsized-verdict _ (c .before .table-answer .ensures) (c .if1 .taken))
-    (λ c κs. sized _ (c .before .table-answer .ensures) (c .if1 .left) .1)
+    (λ c κs. let s = sized _ (c .before .table-answer .ensures) (c .if1 .left) in (s .nums-size, s .ticks-size))
     (λ c. now-verdict _ (c .before .before .table-answer .ensures) (c .before .if1 .left) (c .verdict-in .ensures)))

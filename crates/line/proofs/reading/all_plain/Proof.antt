@@ -7,7 +7,7 @@ use native.Mathlib.Omega.{arith}
 use borrow.Author.Needs.{needs}
 use lib.Dec.{eqb}
 use lib.ListN.{length, drop}
-use Rattle.line.specs.Part.{allPlain}
+use Rattle.line.specs.Event.{allPlain}
 use Rattle.line.proofs.Plain.{plain-turn, plain-end}
 use Rattle.line.proofs.reading.all_plain.Statement.{statement}
 use Rattle.line.proofs.reading.all_plain.Tie as tie

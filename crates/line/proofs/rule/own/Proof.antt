@@ -1,13 +1,7 @@
 -- `line::rule::own` meets its contract: the events of two classes are their target's own.
-use borrow.Author.Tests.{ne-eqb}
 use Rattle.line.proofs.Rules.{own-class}
 use Rattle.line.proofs.rule.own.Statement.{statement}
 use Rattle.line.proofs.rule.own.Tie as tie
 
 pub own-spec : {M : Type 1} → statement M
-own-spec =
-    tie.close
-    (tie.spec
-    (λ c κs. tt)
-    (λ c. rw (own-class _ _ (c .before .class-of .ensures), c .if1 .taken))
-    (λ c. rw (own-class _ _ (c .before .class-of .ensures), ne-eqb _ 7 (c .if1 .left))))
+own-spec = tie.close (tie.spec (λ c κs. tt) (λ c. rw (own-class _ _ (c .class-of .ensures))))

@@ -56,7 +56,7 @@ report-spec =
     (λ c. report-refused _ _ _ _ (c .before .before .verdict-now .ensures) (c .if1 .taken))
     (λ c κs. tt)
     (λ c. report-full (told (c .before)) _ (c .if2 .taken))
-    (λ c κs. search needs)
+    (λ c κs. tt)
     (λ c. search needs)
     returns-3
     (λ c. search needs)
@@ -67,7 +67,7 @@ report-spec =
     (λ c. search needs)
     (λ c. search needs)
     returns-4
-    (λ c κs. search needs)
+    (λ c κs. tt)
     add-t9
     (λ c. search needs)
     returns-5)

@@ -7,14 +7,14 @@ use native.Mathlib.Omega.{arith}
 use borrow.Author.Needs.{needs}
 use lib.ListN.{length}
 use Rattle.text.specs.Number.{digitsOf}
+use Rattle.bill.specs.declared.section.Section.{Section}
+use Rattle.bill.specs.declared.section.Section.the-variants.{Cores, Processes}
+use Rattle.bill.specs.Text.{figuresText}
+use Rattle.bill.proofs.Texts.{length-figure, length-three}
 use Rattle.tables.specs.Entry.{heldColumn, idleColumn, unknownColumn, unknownAt}
-use Rattle.sheet.specs.declared.section.Section.{Section}
-use Rattle.sheet.specs.declared.section.Section.the-variants.{Cores, Processes}
 use Rattle.sheet.specs.Figure.{heldIn, idleIn, chargeIn}
-use Rattle.sheet.specs.Text.{figuresText}
 use Rattle.sheet.specs.Sheet.{figuresIn}
 use Rattle.sheet.proofs.Short.{figures-short}
-use Rattle.sheet.proofs.Texts.{length-figure, length-three}
 use Rattle.sheet.proofs.row.figures_length.Statement.{statement}
 use Rattle.sheet.proofs.row.figures_length.Tie as tie
 

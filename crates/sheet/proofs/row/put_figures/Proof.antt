@@ -1,4 +1,4 @@
--- `sheet::row::put_figures` meets its contract: the figures are put one after another, and each has room since all have.
+-- `sheet::row::put_figures` meets its contract: the figures are put one after another, and all have room.
 -- Assumes nothing.
 use mathlib.Core.Path.{_≡_}
 use mathlib.Core.List.{[], _∷_}
@@ -7,14 +7,13 @@ use borrow.Author.Needs.{needs}
 use lib.ListN.{length}
 use Rattle.text.specs.Put.{after, put}
 use Rattle.text.proofs.Writes.{put-two, put-then, put-length}
-use Rattle.line.proofs.Texts.{Room, first-room, next-room}
+use Rattle.bill.specs.declared.section.Section.{Section}
+use Rattle.bill.specs.declared.section.Section.the-variants.{Cores}
+use Rattle.bill.specs.Text.{figuresText}
+use Rattle.bill.proofs.Texts.{three-figures}
 use Rattle.tables.specs.Entry.{unknownAt}
-use Rattle.sheet.specs.declared.section.Section.{Section}
-use Rattle.sheet.specs.declared.section.Section.the-variants.{Cores, Processes}
 use Rattle.sheet.specs.Figure.{heldIn, idleIn}
-use Rattle.sheet.specs.Text.{figuresText}
 use Rattle.sheet.specs.Sheet.{figuresIn}
-use Rattle.sheet.proofs.Texts.{three-figures, figures-room}
 use Rattle.sheet.proofs.row.put_figures.Statement.{statement}
 use Rattle.sheet.proofs.row.put_figures.Tie as tie
 
@@ -22,7 +21,7 @@ use Rattle.sheet.proofs.row.put_figures.Tie as tie
 has-room : (c : tie.Start) (s : Section) → c .args .section ≡ s → c .args .at + length (figuresText (figuresIn s (c .args .nums .now) (c .args .ticks .now) (c .args .i))) ≤ length (c .args .out .now)
 has-room c s e = rw e at (c .pre .1 .1 .1 .1)
 
--- ---- a core: from the place after a figure to the place after the one before it, what is put there, and the room that the figures after it have
+-- ---- a core: from the place after a figure to the place after the one before it, and what is put there
 
 abbrev d0 : tie.After-enum-told → tie.Start
 d0 c = c .before .before .before .before .before
@@ -39,26 +38,17 @@ unknown c = unknownAt (c .args .ticks .now) (c .args .i)
 all-room : (c : tie.After-enum-told) → d0 c .args .at + length (figuresText (held (d0 c) ∷ idle (d0 c) ∷ unknown (d0 c) ∷ [])) ≤ length (d0 c .args .out .now)
 all-room c = has-room (d0 c) Cores (c .enum-told .given .1)
 
-room-0 : (c : tie.After-enum-told) → Room (d0 c .args .out .now) (d0 c .args .at) (figuresText (held (d0 c) ∷ []) ∷ figuresText (idle (d0 c) ∷ []) ∷ figuresText (unknown (d0 c) ∷ []) ∷ [])
-room-0 c = figures-room (d0 c .args .out .now) (d0 c .args .at) (held (d0 c)) (idle (d0 c)) (unknown (d0 c)) (all-room c)
-
 abbrev d1 : tie.After-put-figure → tie.After-enum-told
 d1 c = c .before .before .before
 
 put-1 : (c : tie.After-put-figure) → after (c .put-figure .result) (c .put-figure .last .1 .0) ≡ put (d0 (d1 c) .args .out .now) (d0 (d1 c) .args .at) (figuresText (held (d0 (d1 c)) ∷ []))
 put-1 c = rw (← (c .before .before .held-ticks .ensures)) (c .put-figure .ensures)
 
-room-1 : (c : tie.After-put-figure) → Room (c .put-figure .last .1 .0) (c .put-figure .result) (figuresText (idle (d0 (d1 c)) ∷ []) ∷ figuresText (unknown (d0 (d1 c)) ∷ []) ∷ [])
-room-1 c = next-room (room-0 (d1 c)) (put-1 c)
-
 abbrev d2 : tie.After-put-figure2 → tie.After-put-figure
 d2 c = c .before .before .before .before .before
 
 put-2 : (c : tie.After-put-figure2) → after (c .put-figure2 .result) (c .put-figure2 .last .1 .0) ≡ put (d2 c .put-figure .last .1 .0) (d2 c .put-figure .result) (figuresText (idle (d0 (d1 (d2 c))) ∷ []))
 put-2 c = rw (← (c .before .before .idle-ticks .ensures)) (c .put-figure2 .ensures)
-
-room-2 : (c : tie.After-put-figure2) → Room (c .put-figure2 .last .1 .0) (c .put-figure2 .result) (figuresText (unknown (d0 (d1 (d2 c))) ∷ []) ∷ [])
-room-2 c = next-room (room-1 (d2 c)) (put-2 c)
 
 returns : tie.Need-returns
 returns c =
@@ -82,16 +72,16 @@ put-figures-spec =
     (tie.spec
     (λ c. search needs)
     (λ c κs. search needs)
-    (λ c κs. rw (c .before .held-ticks .ensures) (first-room (room-0 (c .before .before))))
+    (λ c κs. tt)
     (λ c κs. search needs)
-    (λ c κs. rw (c .before .idle-ticks .ensures) (first-room (room-1 (c .before .before .before .before))))
+    (λ c κs. tt)
     (λ c. search needs)
     (λ c. search needs)
     (λ c. search needs)
-    (λ c κs. first-room (room-2 (c .before .before .before .before)))
+    (λ c κs. tt)
     (λ c. search needs)
     (λ c κs. search needs)
-    (λ c κs. let e = c .before .before in rw (c .before .charge .ensures) (has-room (e .before .before .before .before .before) Processes (e .enum-told2 .given .1)))
+    (λ c κs. tt)
     (λ c. put-length _ _ _ (returns c))
     returns
     (λ c. put-length _ _ _ (returns-2 c))

@@ -8,18 +8,19 @@ use borrow.Author.Needs.{needs}
 use Rattle.text.specs.Put.{after, put}
 use Rattle.text.proofs.Writes.{put-two, put-then, put-length}
 use Rattle.line.proofs.Texts.{Room, first-room, next-room}
-use Rattle.rules.specs.Sheet.{Row}
-use Rattle.tables.specs.Entry.{nameCount, lengthAt}
+use Rattle.bill.specs.Rows.{Row}
+use Rattle.bill.specs.Text.{figuresText, rowText}
+use Rattle.tables.specs.Entry.{nameRows, nameRoom, nameCount, lengthAt}
+use Rattle.tables.specs.Sized.{Sized}
 use Rattle.tables.proofs.Found.{lent-name}
-use Rattle.tables.proofs.Valid.{Sizes, valid}
-use Rattle.sheet.specs.Text.{figuresText, rowText}
+use Rattle.tables.proofs.Valid.{valid}
 use Rattle.sheet.specs.Sheet.{rowIn}
-use Rattle.sheet.proofs.Texts.{row-room}
 use Rattle.sheet.proofs.row.put_row.Statement.{statement}
 use Rattle.sheet.proofs.row.put_row.Tie as tie
+use Rattle.sheet.proofs.Rooms.{row-room}
 
 -- where the row and its name lie
-in-tables : (c : tie.Start) → let a = c .args in (a .i < 256) × (lengthAt (a .nums .now) (a .i) ≤ 64) × (nameCount (a .nums .now) ≤ 256) × Sizes (a .names .now) (a .nums .now) (a .ticks .now)
+in-tables : (c : tie.Start) → let a = c .args in (a .i < nameRows) × (lengthAt (a .nums .now) (a .i) ≤ nameRoom) × (nameCount (a .nums .now) ≤ nameRows) × Sized (a .names .now) (a .nums .now) (a .ticks .now)
 in-tables c =
     let v = valid _ _ _ (c .pre .0) in
     (omega (arith, c .pre .1 .0, v .name-count), v .name-row (c .args .i) (c .pre .1 .0) .length-most, v .name-count, v .sizes)

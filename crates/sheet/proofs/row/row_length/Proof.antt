@@ -5,13 +5,13 @@ use Prim.Native.Nat.{_+_, _≤_}
 use native.Mathlib.Omega.{arith}
 use borrow.Author.Needs.{needs}
 use lib.ListN.{length}
-use Rattle.rules.specs.Sheet.{Row}
+use Rattle.bill.specs.Rows.{Row}
+use Rattle.bill.specs.Text.{rowText}
+use Rattle.bill.proofs.Texts.{length-row}
 use Rattle.tables.specs.Entry.{lengthColumn, lengthAt}
 use Rattle.tables.proofs.Valid.{Valid, valid}
-use Rattle.sheet.specs.Text.{rowText}
 use Rattle.sheet.specs.Sheet.{rowIn}
 use Rattle.sheet.proofs.Short.{name-sized, row-short}
-use Rattle.sheet.proofs.Texts.{length-row}
 use Rattle.sheet.proofs.row.row_length.Statement.{statement}
 use Rattle.sheet.proofs.row.row_length.Tie as tie
 

@@ -10,12 +10,12 @@ use Rattle.text.specs.Number.{digitsOf}
 use Rattle.text.specs.Put.{after, put}
 use Rattle.text.proofs.Writes.{put-two, put-then, put-length}
 use Rattle.line.proofs.Texts.{Room, first-room, next-room}
-use Rattle.rules.specs.Sheet.{Row}
-use Rattle.sheet.specs.Text.{rowsText, sectionText}
-use Rattle.sheet.specs.Sheet.{rowsIn, title}
-use Rattle.sheet.proofs.Texts.{section-room}
+use Rattle.bill.specs.Rows.{Row}
+use Rattle.bill.specs.Text.{rowsText, sectionText, title}
+use Rattle.sheet.specs.Sheet.{rowsIn}
 use Rattle.sheet.proofs.sheet.put_section.Statement.{statement}
 use Rattle.sheet.proofs.sheet.put_section.Tie as tie
+use Rattle.sheet.proofs.Rooms.{section-room}
 
 abbrev rows : tie.Start → List Row
 rows c = rowsIn (c .args .section) (c .args .names .now) (c .args .nums .now) (c .args .ticks .now)

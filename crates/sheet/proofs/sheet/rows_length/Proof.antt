@@ -7,9 +7,9 @@ use Prim.Native.Nat.{_-_, _≤_}
 use native.Mathlib.Omega.{arith}
 use borrow.Author.Needs.{needs}
 use lib.ListN.{length}
+use Rattle.bill.specs.Text.{rowsText}
 use Rattle.tables.specs.Entry.{nameRows, numsSize, nameCount}
 use Rattle.tables.proofs.Valid.{valid}
-use Rattle.sheet.specs.Text.{rowsText}
 use Rattle.sheet.specs.Sheet.{rowsTo, rowsIn}
 use Rattle.sheet.proofs.Rows.{length-in, row-out}
 use Rattle.sheet.proofs.Short.{row-short, rows-short}

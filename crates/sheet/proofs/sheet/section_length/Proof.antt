@@ -8,12 +8,12 @@ use native.Mathlib.Omega.{arith}
 use borrow.Author.Needs.{needs}
 use lib.ListN.{length}
 use Rattle.text.specs.Number.{digitsOf}
-use Rattle.rules.specs.Sheet.{Row}
+use Rattle.bill.specs.Rows.{Row}
+use Rattle.bill.specs.Text.{sectionText, title}
+use Rattle.bill.proofs.Texts.{length-section}
 use Rattle.tables.proofs.Valid.{valid}
-use Rattle.sheet.specs.Text.{sectionText}
-use Rattle.sheet.specs.Sheet.{rowsIn, title}
+use Rattle.sheet.specs.Sheet.{rowsIn}
 use Rattle.sheet.proofs.Short.{section-short}
-use Rattle.sheet.proofs.Texts.{length-section}
 use Rattle.sheet.proofs.sheet.section_length.Statement.{statement}
 use Rattle.sheet.proofs.sheet.section_length.Tie as tie
 

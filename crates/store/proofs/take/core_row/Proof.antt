@@ -1,6 +1,7 @@
 -- `store::take::core_row` meets its contract: the row found, or as many rows as there are. Assumes nothing.
 use native.Mathlib.Omega.{arith}
 use borrow.Author.Needs.{needs}
+use Rattle.tables.specs.Entry.{namesIndex}
 use Rattle.store.specs.Store.{coreRow}
 use Rattle.store.proofs.take.core_row.Statement.{statement}
 use Rattle.store.proofs.take.core_row.Tie as tie
@@ -13,6 +14,6 @@ core-row-spec =
     (λ c. search needs)
     (λ c. search needs)
     (λ c. search needs)
-    (λ c. omega (arith, c .shared-slice-known .given 7))
+    (λ c. omega (arith, c .shared-slice-known .given namesIndex))
     (λ c. rw (c .before .row .given .1))
     (λ c. rw (c .before .enum-told .given .1)))

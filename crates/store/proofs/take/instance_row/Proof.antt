@@ -1,6 +1,7 @@
 -- `store::take::instance_row` meets its contract: the row found, or as many rows as there are. Assumes nothing.
 use native.Mathlib.Omega.{arith}
 use borrow.Author.Needs.{needs}
+use Rattle.tables.specs.Entry.{instancesIndex}
 use Rattle.store.specs.Store.{instanceRow}
 use Rattle.store.proofs.take.instance_row.Statement.{statement}
 use Rattle.store.proofs.take.instance_row.Tie as tie
@@ -13,6 +14,6 @@ instance-row-spec =
     (λ c. search needs)
     (λ c. search needs)
     (λ c. search needs)
-    (λ c. omega (arith, c .shared-slice-known .given 9))
+    (λ c. omega (arith, c .shared-slice-known .given instancesIndex))
     (λ c. rw (c .before .row .given .1))
     (λ c. rw (c .before .enum-told .given .1)))

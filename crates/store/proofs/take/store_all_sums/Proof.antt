@@ -8,7 +8,7 @@ use native.Mathlib.Omega.{arith}
 use lib.Dec.{eqb}
 use lib.ListN.{length}
 use borrow.Author.Needs.{needs}
-use Rattle.tables.specs.Entry.{nameCount, startedEntry, firstTime}
+use Rattle.tables.specs.Entry.{namesIndex, nameCount, startedEntry, firstTime}
 use Rattle.decide.specs.Known.{newCore}
 use Rattle.store.specs.Store.{storeSums, withSums}
 use Rattle.store.proofs.Stores.{made, unmade, length-storeSums, length-withSums}
@@ -46,7 +46,7 @@ store-all-sums-spec =
     tie.close
     (tie.spec
     (λ c. search needs)
-    (λ c. omega (arith, c .shared-slice-known2 .given 7))
+    (λ c. omega (arith, c .shared-slice-known2 .given namesIndex))
     (λ c κs. search needs)
     (λ c. search needs)
     (λ c. search needs)

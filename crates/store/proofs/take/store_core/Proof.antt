@@ -1,6 +1,5 @@
--- `store::take::store_core` meets its contract: no store for class 0, the state idle for class 2, and else the instance's row where it is one of
--- 1,024. Assumes nothing.
-use borrow.Author.Tests.{eq-eqb, ne-eqb, le-ltb, lt-ltb}
+-- `store::take::store_core` meets its contract: no store for class 0, the state idle for class 2, and else the holder. Assumes nothing.
+use borrow.Author.Tests.{eq-eqb, ne-eqb}
 use borrow.Author.Needs.{needs}
 use Rattle.store.specs.Store.{withCore}
 use Rattle.store.proofs.take.store_core.Statement.{statement}
@@ -15,9 +14,6 @@ store-core-spec =
     (λ c κs. search needs)
     (λ c. search needs)
     (λ c. rw (ne-eqb _ 0 (c .before .before .before .before .before .if1 .left), eq-eqb _ 2 (c .before .before .before .before .if2 .taken)) (c .before .before .store-mark .ensures))
-    (λ c. rw (ne-eqb _ 0 (c .before .before .if1 .left), ne-eqb _ 2 (c .before .if2 .left), le-ltb _ 1024 (c .if3 .taken)))
-    (λ c. search needs)
-    (λ c. search needs)
     (λ c κs. search needs)
     (λ c. search needs)
-    (λ c. rw (ne-eqb _ 0 (c .before .before .before .before .before .before .if1 .left), ne-eqb _ 2 (c .before .before .before .before .before .if2 .left), lt-ltb _ 1024 (c .before .before .before .before .if3 .left)) (c .before .before .store-mark2 .ensures)))
+    (λ c. rw (ne-eqb _ 0 (c .before .before .before .before .before .if1 .left), ne-eqb _ 2 (c .before .before .before .before .if2 .left)) (c .before .before .store-holder .ensures)))

@@ -3,6 +3,7 @@ use native.Mathlib.Omega.{arith}
 use lib.ListN.{length-set}
 use borrow.Author.Tests.{le-ltb, lt-ltb}
 use borrow.Author.Needs.{needs}
+use Rattle.tables.specs.Entry.{nameRows, instanceRows}
 use Rattle.store.specs.Store.{storeInstance}
 use Rattle.store.proofs.take.store_instance.Statement.{statement}
 use Rattle.store.proofs.take.store_instance.Tie as tie
@@ -12,8 +13,8 @@ unfolding storeInstance
 store-instance-spec =
     tie.close
     (tie.spec
-    (λ c. rw (le-ltb _ 1024 (c .if1 .taken)))
-    (λ c. rw (lt-ltb _ 1024 (c .before .if1 .left), le-ltb _ 256 (c .if2 .taken)))
+    (λ c. rw (le-ltb _ instanceRows (c .if1 .taken)))
+    (λ c. rw (lt-ltb _ instanceRows (c .before .if1 .left), le-ltb _ nameRows (c .if2 .taken)))
     (λ c. search needs)
     (λ c. search needs)
     (λ c. search needs)
@@ -25,4 +26,4 @@ store-instance-spec =
     (λ c. search needs)
     (λ c. simp length-set (omega arith))
     (λ c. search needs)
-    (λ c. rw (lt-ltb _ 1024 (c .before .if1 .left), lt-ltb _ 256 (c .if2 .left))))
+    (λ c. rw (lt-ltb _ instanceRows (c .before .if1 .left), lt-ltb _ nameRows (c .if2 .left))))

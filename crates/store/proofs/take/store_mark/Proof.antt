@@ -1,6 +1,7 @@
--- `store::take::store_mark` meets its contract: one store where the row is one of 256. Assumes nothing.
+-- `store::take::store_mark` meets its contract: one store where the row is one of a name. Assumes nothing.
 use borrow.Author.Tests.{le-ltb, lt-ltb}
 use borrow.Author.Needs.{needs}
+use Rattle.tables.specs.Entry.{nameRows}
 use Rattle.store.specs.Store.{storeMark}
 use Rattle.store.proofs.take.store_mark.Statement.{statement}
 use Rattle.store.proofs.take.store_mark.Tie as tie
@@ -10,9 +11,9 @@ unfolding storeMark
 store-mark-spec =
     tie.close
     (tie.spec
-    (λ c. rw (le-ltb _ 256 (c .if1 .taken)))
+    (λ c. rw (le-ltb _ nameRows (c .if1 .taken)))
     (λ c. search needs)
     (λ c. search needs)
     (λ c. search needs)
     (λ c. search needs)
-    (λ c. rw (lt-ltb _ 256 (c .if1 .left))))
+    (λ c. rw (lt-ltb _ nameRows (c .if1 .left))))

@@ -1,8 +1,9 @@
--- `store::take::store_number` meets its contract: two stores where the row is one of 256. Assumes nothing.
+-- `store::take::store_number` meets its contract: two stores where the row is one of a name. Assumes nothing.
 use native.Mathlib.Omega.{arith}
 use lib.ListN.{length-set}
 use borrow.Author.Tests.{le-ltb, lt-ltb}
 use borrow.Author.Needs.{needs}
+use Rattle.tables.specs.Entry.{nameRows}
 use Rattle.store.specs.Store.{storeNumber}
 use Rattle.store.proofs.take.store_number.Statement.{statement}
 use Rattle.store.proofs.take.store_number.Tie as tie
@@ -12,7 +13,7 @@ unfolding storeNumber
 store-number-spec =
     tie.close
     (tie.spec
-    (λ c. rw (le-ltb _ 256 (c .if1 .taken)))
+    (λ c. rw (le-ltb _ nameRows (c .if1 .taken)))
     (λ c. search needs)
     (λ c. search needs)
     (λ c. search needs)
@@ -20,4 +21,4 @@ store-number-spec =
     (λ c. search needs)
     (λ c. simp length-set (omega arith))
     (λ c. search needs)
-    (λ c. rw (lt-ltb _ 256 (c .if1 .left))))
+    (λ c. rw (lt-ltb _ nameRows (c .if1 .left))))

@@ -1,8 +1,9 @@
--- `store::take::store_row` meets its contract: five stores where the row is one of 256. Assumes nothing.
+-- `store::take::store_row` meets its contract: five stores where the row is one of a name. Assumes nothing.
 use native.Mathlib.Omega.{arith}
 use lib.ListN.{length-set}
 use borrow.Author.Tests.{le-ltb, lt-ltb}
 use borrow.Author.Needs.{needs}
+use Rattle.tables.specs.Entry.{nameRows}
 use Rattle.store.specs.Store.{storeRow}
 use Rattle.store.proofs.take.store_row.Statement.{statement}
 use Rattle.store.proofs.take.store_row.Tie as tie
@@ -12,7 +13,7 @@ unfolding storeRow
 store-row-spec =
     tie.close
     (tie.spec
-    (λ c. rw (le-ltb _ 256 (c .if1 .taken)))
+    (λ c. rw (le-ltb _ nameRows (c .if1 .taken)))
     (λ c. search needs)
     (λ c. search needs)
     (λ c. search needs)
@@ -30,4 +31,4 @@ store-row-spec =
     (λ c. search needs)
     (λ c. simp length-set (omega arith))
     (λ c. search needs)
-    (λ c. rw (lt-ltb _ 256 (c .if1 .left))))
+    (λ c. rw (lt-ltb _ nameRows (c .if1 .left))))

@@ -9,7 +9,7 @@ use lib.Dec.{eqb}
 use lib.ListN.{length}
 use borrow.Author.Needs.{needs}
 use Rattle.rules.specs.Words.{core}
-use Rattle.tables.specs.Entry.{nameCount}
+use Rattle.tables.specs.Entry.{namesIndex, nameCount}
 use Rattle.decide.specs.Known.{newCore}
 use Rattle.store.specs.Store.{storeRow, withRows}
 use Rattle.store.proofs.Stores.{made, unmade, length-storeRow, length-withRows}
@@ -44,7 +44,7 @@ store-rows-spec =
     tie.close
     (tie.spec
     (λ c. search needs)
-    (λ c. omega (arith, c .slice-known2 .given 7))
+    (λ c. omega (arith, c .slice-known2 .given namesIndex))
     (λ c κs. search needs)
     (λ c κs. search needs)
     (λ c κs. search needs)

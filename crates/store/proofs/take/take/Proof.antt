@@ -10,8 +10,7 @@ take-in-requires : tie.Need-take-in-requires
 take-in-requires c κs =
     let d = c .before .before .before in
     let a = d .before .before .before .before .before .before .before .args in
-    let s = sizes-mean (a .names .now) (a .nums .now) (a .ticks .now) .holds (passed (d .before .sized .ensures) (d .if1 .left)) in
-    (s .names-size, (s .nums-size, s .ticks-size))
+    sizes-mean (a .names .now) (a .nums .now) (a .ticks .now) .holds (passed (d .before .sized .ensures) (d .if1 .left))
 
 returns-2 : tie.Need-returns-2
 unfolding stored

@@ -8,7 +8,7 @@ use native.Mathlib.Omega.{arith}
 use lib.Dec.{eqb}
 use lib.ListN.{length}
 use borrow.Author.Needs.{needs}
-use Rattle.tables.specs.Entry.{nameCount}
+use Rattle.tables.specs.Entry.{namesIndex, nameCount}
 use Rattle.decide.specs.Known.{newCore}
 use Rattle.store.specs.Store.{storeName, takenNames}
 use Rattle.store.proofs.Stores.{made, unmade, length-storeName, length-takenNames}
@@ -44,7 +44,7 @@ take-names-spec =
     tie.close
     (tie.spec
     (λ c. search needs)
-    (λ c. omega (arith, c .shared-slice-known4 .given 7))
+    (λ c. omega (arith, c .shared-slice-known4 .given namesIndex))
     (λ c κs. search needs)
     (λ c κs. search needs)
     (λ c κs. search needs)

@@ -3,6 +3,7 @@ use mathlib.Core.Bool.{not}
 use native.Mathlib.Omega.{arith}
 use lib.Dec.{eqb}
 use borrow.Author.Needs.{needs}
+use Rattle.tables.specs.Entry.{namesIndex}
 use Rattle.store.specs.Store.{targetRow}
 use Rattle.decide.proofs.Counts.{one-at-most}
 use Rattle.store.proofs.take.target_row.Statement.{statement}
@@ -17,7 +18,7 @@ target-row-spec =
     (λ c. search needs)
     (λ c. search needs)
     (λ c. search needs)
-    (λ c. omega (arith, c .shared-slice-known2 .given 7))
+    (λ c. omega (arith, c .shared-slice-known2 .given namesIndex))
     (λ c. search needs)
     (λ c. omega (arith, c .shared-slice-known2 .given 7, one-at-most (not (eqb (c .before .before .before .before .before .args .s .class) 0)) (c .before .before .before .before .before .args .s .source) (c .before .before .before .new-core .ensures)))
     (λ c. rw (c .before .row .given .1))

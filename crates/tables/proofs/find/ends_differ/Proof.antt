@@ -7,6 +7,7 @@ use Prim.Native.Nat.{ℕ, _+_, _-_, _*_, _≤_}
 use native.Mathlib.Omega.{arith}
 use borrow.Author.Needs.{needs}
 use lib.ListN.{length}
+use Rattle.tables.specs.Entry.{nameRoom}
 use Rattle.tables.specs.Find.{rowIs}
 use Rattle.tables.proofs.Found.{differ-turn}
 use Rattle.tables.proofs.find.ends_differ.Statement.{statement}
@@ -14,7 +15,7 @@ use Rattle.tables.proofs.find.ends_differ.Tie as tie
 
 abbrev Inv-loop : tie.InvT-loop
 Inv-loop names name i n at differ₀ k₀ differ k =
-    (k ≤ 4) × (n + 4 ≡ length name) × (at ≡ 64 * i + n) × (differ ≡ true → (nums : List ℕ) → rowIs names nums name i ≡ false)
+    (k ≤ 4) × (n + 4 ≡ length name) × (at ≡ nameRoom * i + n) × (differ ≡ true → (nums : List ℕ) → rowIs names nums name i ≡ false)
 
 abbrev μ-loop : tie.MeasureT-loop
 μ-loop names name i n at differ₀ k₀ differ k = 4 - k

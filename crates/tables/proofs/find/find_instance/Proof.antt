@@ -4,6 +4,7 @@ use mathlib.Core.Path.{_≡_, sym, _∙_}
 use native.Mathlib.Omega.{arith}
 use borrow.Author.Needs.{needs}
 use borrow.Author.Tests.{ne-eqb}
+use Rattle.tables.specs.Entry.{instancesIndex}
 use Rattle.tables.specs.Find.{instanceIs, lastBelow, findInstance}
 use Rattle.tables.proofs.Found.{last-hit, last-miss, last-end, instance-found}
 use Rattle.tables.proofs.find.find_instance.Statement.{statement}
@@ -40,7 +41,7 @@ find-instance-spec =
     μ-loop
     returns
     (λ c. search needs)
-    (λ c. omega (arith, c .shared-slice-known2 .given 9))
+    (λ c. omega (arith, c .shared-slice-known2 .given instancesIndex))
     (λ c κs. search needs)
     (λ c. instance-found _ _ _ (c .before .before .if1 .left) ∙ c .skip-rows .ensures)
     (λ c. search needs)

@@ -4,6 +4,7 @@ use mathlib.Core.Path.{sym, _∙_}
 use native.Mathlib.Omega.{arith}
 use borrow.Author.Needs.{needs}
 use borrow.Author.Tests.{eq-eqb, ne-eqb}
+use Rattle.tables.specs.Entry.{namesIndex}
 use Rattle.tables.specs.Find.{findName}
 use Rattle.tables.proofs.Found.{name-found}
 use Rattle.tables.proofs.find.find_name.Statement.{statement}
@@ -27,6 +28,6 @@ find-name-spec =
     returns
     returns-2
     (λ c. search needs)
-    (λ c. omega (arith, c .shared-slice-known4 .given 7))
+    (λ c. omega (arith, c .shared-slice-known4 .given namesIndex))
     (λ c κs. search needs)
     returns-3)

@@ -4,12 +4,13 @@ use mathlib.Core.Path.{_≡_, refl, _∙_}
 use Prim.Native.Nat.{_+_, _-_, _≤_}
 use native.Mathlib.Omega.{arith}
 use borrow.Author.Needs.{needs}
+use Rattle.tables.specs.Entry.{instanceRows}
 use Rattle.tables.specs.Find.{instanceIs, lastBelow}
 use Rattle.tables.proofs.find.skip_rows.Statement.{statement}
 use Rattle.tables.proofs.find.skip_rows.Tie as tie
 
 abbrev Inv-loop : tie.InvT-loop
-Inv-loop nums owner number to j₀ j = (j ≤ 1024) × (lastBelow (instanceIs nums owner number) to ≡ lastBelow (instanceIs nums owner number) j)
+Inv-loop nums owner number to j₀ j = (j ≤ instanceRows) × (lastBelow (instanceIs nums owner number) to ≡ lastBelow (instanceIs nums owner number) j)
 
 abbrev μ-loop : tie.MeasureT-loop
 μ-loop nums owner number to j₀ j = j

@@ -13,13 +13,7 @@ returns c = stop _ (le-ltb _ _ (c .if1 .taken))
 
 returns-2 : tie.Need-returns-2
 unfolding holderOk
-returns-2 c = pass (lt-ltb _ _ (c .before .before .before .if1 .left)) (stop _ (le-ltb _ _ (c .if2 .taken)))
-
-returns-3 : tie.Need-returns-3
-unfolding holderOk
-returns-3 c =
-    let owner = c .before .before in
-    pass (lt-ltb _ _ (owner .before .before .before .if1 .left)) (pass (lt-ltb _ _ (owner .if2 .left)) (c .is-process .ensures))
+returns-2 c = pass (lt-ltb _ _ (c .before .before .if1 .left)) (c .is-process .ensures)
 
 pub holder-ok-spec : {M : Type 1} → statement M
 holder-ok-spec =
@@ -30,11 +24,5 @@ holder-ok-spec =
     (λ c. search needs)
     (λ c. search needs)
     (λ c. search needs)
-    (λ c. search needs)
-    returns-2
-    (λ c. search needs)
-    (λ c. search needs)
-    (λ c. search needs)
-    (λ c. search needs)
     (λ c κs. search needs)
-    returns-3)
+    returns-2)

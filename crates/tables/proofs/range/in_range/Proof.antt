@@ -31,7 +31,7 @@ returns-2 c =
 few : (c : tie.Else1) → Counted (c .before .before .before .before .before .args .nums .now)
 few c =
     let h = counts-mean _ .holds (passed (c .before .counts-ok .ensures) (c .if1 .left)) in
-    record { size = c .before .before .before .before .before .pre .1 .0; names = h .1 .0; instances = h .1 .1 .1 }
+    record { size = c .before .before .before .before .before .pre .nums-size; names = h .1 .0; instances = h .1 .1 .1 }
 
 pub in-range-spec : {M : Type 1} → statement M
 in-range-spec =

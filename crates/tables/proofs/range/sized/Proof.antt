@@ -2,7 +2,7 @@
 -- Assumes nothing.
 use mathlib.Core.Path.{refl}
 use borrow.Author.Tests.{eq-eqb, ne-eqb}
-use Rattle.tables.specs.Range.{isSized}
+use Rattle.tables.specs.Sized.{isSized}
 use Rattle.tables.proofs.Chains.{pass, stop}
 use Rattle.tables.proofs.range.sized.Statement.{statement}
 use Rattle.tables.proofs.range.sized.Tie as tie

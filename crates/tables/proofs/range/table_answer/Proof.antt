@@ -14,8 +14,7 @@ returns c = rw (failed (c .before .sized .ensures) (c .if1 .taken))
 in-range-requires : tie.Need-in-range-requires
 in-range-requires c κs =
     let a = c .before .before .before .before .before .args in
-    let s = sizes-mean (a .names .now) (a .nums .now) (a .ticks .now) .holds (passed (c .before .sized .ensures) (c .if1 .left)) in
-    (s .names-size, (s .nums-size, s .ticks-size))
+    sizes-mean (a .names .now) (a .nums .now) (a .ticks .now) .holds (passed (c .before .sized .ensures) (c .if1 .left))
 
 returns-2 : tie.Need-returns-2
 unfolding tableAnswer

@@ -4,6 +4,9 @@ use Rattle.words.proofs.Tables.{code-bound, length-entry}
 use Rattle.words.proofs.action.word_length.Statement.{statement}
 use Rattle.words.proofs.action.word_length.Tie as tie
 
+cast-code : tie.Need-cast-code
+cast-code c = let h = code-bound (c .before .args .action) in let e = c .action-code .ensures in omega arith
+
 mul-result : tie.Need-mul-result
 mul-result c = let h = code-bound (c .before .args .action) in let e = c .action-code .ensures in omega arith
 
@@ -14,4 +17,4 @@ returns : tie.Need-returns
 returns c = rw (c .action-code .ensures) (length-entry (c .before .args .action))
 
 pub word-length-spec : {M : Type 1} → statement M
-word-length-spec = tie.close (tie.spec (λ c κs. tt) mul-result array-read-result returns)
+word-length-spec = tie.close (tie.spec (λ c κs. tt) cast-code mul-result array-read-result returns)

@@ -5,6 +5,9 @@ use Rattle.words.proofs.Tables.{code-bound}
 use Rattle.words.proofs.action.word_start.Statement.{statement}
 use Rattle.words.proofs.action.word_start.Tie as tie
 
+cast-code : tie.Need-cast-code
+cast-code c = let h = code-bound (c .before .args .action) in let e = c .action-code .ensures in omega arith
+
 mul-result : tie.Need-mul-result
 mul-result c = let h = code-bound (c .before .args .action) in let e = c .action-code .ensures in omega arith
 
@@ -16,4 +19,4 @@ unfolding wordStart
 returns c = rw (c .action-code .ensures)
 
 pub word-start-spec : {M : Type 1} → statement M
-word-start-spec = tie.close (tie.spec (λ c κs. tt) mul-result array-read-result returns)
+word-start-spec = tie.close (tie.spec (λ c κs. tt) cast-code mul-result array-read-result returns)

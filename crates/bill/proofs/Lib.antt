@@ -1,0 +1,5 @@
+-- The laws of the bill.
+pub mod Texts
+pub mod Scales
+pub mod VerdictLine
+pub mod Tight

@@ -1,0 +1,50 @@
+-- `bill::figure::put_figure` meets its contract: where there is no room nothing is put, and otherwise a blank and the digits, one after the other.
+-- Assumes nothing.
+use mathlib.Core.Path.{sym}
+use mathlib.Core.List.{[], _∷_}
+use Prim.Native.Nat.{_+_}
+use native.Mathlib.Omega.{arith}
+use lib.ListN.{length}
+use borrow.Author.Needs.{needs}
+use Rattle.text.specs.Number.{digitsOf}
+use Rattle.text.proofs.Digits.{digits-short}
+use Rattle.text.proofs.Writes.{put-full, put-two, no-room, has-room}
+use Rattle.bill.specs.Text.{figuresText}
+use Rattle.bill.proofs.Texts.{figure-text, length-figure}
+use Rattle.bill.proofs.figure.put_figure.Statement.{statement}
+use Rattle.bill.proofs.figure.put_figure.Tie as tie
+
+add-length : tie.Need-add-length
+add-length c = let a = c .before .before .args in omega (arith, c .digit-count .ensures, digits-short (a .n) (omega arith))
+
+returns : tie.Need-returns
+returns c =
+    let d = c .before .before in
+    let a = d .before .before .args in
+    let h = no-room _ (a .at + (d .digit-count .result + 1)) (length (a .out .now)) (c .before .room .ensures) (c .if1 .taken) in
+    sym (put-full (a .out .now) (a .at) (figuresText (a .n ∷ [])) (omega (arith, length-figure (a .n), d .digit-count .ensures)))
+
+returns-2 : tie.Need-returns-2
+returns-2 c =
+    let b = c .before .before in
+    let p = b .before .before .before .before in
+    let e = p .before .before .before in
+    let d = e .before .before in
+    let a = d .before .before .args in
+    let h = has-room _ (a .at + (d .digit-count .result + 1)) (length (a .out .now)) (e .before .room .ensures) (e .if1 .left) in
+    rw (figure-text (a .n))
+    (put-two _ _ (32 ∷ []) (digitsOf (a .n)) (p .put-bytes .ensures) (b .put-number .ensures) (omega (arith, d .digit-count .ensures)))
+
+pub put-figure-spec : {M : Type 1} → statement M
+put-figure-spec =
+    tie.close
+    (tie.spec
+    (λ c κs. tt)
+    add-length
+    (λ c κs. tt)
+    returns
+    (λ c. search needs)
+    (λ c κs. tt)
+    (λ c κs. tt)
+    (λ c. search needs)
+    returns-2)

@@ -1,0 +1,33 @@
+-- `bill::verdict::put_refused` meets its contract: the pieces of the line are put one after another.
+-- Assumes nothing.
+use borrow.Author.Needs.{needs}
+use Rattle.bill.specs.Verdict.{refusedText}
+use Rattle.bill.proofs.VerdictLine.{put-five}
+use Rattle.bill.proofs.verdict.put_refused.Statement.{statement}
+use Rattle.bill.proofs.verdict.put_refused.Tie as tie
+
+returns : tie.Need-returns
+unfolding refusedText
+returns c =
+    let e5 = c .before .before in
+    let e4 = e5 .before .before .before .before .before in
+    let e3 = e4 .before .before .before .before in
+    let e2 = e3 .before .before .before .before .before in
+    let e1 = e2 .before .before .before .before in
+    put-five _ _ _ _ _ _ _ (e1 .put-bytes .ensures) (e2 .put-number .ensures) (e3 .put-bytes2 .ensures) (e4 .put-number2 .ensures) (e5 .put-bytes3 .ensures)
+    (e1 .before .before .before .before .pre)
+
+pub put-refused-spec : {M : Type 1} → statement M
+put-refused-spec =
+    tie.close
+    (tie.spec
+    (λ c. search needs)
+    (λ c κs. tt)
+    (λ c κs. tt)
+    (λ c. search needs)
+    (λ c κs. tt)
+    (λ c κs. tt)
+    (λ c. search needs)
+    (λ c κs. tt)
+    (λ c. search needs)
+    returns)

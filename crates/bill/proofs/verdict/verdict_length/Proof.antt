@@ -1,0 +1,50 @@
+-- `bill::verdict::verdict_length` meets its contract: the scale or the two numbers with the words around them. No sum wraps, since each has few
+-- bytes.
+-- Assumes nothing.
+use mathlib.Core.Path.{_≡_, ap, _∙_}
+use Prim.Native.Nat.{_+_, _≤_}
+use native.Mathlib.Omega.{arith}
+use lib.ListN.{length}
+use borrow.Author.Needs.{needs}
+use Rattle.text.proofs.Digits.{digits-short}
+use Rattle.bill.specs.Verdict.{verdictText}
+use Rattle.bill.proofs.Scales.{scale-short}
+use Rattle.bill.proofs.VerdictLine.{length-accepted, length-refused, verdict-accepted, verdict-refused}
+use Rattle.bill.proofs.verdict.verdict_length.Statement.{statement}
+use Rattle.bill.proofs.verdict.verdict_length.Tie as tie
+
+-- how long the line is, and that this is not much
+accepted : (c : tie.After-digit-count) →
+    let s = c .before .before .before .before in
+    let n = length (verdictText (s .args .v)) in
+    (c .before .scale-length .result + c .digit-count .result + 30 ≡ n) × (n ≤ 52)
+accepted c =
+    let v = c .before .before .before .before .args .v in
+    let e = ap length (verdict-accepted v (c .before .before .if1 .taken)) ∙ length-accepted (v .scale) (v .span) in
+    (omega arith, omega (arith, scale-short (v .scale), digits-short (v .span) (omega arith)))
+
+refused : (c : tie.After-digit-count3) →
+    let s = c .before .before .before .before .before .before in
+    let n = length (verdictText (s .args .v)) in
+    (c .before .before .digit-count2 .result + c .digit-count3 .result + 15 ≡ n) × (n ≤ 55)
+refused c =
+    let v = c .before .before .before .before .before .before .args .v in
+    let e = ap length (verdict-refused v (c .before .before .before .before .if1 .left)) ∙ length-refused (v .number) (v .line) in
+    (omega arith, omega (arith, digits-short (v .number) (omega arith), digits-short (v .line) (omega arith)))
+
+pub verdict-length-spec : {M : Type 1} → statement M
+verdict-length-spec =
+    tie.close
+    (tie.spec
+    (λ c κs. tt)
+    (λ c κs. tt)
+    (λ c. omega (arith, accepted c))
+    (λ c. omega (arith, accepted c))
+    (λ c. accepted c .0)
+    (λ c. search needs)
+    (λ c κs. tt)
+    (λ c. search needs)
+    (λ c κs. tt)
+    (λ c. omega (arith, refused c))
+    (λ c. omega (arith, refused c))
+    (λ c. refused c .0))

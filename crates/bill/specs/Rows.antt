@@ -1,0 +1,13 @@
+-- A charge sheet as values: a row for each core and each process, "in order of first mention".
+use mathlib.Core.List.{List}
+use Prim.Native.Nat.{ℕ}
+
+-- a name and its figures: of a core held, idle and unknown, of a process its charge
+pub record Row : Type 0 where
+  pub name : List ℕ
+  pub figures : List ℕ
+
+pub record Sheet : Type 0 where
+  pub span : ℕ
+  pub cores : List Row
+  pub processes : List Row

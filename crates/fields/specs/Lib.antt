@@ -1,0 +1,2 @@
+-- What the parts of a line are, and where they stand.
+pub mod Part

@@ -1,0 +1,171 @@
+-- The figures of tables that show a history are the history's own: a core's ticks, and a process's charge. No sum reaches the width of an entry.
+use mathlib.Core.Path.{_≡_, refl, sym, ap, subst, _∙_}
+use mathlib.Core.Bool.{Bool, true, false, not, _&&_, _||_, cond}
+use mathlib.Core.Option.{some}
+use mathlib.Core.List.{List, [], _∷_}
+use Prim.Native.Nat.{ℕ, zero, suc, _+_, _*_, _%_, _^_, _≤_}
+use native.Mathlib.Nat.{mod-eq-of-lt}
+use native.Mathlib.Omega.{arith}
+use lib.Dec.{eqb, ltb}
+use lib.ListN.{length, drop}
+use lib.Seq.{drop-length}
+use borrow.Author.Tests.{eqb-false, eq-eqb, ne-eqb, le-ltb}
+use Rattle.text.specs.Bytes.{sameBytes}
+use Rattle.text.proofs.Words.{same-eq, same-refl, eq-same}
+use Rattle.rules.specs.Lists.{any, sumOver, oneIf}
+use Rattle.rules.specs.Words.{core}
+use Rattle.rules.specs.Charts.{isProcess}
+use Rattle.rules.specs.Event.{Event, Instance}
+use Rattle.rules.specs.Core.{Core, unknown, idle, held, coreAt}
+use Rattle.rules.specs.History.{names, kindOf}
+use Rattle.rules.specs.Verdict.{Accepted}
+use Rattle.rules.specs.Sheet.{isHeld, isIdle, isHeldBy, heldTicks, idleTicks, unknownTicks, charge, span}
+use Rattle.rules.proofs.Tests.{clash}
+use Rattle.rules.proofs.Tracked.{named-kind}
+use Rattle.rules.proofs.Totals.{core-total}
+use Rattle.rules.proofs.Charges.{charge-at-most}
+use Rattle.tables.specs.Entry.{kindAt, markAt, heldAt, unknownAt}
+use Rattle.judge.specs.Feed.{Tables}
+use Rattle.sheet.specs.Figure.{openAt, heldIn, idleIn, holds, chargeTo, chargeIn}
+use Rattle.promises.specs.Places.{place, rowOf}
+use Rattle.promises.specs.Shown.{Shown, CoreTicks, coreMark, openTicks, openCharge}
+use Rattle.promises.proofs.Places.{place-one, Distinct, at-place}
+use Rattle.promises.proofs.Grown.{AllMet, names-distinct, core-unknown}
+use Rattle.promises.proofs.Bounds.{span-most}
+use Rattle.promises.proofs.Turns.{holder-named}
+
+-- ---- the rows of a list, one after the other
+
+module _ {A : Type 0} (eq : A → A → Bool) (eq-true : (x y : A) → eq x y ≡ true → x ≡ y) (eq-refl : (x : A) → eq x x ≡ true) where
+  -- from its place on a list is the element and those after it
+  back-place : (x : A) (xs : List A) → any (eq x) xs ≡ true → drop (place (eq x) xs) xs ≡ x ∷ drop (suc (place (eq x) xs)) xs
+  unfolding place
+  back-place x [] q = absurd (clash false q refl)
+  back-place x (y ∷ ys) q = by-test (eq x y) refl q (back-place x ys)
+    where
+      by-test : (b : Bool) → eq x y ≡ b → b || any (eq x) ys ≡ true → (any (eq x) ys ≡ true → drop (place (eq x) ys) ys ≡ x ∷ drop (suc (place (eq x) ys)) ys) →
+          drop (cond b 0 (suc (place (eq x) ys))) (y ∷ ys) ≡ x ∷ drop (suc (cond b 0 (suc (place (eq x) ys)))) (y ∷ ys)
+      by-test true t q r = ap {B = List A} (λ z. z ∷ ys) (sym (eq-true x y t))
+      by-test false t q r = r q
+
+  -- To show something of a walk over all rows, by what is left to do: it holds behind the last row with nothing left, and if behind the row of an
+  -- element with some left, then before that row with the element in front of them.
+  pub by-rows : (xs : List A) → Distinct eq eq-true eq-refl xs → (P : ℕ → List A → Type 0) → P (length xs) [] →
+      ((x : A) → any (eq x) xs ≡ true → (ys : List A) → P (suc (place (eq x) xs)) ys → P (place (eq x) xs) (x ∷ ys)) → P 0 xs
+  by-rows xs d P end step = from (length xs) 0 (omega arith)
+    where
+      from : (m k : ℕ) → m + k ≡ length xs → P k (drop k xs)
+      from zero k l = rw (let z : k ≡ length xs = omega arith in z, drop-length xs) end
+      from (suc m) k l =
+          let r = at-place eq eq-true eq-refl xs d k (omega arith) in
+          subst (λ (j : ℕ). P j (drop j xs)) (r .2)
+          (rw (back-place (r .0) xs (r .1))
+          (step (r .0) (r .1) (drop (suc (place (eq (r .0)) xs)) xs) (subst (λ (j : ℕ). P (suc j) (drop (suc j) xs)) (sym (r .2)) (from m (suc k) (omega arith)))))
+
+-- ---- what the state of a core says in the tables
+
+idle-mark : (h : List Event) (c : Core) → oneIf (eqb (coreMark h c) 1) ≡ isIdle c
+idle-mark h unknown = refl
+idle-mark h idle = refl
+idle-mark h (held x) = rw (ne-eqb (rowOf h (x .name) + 2) 1 (λ q. omega arith))
+
+held-mark : (h : List Event) (c : Core) → oneIf (not (ltb (coreMark h c) 2)) ≡ isHeld c
+held-mark h unknown = refl
+held-mark h idle = refl
+held-mark h (held x) = rw (le-ltb (rowOf h (x .name) + 2) 2 (omega arith))
+
+module _ (h : List Event) (a : Accepted h) (t : Tables) (s : Shown h t) (p : List ℕ) (listed : any (sameBytes p) (names h) ≡ true) where
+  -- two states name one row exactly if it is of one name
+  own-row : (n : List ℕ) → any (sameBytes n) (names h) ≡ true → eqb (rowOf h n + 2) (rowOf h p + 2) ≡ sameBytes p n
+  own-row n q = by-same (sameBytes p n) refl
+    where
+      by-same : (b : Bool) → sameBytes p n ≡ b → eqb (rowOf h n + 2) (rowOf h p + 2) ≡ b
+      by-same true r = eq-eqb _ _ (ap (λ (m : List ℕ). rowOf h m + 2) (sym (same-eq p n r)))
+      by-same false r =
+          ne-eqb _ _ (λ (e : rowOf h n + 2 ≡ rowOf h p + 2).
+          clash _ (eq-same p n (place-one sameBytes same-eq same-refl p n (names h) listed q (omega arith))) r)
+
+  -- the state of a core names the row of its holder's name
+  holder-mark : (c : Core) → ((x : Instance) → c ≡ held x → any (sameBytes (x .name)) (names h) ≡ true) → oneIf (eqb (coreMark h c) (rowOf h p + 2)) ≡ isHeldBy p c
+  holder-mark unknown l = rw (ne-eqb 0 (rowOf h p + 2) (λ q. omega arith))
+  holder-mark idle l = rw (ne-eqb 1 (rowOf h p + 2) (λ q. omega arith))
+  holder-mark (held x) l = rw (own-row (x .name) (l x refl))
+
+  holds-shown : (c : List ℕ) → any (sameBytes c) (names h) ≡ true → oneIf (holds (t .nums) (rowOf h p) (rowOf h c)) ≡ isHeldBy p (coreAt c h)
+  unfolding holds
+  holds-shown c q = by-kind (eqb (kindAt (t .nums) (rowOf h c)) core) refl
+    where
+      m : ℕ
+      m = markAt (t .nums) (rowOf h c)
+
+      by-kind : (b : Bool) → eqb (kindAt (t .nums) (rowOf h c)) core ≡ b → oneIf (b && eqb m (rowOf h p + 2)) ≡ isHeldBy p (coreAt c h)
+      by-kind true k = rw (s .each-name c q .mark .of-core k) (holder-mark (coreAt c h) (holder-named h a c))
+      by-kind false k =
+          sym (ap (isHeldBy p) (core-unknown c h a (λ z. eqb-false _ core k (let y : kindAt (t .nums) (rowOf h c) ≡ core = cc (z, s .each-name c q .kind) in y))))
+
+-- ---- the figures
+
+module _ (h : List Event) (a : Accepted h) (met : AllMet h) (t : Tables) (s : Shown h t) where
+  -- what is stored, with the open ticks where the test says so: no such sum reaches the width of an entry
+  sum-shown : (b : Bool) (i v w u : ℕ) → oneIf b ≡ i → v + i * w ≡ u → u ≤ 64 * span h → cond b ((v + w) % 2 ^ 64) v ≡ u
+  sum-shown true i v w u p e l =
+      let z = rw (← p) at e in
+      let m = span-most h met in
+      mod-eq-of-lt (omega arith) ∙ omega arith
+  sum-shown false i v w u p e l = let z = rw (← p) at e in omega arith
+
+  module _ (c : List ℕ) (k : kindOf c h ≡ some core) where
+    listed : any (sameBytes c) (names h) ≡ true
+    listed = named-kind h c core k _ refl
+
+    stored : CoreTicks h (t .ticks) (rowOf h c) c
+    stored = s .each-ticks c listed .of-core k
+
+    mark : markAt (t .nums) (rowOf h c) ≡ coreMark h (coreAt c h)
+    mark = let r = s .each-name c listed in r .mark .of-core (eq-eqb _ core (let z : kindAt (t .nums) (rowOf h c) ≡ core = cc (k, r .kind) in z))
+
+    pub held-shown : heldIn (t .nums) (t .ticks) (rowOf h c) ≡ heldTicks c h
+    unfolding heldIn openAt
+    held-shown =
+        rw mark
+        (turned (ltb (coreMark h (coreAt c h)) 2) _ _
+        ∙ sum-shown (not (ltb (coreMark h (coreAt c h)) 2)) _ _ _ _ (held-mark h (coreAt c h)) (stored .held-ticks) (omega (arith, core-total h a c)))
+      where
+        turned : (b : Bool) (x y : ℕ) → cond b x y ≡ cond (not b) y x
+        turned true x y = refl
+        turned false x y = refl
+
+    pub idle-shown : idleIn (t .nums) (t .ticks) (rowOf h c) ≡ idleTicks c h
+    unfolding idleIn openAt
+    idle-shown =
+        rw mark (sum-shown (eqb (coreMark h (coreAt c h)) 1) _ _ _ _ (idle-mark h (coreAt c h)) (stored .idle-ticks) (omega (arith, core-total h a c)))
+
+    pub unknown-shown : unknownAt (t .ticks) (rowOf h c) ≡ unknownTicks c h
+    unknown-shown = stored .unknown-ticks
+
+  pub charge-shown : (p : List ℕ) (k : ℕ) → kindOf p h ≡ some k → isProcess k ≡ true → chargeIn (t .nums) (t .ticks) (rowOf h p) ≡ charge p h
+  unfolding chargeIn chargeTo openAt isProcess
+  charge-shown p k q r =
+      rw (s .head .names-counted)
+      (by-rows sameBytes same-eq same-refl (names h) (names-distinct h) P (λ l. omega arith) step (omega (arith, stored-charge, charge-at-most h a p)) ∙ stored-charge)
+    where
+      listed-p : any (sameBytes p) (names h) ≡ true
+      listed-p = named-kind h p k q _ refl
+
+      stored-charge : heldAt (t .ticks) (rowOf h p) + openCharge h (t .ticks) p ≡ charge p h
+      stored-charge = s .each-ticks p listed-p .of-other (λ z. let y : k ≡ core = cc in clash _ r (rw y)) .charge-ticks
+
+      F : List ℕ → ℕ
+      F c = isHeldBy p (coreAt c h) * openTicks h (t .ticks) c
+
+      upTo : ℕ → ℕ
+      upTo = chargeTo (t .nums) (t .ticks) (rowOf h p)
+
+      -- the rows from j on, with the names cs, are still to be added; the bound on the whole sum is a bound on each before it
+      P : ℕ → List (List ℕ) → Type 0
+      P j cs = upTo j + sumOver F cs ≤ 64 * span h → upTo (length (names h)) ≡ upTo j + sumOver F cs
+
+      step : (c : List ℕ) → any (sameBytes c) (names h) ≡ true → (cs : List (List ℕ)) → P (suc (rowOf h c)) cs → P (rowOf h c) (c ∷ cs)
+      step c l cs i b =
+          let one : upTo (suc (rowOf h c)) ≡ upTo (rowOf h c) + F c = sum-shown (holds (t .nums) (rowOf h p) (rowOf h c)) _ _ _ _ (holds-shown h a t s p listed-p c l) refl (omega arith) in
+          i (omega arith) ∙ omega arith

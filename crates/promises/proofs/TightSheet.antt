@@ -1,0 +1,142 @@
+-- How tight the contract of `sheet` is: three sheets that it shuts out, over the tables that a small trace leads to. They are a sheet of zeros, one with the
+-- whole span of each core under idle, and one whose charges are made up but have the right total.
+use mathlib.Core.Path.{_≡_, refl}
+use mathlib.Core.Bool.{true, false, cond}
+use mathlib.Core.List.{List, [], _∷_, map}
+use Prim.Native.Nat.{ℕ}
+use native.Mathlib.Omega.{arith}
+use lib.Dec.{eqb, leb}
+use lib.ListN.{length, getD, replicate}
+use Rattle.text.specs.Literal.{bytes}
+use Rattle.text.specs.Bytes.{sameBytes, startsWith}
+use Rattle.text.specs.Pieces.{pieces}
+use Rattle.text.specs.Name.{isNameByte, allNameBytes, isName}
+use Rattle.text.specs.Number.{numberOf, digitsOf}
+use Rattle.text.specs.Put.{written}
+use Rattle.text.proofs.Tight.{ShutsOut, shut-out}
+use Rattle.words.specs.Named.{pick}
+use Rattle.words.specs.Scale.{scaleWord, scaleOf}
+use Rattle.words.specs.Kind.{kindWord, kindOf}
+use Rattle.words.specs.Action.{wordOf, actionCode, actionsOf, actionOf, among}
+use Rattle.words.specs.Pair.{namedBy}
+use Rattle.fields.specs.Part.{partsOf, fieldOf}
+use Rattle.line.specs.Note.{noteOf}
+use Rattle.line.specs.Rule.{isProcess as isProcessLine, zeroSource, zeroTarget, isOwn, sourceBroken, targetBroken, ownBroken, presence, noteBroken, ruleBroken}
+use Rattle.line.specs.Parameter.{isVersion, isVersionLine, isComment, timeScale, isCreator, isCreationDate, otherReading, parameterReading}
+use Rattle.line.specs.Event.{numbersOf, hasNames, knownReading, fieldsReading, eventReading}
+use Rattle.line.specs.Reading.{hasBreak, isEventLine, readLine}
+use Rattle.line.specs.Condition.{refuses1, refuses3, countWrong, numberWrong, nameWrong, noteWrong, refuses5, refuses6, refuses7}
+use Rattle.bill.specs.Rows.{Row, Sheet}
+use Rattle.bill.specs.Text.{figuresText, rowText, rowsText, sectionText, sheetText}
+use Rattle.bill.specs.Scale.{scaleNumber}
+use Rattle.rules.specs.Lists.{sumOver, ifZero}
+use Rattle.rules.specs.Charts.{chartOf, processChart, isProcess}
+use Rattle.rules.specs.Core.{takes, gives, keeps, onCore}
+use Rattle.rules.specs.History.{hasInstances, isTracked, named, kindIn, activates, lastNumber, lastCount, names, instances}
+use Rattle.rules.specs.Refusals.{timeFalls, secondKind, sourceClash, targetClash, noRoom, offChart, notNext, coreBroken, countFollows, countAllowed, countBroken, eventTests, answerTo}
+use Rattle.rules.specs.Sheet.{ticks, sheet}
+use Rattle.rules.specs.Lines.{kindNumber, eventOfLine, eventsOf}
+use Rattle.rules.specs.Trace.{placeOf, tooMuch, versionWrong, parameterWrong, unscaled, placeTests, answerInPlace, answerAt}
+use Rattle.rules.specs.First.{takenOf}
+use Rattle.tables.specs.Range.{tableAnswer}
+use Rattle.sheet.specs.declared.sheet.Printed.the-variants.{Done, NotPrinted}
+use Rattle.sheet.specs.Sheet.{Sheeted, sheeted, sheetIn, sheetWritten}
+use Rattle.promises.specs.Sheets.{sheetOf, figure}
+use Rattle.promises.proofs.Judged.{after-lines, never-16}
+use Rattle.promises.proofs.Demand3.{figures-right, text-right}
+
+-- ---- a function that writes another sheet than the one that the tables show, and is right in all else
+
+abbrev Lent : Type 0
+Lent = List ℕ × List ℕ × List ℕ × List ℕ
+
+abbrev sheets : Lent → Sheeted
+sheets (names, nums, ticks, out) = sheetWritten names nums ticks out
+
+abbrev textIn : List ℕ → List ℕ → Sheeted
+textIn out text = cond (leb (length text) (length out)) (sheeted (Done (length text)) (written out 0 text)) (sheeted (NotPrinted 15) out)
+
+abbrev writes : (Sheet → Sheet) → Lent → Sheeted
+writes other (names, nums, ticks, out) =
+    ifZero (tableAnswer names nums ticks) (textIn out (sheetText (other (sheetIn names nums ticks)))) (sheeted (NotPrinted (tableAnswer names nums ticks)) out)
+
+-- ---- a small trace, and its sheet: on the core C, A runs for a tick and B for two
+
+abbrev small : List (List ℕ)
+small =
+    bytes "#version 2.2.0"
+    ∷ bytes "#timeScale ns"
+    ∷ bytes "0,C,0,T,A,0,start"
+    ∷ bytes "1,C,0,T,A,0,terminate"
+    ∷ bytes "1,C,0,T,B,0,start"
+    ∷ bytes "3,C,0,T,B,0,terminate"
+    ∷ []
+
+abbrev row : List ℕ → List ℕ → Row
+row name figures = record { name = name; figures = figures }
+
+abbrev smallSheet : Sheet
+smallSheet = record { span = 3; cores = row (bytes "C") (3 ∷ 0 ∷ 0 ∷ []) ∷ []; processes = row (bytes "A") (1 ∷ []) ∷ row (bytes "B") (2 ∷ []) ∷ [] }
+
+small-sheet : sheetOf small ≡ smallSheet
+unfolding sheet ticks takenOf answerAt answerInPlace placeTests tooMuch versionWrong parameterWrong unscaled placeOf scaleNumber eventOfLine eventsOf kindNumber refuses1 refuses3 refuses5 refuses6 refuses7 countWrong numberWrong nameWrong noteWrong readLine hasBreak isEventLine eventReading fieldsReading hasNames numbersOf knownReading partsOf pieces fieldOf noteOf isProcessLine zeroSource zeroTarget isOwn sourceBroken targetBroken ownBroken presence noteBroken ruleBroken isVersion isVersionLine isComment timeScale isCreator isCreationDate otherReading parameterReading sameBytes startsWith isNameByte allNameBytes isName numberOf pick scaleWord scaleOf kindWord kindOf wordOf actionCode actionsOf actionOf among namedBy answerTo eventTests timeFalls secondKind sourceClash targetClash noRoom offChart notNext coreBroken countBroken names instances chartOf processChart isProcess takes gives keeps onCore hasInstances isTracked named kindIn activates lastNumber lastCount countAllowed countFollows
+small-sheet = refl
+
+-- ---- three other sheets
+
+abbrev zeroRow : Row → Row
+zeroRow r = row (r .name) (map (λ n. 0) (r .figures))
+
+abbrev zeroSheet : Sheet → Sheet
+zeroSheet s = record { span = s .span; cores = map zeroRow (s .cores); processes = map zeroRow (s .processes) }
+
+abbrev idleSheet : Sheet → Sheet
+idleSheet s = record { span = s .span; cores = map (λ r. row (r .name) (0 ∷ s .span ∷ 0 ∷ [])) (s .cores); processes = s .processes }
+
+-- the first process is charged for all
+abbrev firstCharged : List Row → List Row
+firstCharged [] = []
+firstCharged (r ∷ rs) = row (r .name) (sumOver (figure 0) (r ∷ rs) ∷ []) ∷ map (λ q. row (q .name) (0 ∷ [])) rs
+
+abbrev madeUp : Sheet → Sheet
+madeUp s = record { span = s .span; cores = s .cores; processes = firstCharged (s .processes) }
+
+-- with the right total
+no-charges : (rs : List Row) → sumOver (figure 0) (map (λ q. row (q .name) (0 ∷ [])) rs) ≡ 0
+no-charges [] = refl
+no-charges (r ∷ rs) = omega (arith, no-charges rs)
+
+pub made-up-total : (s : Sheet) → sumOver (figure 0) (madeUp s .processes) ≡ sumOver (figure 0) (s .processes)
+made-up-total s = of (s .processes)
+  where
+    of : (rs : List Row) → sumOver (figure 0) (firstCharged rs) ≡ sumOver (figure 0) rs
+    of [] = refl
+    of (r ∷ rs) = omega (arith, no-charges rs)
+
+-- ---- they are shut out
+
+abbrev lent : List ℕ → Lent
+lent out = let t = after-lines small in (t .names, t .nums, t .ticks, out)
+
+-- by a figure that stands at an index of the text
+shut-sheet : (other : Sheet → Sheet) (at right : ℕ) (out : List ℕ)
+    → eqb (getD (textIn out (sheetText smallSheet) .output) at 0) right ≡ true
+    → eqb (getD (textIn out (sheetText (other smallSheet)) .output) at 0) right ≡ false
+    → ShutsOut sheets (writes other)
+shut-sheet other at right out p q =
+    shut-out (λ x. eqb (getD (x .output) at 0) right) (lent out) (rw (text-right small out, small-sheet) p) (rw (never-16 small, figures-right small, small-sheet) q)
+
+abbrev blanks : List ℕ
+blanks = replicate 40 32
+
+pub sheet-not-zeros : ShutsOut sheets (writes zeroSheet)
+unfolding sheetText sectionText rowsText rowText figuresText digitsOf written
+sheet-not-zeros = shut-sheet zeroSheet 10 51 blanks refl refl
+
+pub sheet-not-idle : ShutsOut sheets (writes idleSheet)
+unfolding sheetText sectionText rowsText rowText figuresText digitsOf written
+sheet-not-idle = shut-sheet idleSheet 10 51 blanks refl refl
+
+pub sheet-not-made-up : ShutsOut sheets (writes madeUp)
+unfolding sheetText sectionText rowsText rowText figuresText digitsOf written
+sheet-not-made-up = shut-sheet madeUp 30 49 blanks refl refl
