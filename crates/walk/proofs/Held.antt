@@ -1,6 +1,5 @@
 -- What a `Reader` owns, taken apart: it is Copy, so what it owns is had twice. One copy is kept, and of the other what the chunk owns goes to a
 -- callee that asks for the slice.
--- Assumes nothing.
 use mathlib.Core.Path.{_≡_}
 use mathlib.Core.List.{[], _∷_}
 use lib.ListN.{length}

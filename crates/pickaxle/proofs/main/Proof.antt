@@ -1,5 +1,4 @@
 -- `pickaxle::main` meets its contract: what it lends has the right sizes, so it is not refused, and what it writes is the text that it was told.
--- Assumes nothing.
 use borrow.Author.Needs.{needs}
 use Rattle.input.proofs.Texts.{text-told, sizes-taken}
 use Rattle.pickaxle.proofs.main.Statement.{statement}

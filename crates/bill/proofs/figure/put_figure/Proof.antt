@@ -1,5 +1,4 @@
 -- `bill::figure::put_figure` meets its contract: where there is no room nothing is put, and otherwise a blank and the digits, one after the other.
--- Assumes nothing.
 use mathlib.Core.Path.{sym}
 use mathlib.Core.List.{[], _∷_}
 use Prim.Native.Nat.{_+_}

@@ -1,5 +1,4 @@
 -- `bill::scale::scale_length` meets its contract: one byte for a second, none for no time scale, and two for any other.
--- Assumes nothing.
 use mathlib.Core.Path.{sym, ap}
 use mathlib.Core.Logic.{⊎-elim}
 use lib.ListN.{length}

@@ -1,5 +1,4 @@
 -- `bill::section::put_title` meets its contract: the bytes of the two titles.
--- Assumes nothing.
 use borrow.Author.Needs.{needs}
 use Rattle.bill.proofs.section.put_title.Statement.{statement}
 use Rattle.bill.proofs.section.put_title.Tie as tie

@@ -1,5 +1,4 @@
 -- `bill::section::title_length` meets its contract: the lengths of the two titles.
--- Assumes nothing.
 use borrow.Author.Needs.{needs}
 use Rattle.bill.proofs.section.title_length.Statement.{statement}
 use Rattle.bill.proofs.section.title_length.Tie as tie

@@ -1,5 +1,4 @@
 -- `bill::verdict::put_accepted` meets its contract: the pieces of the line are put one after another.
--- Assumes nothing.
 use borrow.Author.Needs.{needs}
 use Rattle.bill.specs.Verdict.{acceptedText}
 use Rattle.bill.proofs.VerdictLine.{put-five}

@@ -1,5 +1,4 @@
 -- `bill::verdict::put_refused` meets its contract: the pieces of the line are put one after another.
--- Assumes nothing.
 use borrow.Author.Needs.{needs}
 use Rattle.bill.specs.Verdict.{refusedText}
 use Rattle.bill.proofs.VerdictLine.{put-five}

@@ -1,5 +1,4 @@
 -- `bill::verdict::put_verdict` meets its contract: where there is no room nothing is put, and otherwise the number tells which of the two lines it is.
--- Assumes nothing.
 use mathlib.Core.Path.{sym}
 use Prim.Native.Nat.{_+_, _≤_}
 use native.Mathlib.Omega.{arith}

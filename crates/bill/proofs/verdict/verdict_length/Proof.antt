@@ -1,6 +1,5 @@
 -- `bill::verdict::verdict_length` meets its contract: the scale or the two numbers with the words around them. No sum wraps, since each has few
 -- bytes.
--- Assumes nothing.
 use mathlib.Core.Path.{_≡_, ap, _∙_}
 use Prim.Native.Nat.{_+_, _≤_}
 use native.Mathlib.Omega.{arith}

@@ -1,5 +1,4 @@
 -- `bundle::container::entry_from` meets its contract: its tests are the definition's, and a header does not end before it begins.
--- Assumes nothing.
 use Prim.Native.Nat.{_≤_}
 use native.Mathlib.Omega.{arith}
 use borrow.Author.Needs.{needs}

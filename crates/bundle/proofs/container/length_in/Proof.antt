@@ -1,5 +1,4 @@
 -- `bundle::container::length_in` meets its contract: its tests are the definition's.
--- Assumes nothing.
 use mathlib.Core.Path.{sym, _∙_}
 use borrow.Author.Needs.{needs}
 use borrow.Author.Tests.{not-true, not-false}

@@ -1,6 +1,5 @@
 -- `bundle::container::say_traces` meets its contract. The invariant: after n traces, what remains from the index on gives the container's end. Each trace
 -- lies behind the one before.
--- Assumes nothing.
 use Prim.Native.Nat.{_+_, _-_, _≤_, _<_}
 use native.Mathlib.Omega.{arith}
 use borrow.Author.Needs.{needs}

@@ -1,6 +1,5 @@
 -- `fields::part::between` meets its contract: at each exit the part handed back starts at `a + 1`, or at the line's start where that is past the end,
 -- and has the bytes before `b`.
--- Assumes nothing.
 use mathlib.Core.Path.{refl, sym}
 use Prim.Native.Nat.{suc}
 use native.Mathlib.Numerals.{add-one}

@@ -1,5 +1,4 @@
 -- `fields::part::field` meets its contract. The invariant: the `j`-th part starts at `a`, and the one asked for is that or a later one.
--- Assumes nothing.
 use mathlib.Core.Path.{_≡_, refl, sym}
 use Prim.Native.Nat.{_-_, _≤_}
 use native.Mathlib.Omega.{arith}

@@ -1,5 +1,4 @@
 -- `fields::part::split` meets its contract: each place found is the next comma's, and none is far enough past the end for a sum to wrap.
--- Assumes nothing.
 use native.Mathlib.Omega.{arith}
 use borrow.Author.Needs.{needs}
 use Rattle.fields.proofs.Parts.{Place, place-first, place-next}

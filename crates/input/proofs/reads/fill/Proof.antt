@@ -1,5 +1,4 @@
 -- `input::reads::fill` meets its contract: what is lent to the read is the back of the buffer, so its front stays.
--- Assumes nothing.
 use native.Mathlib.Omega.{arith}
 use borrow.Author.Needs.{needs}
 use Rattle.input.proofs.Steps.{filled-front}

@@ -1,5 +1,4 @@
 -- `input::reads::input_refusal` meets its contract: its test is the definition's.
--- Assumes nothing.
 use borrow.Author.Needs.{needs}
 use borrow.Author.Tests.{eq-eqb, ne-eqb}
 use Rattle.input.specs.Reads.{inputRefusal}

@@ -1,5 +1,4 @@
 -- `input::reads::one_read` meets its contract: what came stands behind what was carried over, and the turn is that of one read.
--- Assumes nothing.
 use Prim.Native.Nat.{ℕ, _≤_, _<_}
 use native.Mathlib.Omega.{arith}
 use borrow.Author.Needs.{needs}

@@ -1,5 +1,4 @@
 -- `input::reads::read_all` meets its contract: it refuses what the test refuses, and else reads.
--- Assumes nothing.
 use borrow.Author.Needs.{needs}
 use Rattle.input.proofs.Grown.{taken-refused}
 use Rattle.input.proofs.reads.read_all.Statement.{statement}

@@ -1,6 +1,5 @@
 -- `input::reads::read_to_end` meets its contract. The invariant: there is a list of reads, of `total` bytes together, that leads from the tables at the start
 -- to those now, with what is carried over at the front of the buffer. The measure is how many bytes may still come.
--- Assumes nothing.
 use mathlib.Core.Path.{_≡_}
 use Prim.Native.Nat.{_-_, _≤_, _<_}
 use native.Mathlib.Omega.{arith}

@@ -1,5 +1,4 @@
 -- `input::whole::size_refusal` meets its contract: its tests are the definition's.
--- Assumes nothing.
 use borrow.Author.Needs.{needs}
 use Rattle.input.specs.Whole.{sizeRefusal}
 use Rattle.input.proofs.whole.size_refusal.Statement.{statement}

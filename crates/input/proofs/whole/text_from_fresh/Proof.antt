@@ -1,5 +1,4 @@
 -- `input::whole::text_from_fresh` meets its contract: the tables start fresh, so nothing is refused; where all reads went well, the text fits.
--- Assumes nothing.
 use mathlib.Core.Path.{_≡_, refl}
 use borrow.Author.Needs.{needs}
 use Rattle.judge.specs.Feed.{tables, freshTables}

@@ -1,5 +1,4 @@
 -- `input::whole::text_of_input` meets its contract: it refuses what the test refuses, and else tells the text.
--- Assumes nothing.
 use borrow.Author.Needs.{needs}
 use Rattle.input.proofs.Texts.{answered-refused}
 use Rattle.input.proofs.whole.text_of_input.Statement.{statement}

@@ -1,4 +1,4 @@
--- `judge::feed::count_entry` meets its contract: a store, and one line more. Assumes nothing.
+-- `judge::feed::count_entry` meets its contract: a store, and one line more.
 use mathlib.Core.Path.{ap, _∙_}
 use lib.ListN.{length}
 use borrow.Author.Needs.{needs}

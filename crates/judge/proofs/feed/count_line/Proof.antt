@@ -1,4 +1,4 @@
--- `judge::feed::count_line` meets its contract: the entry grows by one. Assumes nothing.
+-- `judge::feed::count_line` meets its contract: the entry grows by one.
 use mathlib.Core.Path.{refl}
 use borrow.Author.Needs.{needs}
 use Rattle.judge.specs.Feed.{counted}

@@ -1,4 +1,4 @@
--- `judge::feed::event_in` meets its contract: the plan is the definition's, and either arm carries it out. Assumes nothing.
+-- `judge::feed::event_in` meets its contract: the plan is the definition's, and either arm carries it out.
 use mathlib.Core.Path.{_≡_, _∙_}
 use borrow.Author.Needs.{needs}
 use Rattle.fields.proofs.Parts.{between-field}

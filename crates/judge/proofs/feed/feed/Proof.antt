@@ -1,4 +1,4 @@
--- `judge::feed::feed` meets its contract: the tables are tested first. Assumes nothing.
+-- `judge::feed::feed` meets its contract: the tables are tested first.
 use borrow.Author.Needs.{needs}
 use Rattle.judge.proofs.Feeds.{refused-fed, lined-fed, sized}
 use Rattle.judge.proofs.feed.feed.Statement.{statement}

@@ -1,4 +1,4 @@
--- `judge::feed::feed_chunk` meets its contract: the tables are tested once, and keep their sizes over the lines. Assumes nothing.
+-- `judge::feed::feed_chunk` meets its contract: the tables are tested once, and keep their sizes over the lines.
 use native.Mathlib.Omega.{arith}
 use borrow.Author.Needs.{needs}
 use Rattle.judge.proofs.Feeds.{lines-alike, sized, refused-chunk, lined-chunk}

@@ -1,4 +1,4 @@
--- `judge::feed::judge` meets its contract: from a fresh start the whole lines, and the rest where it is not empty. Assumes nothing.
+-- `judge::feed::judge` meets its contract: from a fresh start the whole lines, and the rest where it is not empty.
 use mathlib.Core.Path.{_≡_, refl, ap, _∙_}
 use mathlib.Core.Bool.{true}
 use mathlib.Core.Logic.{⊎-elim}

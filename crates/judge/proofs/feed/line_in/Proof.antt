@@ -1,4 +1,4 @@
--- `judge::feed::line_in` meets its contract: a verdict stays, and a line is refused by its place or read. Assumes nothing.
+-- `judge::feed::line_in` meets its contract: a verdict stays, and a line is refused by its place or read.
 use mathlib.Core.Path.{_≡_, ap, _∙_}
 use borrow.Author.Needs.{needs}
 use Rattle.line.specs.declared.reading.Split.{Split}

@@ -1,5 +1,5 @@
 -- `judge::feed::lines_in` meets its contract. The loop's invariant: the lines from the index on give what all lines give. The measure is what is
--- left of the chunk. Assumes nothing.
+-- left of the chunk.
 use mathlib.Core.Path.{sym, _∙_}
 use Prim.Native.Nat.{_-_}
 use native.Mathlib.Omega.{arith}

@@ -1,4 +1,4 @@
--- `judge::feed::place_in` meets its contract: each entry is the definition's. Assumes nothing.
+-- `judge::feed::place_in` meets its contract: each entry is the definition's.
 use mathlib.Core.Path.{refl}
 use borrow.Author.Needs.{needs}
 use Rattle.judge.specs.Feed.{placeIn}

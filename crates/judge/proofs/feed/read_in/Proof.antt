@@ -1,4 +1,4 @@
--- `judge::feed::read_in` meets its contract: each arm stores what the definition says of its reading. Assumes nothing.
+-- `judge::feed::read_in` meets its contract: each arm stores what the definition says of its reading.
 use borrow.Author.Needs.{needs}
 use Rattle.judge.proofs.feed.read_in.Statement.{statement}
 use Rattle.judge.proofs.feed.read_in.Tie as tie

@@ -1,4 +1,4 @@
--- `judge::feed::remember` meets its contract: the line's number is read before the stores. Assumes nothing.
+-- `judge::feed::remember` meets its contract: the line's number is read before the stores.
 use mathlib.Core.Path.{refl}
 use borrow.Author.Needs.{needs}
 use Rattle.judge.specs.Feed.{remembered}

@@ -1,4 +1,4 @@
--- `judge::feed::verdict_in` meets its contract: the tests made are the definition's, in its order. Assumes nothing.
+-- `judge::feed::verdict_in` meets its contract: the tests made are the definition's, in its order.
 use borrow.Author.Needs.{needs}
 use borrow.Author.Tests.{eq-eqb, ne-eqb}
 use Rattle.judge.specs.Feed.{verdictIn}

@@ -1,4 +1,4 @@
--- `judge::feed::verdict_now` meets its contract: the tables are tested first. Assumes nothing.
+-- `judge::feed::verdict_now` meets its contract: the tables are tested first.
 use borrow.Author.Needs.{needs}
 use Rattle.judge.proofs.Feeds.{unsized-verdict, now-verdict, sized}
 use Rattle.judge.proofs.feed.verdict_now.Statement.{statement}

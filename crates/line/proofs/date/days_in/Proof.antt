@@ -1,5 +1,4 @@
 -- `line::date::days_in` meets its contract: the code's table is the definition's, but for February, which the year decides.
--- Assumes nothing.
 use mathlib.Core.Path.{sym}
 use borrow.Author.Needs.{needs}
 use Rattle.line.specs.Date.{daysIn}

@@ -1,5 +1,4 @@
 -- `line::date::digit_at` meets its contract: a byte is below 256, and one below `0` leaves no digit.
--- Assumes nothing.
 use native.Mathlib.Omega.{arith}
 use borrow.Author.Needs.{needs}
 use Rattle.line.specs.Date.{digitAt}

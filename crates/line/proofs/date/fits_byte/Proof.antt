@@ -1,5 +1,4 @@
 -- `line::date::fits_byte` meets its contract: at each exit the tests passed say what the definition's tests say.
--- Assumes nothing.
 use borrow.Author.Tests.{eq-eqb, ne-eqb, le-leb, lt-leb}
 use Rattle.line.specs.Date.{fitsByte}
 use Rattle.line.proofs.date.fits_byte.Statement.{statement}

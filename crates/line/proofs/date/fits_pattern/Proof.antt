@@ -1,5 +1,4 @@
 -- `line::date::fits_pattern` meets its contract. The invariant: the slice fits the pattern where what is left of it from `i` fits what is left of the pattern.
--- Assumes nothing.
 use mathlib.Core.Path.{_≡_, refl, sym, _∙_}
 use Prim.Native.Nat.{_-_, _≤_}
 use native.Mathlib.Omega.{arith}

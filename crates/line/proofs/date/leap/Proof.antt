@@ -1,5 +1,4 @@
 -- `line::date::leap` meets its contract: at each exit the tests passed say what the definition's tests say.
--- Assumes nothing.
 use mathlib.Core.Path.{sym}
 use Prim.Native.Nat.{_%_}
 use native.Mathlib.Omega.{arith}

@@ -1,5 +1,4 @@
 -- `line::date::moment` meets its contract: what fits the pattern has its 20 bytes, and then the tests made are the definition's.
--- Assumes nothing.
 use mathlib.Core.Path.{sym, _∙_}
 use borrow.Author.Needs.{needs}
 use borrow.Author.Tests.{not-true, not-false}

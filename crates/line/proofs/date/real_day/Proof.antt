@@ -1,5 +1,4 @@
 -- `line::date::real_day` meets its contract: the numbers read are those of the definition.
--- Assumes nothing.
 use borrow.Author.Needs.{needs}
 use borrow.Author.Tests.{le-leb, lt-leb}
 use Rattle.line.specs.Date.{isDay}

@@ -1,5 +1,4 @@
 -- `line::date::real_time` meets its contract: at each exit the tests passed say what the definition's tests say.
--- Assumes nothing.
 use borrow.Author.Needs.{needs}
 use borrow.Author.Tests.{le-leb, lt-leb}
 use Rattle.line.specs.Date.{isTime}

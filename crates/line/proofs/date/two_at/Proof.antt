@@ -1,5 +1,4 @@
 -- `line::date::two_at` meets its contract: the two digits are those of the definition, each below 256.
--- Assumes nothing.
 use native.Mathlib.Omega.{arith}
 use borrow.Author.Needs.{needs}
 use Rattle.line.specs.Date.{twoAt}

@@ -1,5 +1,4 @@
 -- `line::event::field_name` meets its contract: the whole test, or the length alone where the bytes are known to be a name's.
--- Assumes nothing.
 use mathlib.Core.Bool.{and-true}
 use native.Mathlib.Omega.{arith}
 use borrow.Author.Needs.{needs}

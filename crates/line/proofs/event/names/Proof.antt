@@ -1,5 +1,4 @@
 -- `line::event::names` meets its contract: its tests are the definition's.
--- Assumes nothing.
 use Rattle.line.specs.Event.{hasNames}
 use Rattle.line.proofs.event.names.Statement.{statement}
 use Rattle.line.proofs.event.names.Tie as tie

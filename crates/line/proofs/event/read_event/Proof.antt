@@ -1,6 +1,5 @@
 -- `line::event::read_event` meets its contract: the commas tell whether there are seven fields or eight, and the parts cut between them
 -- are the fields.
--- Assumes nothing.
 use mathlib.Core.Path.{_≡_}
 use Prim.Native.Nat.{_-_}
 use native.Mathlib.Omega.{arith}

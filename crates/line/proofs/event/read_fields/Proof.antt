@@ -1,5 +1,4 @@
 -- `line::event::read_fields` meets its contract: the names, then the numbers, then type and event, then what a known pair says.
--- Assumes nothing.
 use mathlib.Core.Path.{_≡_, sym, _∙_}
 use mathlib.Core.Bool.{true}
 use borrow.Author.Needs.{needs}

@@ -1,5 +1,4 @@
 -- `line::event::read_known` meets its contract: the note's form, then the rules.
--- Assumes nothing.
 use mathlib.Core.Path.{_≡_, sym, _∙_}
 use borrow.Author.Needs.{needs}
 use Rattle.line.specs.declared.note.Note.the-variants.{Means}

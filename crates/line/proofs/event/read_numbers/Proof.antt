@@ -1,6 +1,5 @@
 -- `line::event::read_numbers` meets its contract: the numbers are read in turn, and the first that is none decides. An instance is at most
 -- the greatest one, so that the cast keeps it.
--- Assumes nothing.
 use mathlib.Core.Path.{_≡_, sym, _∙_}
 use native.Mathlib.Omega.{arith}
 use borrow.Author.Needs.{needs}

@@ -1,5 +1,4 @@
 -- `line::note::count_note` meets its contract: the number read is at most the greatest count, so that the cast keeps it.
--- Assumes nothing.
 use mathlib.Core.Path.{sym, _∙_}
 use native.Mathlib.Omega.{arith}
 use borrow.Author.Needs.{needs}

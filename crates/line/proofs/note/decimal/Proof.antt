@@ -1,5 +1,4 @@
 -- `line::note::decimal` meets its contract: the three exits are a value with no dot, a wrong front, and what stands after the dot.
--- Assumes nothing.
 use mathlib.Core.Path.{_∙_}
 use borrow.Author.Needs.{needs}
 use borrow.Author.Tests.{not-true, not-false}

@@ -1,5 +1,4 @@
 -- `line::note::note_of` meets its contract: an empty note is no note, and each arm says what the definition says at its type.
--- Assumes nothing.
 use mathlib.Core.Path.{sym, _∙_}
 use borrow.Author.Needs.{needs}
 use Rattle.line.proofs.Notes.{empty-note, some-note}

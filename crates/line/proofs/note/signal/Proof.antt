@@ -1,5 +1,4 @@
 -- `line::note::signal` meets its contract: the three exits are the cases of a value's first byte.
--- Assumes nothing.
 use mathlib.Core.Path.{sym, _∙_}
 use borrow.Author.Needs.{needs}
 use borrow.Rule.Slice.PartAt.{part-to-end}

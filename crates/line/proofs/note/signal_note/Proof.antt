@@ -1,5 +1,4 @@
 -- `line::note::signal_note` meets its contract: the test made is the definition's.
--- Assumes nothing.
 use borrow.Author.Needs.{needs}
 use Rattle.line.specs.Note.{signalNote}
 use Rattle.line.proofs.note.signal_note.Statement.{statement}

@@ -1,5 +1,4 @@
 -- `line::parameter::creation_date` meets its contract: a line with that beginning has its 14 bytes, and the rest of it is tested.
--- Assumes nothing.
 use mathlib.Core.Path.{sym, _∙_}
 use borrow.Author.Needs.{needs}
 use borrow.Author.Tests.{not-true, not-false}

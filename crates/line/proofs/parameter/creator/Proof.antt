@@ -1,5 +1,4 @@
 -- `line::parameter::creator` meets its contract: the tests made are the definition's.
--- Assumes nothing.
 use borrow.Author.Needs.{needs}
 use borrow.Author.Tests.{not-true, not-false}
 use Rattle.line.specs.Parameter.{isCreator}

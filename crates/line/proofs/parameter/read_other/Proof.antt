@@ -1,5 +1,4 @@
 -- `line::parameter::read_other` meets its contract: the tests made are the definition's, in its order.
--- Assumes nothing.
 use borrow.Author.Needs.{needs}
 use Rattle.line.specs.Parameter.{otherReading}
 use Rattle.line.proofs.parameter.read_other.Statement.{statement}

@@ -1,5 +1,4 @@
 -- `line::parameter::read_parameter` meets its contract: the tests made are the definition's, in its order.
--- Assumes nothing.
 use borrow.Author.Needs.{needs}
 use Rattle.line.specs.Parameter.{isVersion, isComment, parameterReading}
 use Rattle.line.proofs.parameter.read_parameter.Statement.{statement}

@@ -1,5 +1,4 @@
 -- `line::parameter::time_scale` meets its contract: a line with either beginning has its 11 bytes, and the rest of it is the scale's word.
--- Assumes nothing.
 use mathlib.Core.Path.{sym, _∙_}
 use borrow.Author.Needs.{needs}
 use borrow.Rule.Slice.PartAt.{part-to-end}

@@ -1,5 +1,4 @@
 -- `line::parameter::version_line` meets its contract: the tests made are the definition's.
--- Assumes nothing.
 use borrow.Author.Needs.{needs}
 use Rattle.line.specs.Parameter.{isVersionLine}
 use Rattle.line.proofs.parameter.version_line.Statement.{statement}

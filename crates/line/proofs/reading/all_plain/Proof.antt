@@ -1,5 +1,4 @@
 -- `line::reading::all_plain` meets its contract. The invariant: the line is plain where nothing odd was seen and what is left from `i` is plain.
--- Assumes nothing.
 use mathlib.Core.Path.{_≡_, refl, sym}
 use mathlib.Core.Bool.{_&&_}
 use Prim.Native.Nat.{_-_, _≤_}

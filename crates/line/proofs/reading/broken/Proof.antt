@@ -1,5 +1,4 @@
 -- `line::reading::broken` meets its contract: a plain line has no break, and any other is looked through.
--- Assumes nothing.
 use mathlib.Core.Path.{sym}
 use borrow.Author.Needs.{needs}
 use Rattle.line.proofs.Plain.{plain-whole}

@@ -1,5 +1,4 @@
 -- `line::reading::event_line` meets its contract: an empty line is an event line, and the first byte tells of any other.
--- Assumes nothing.
 use mathlib.Core.Path.{sym}
 use borrow.Author.Needs.{needs}
 use Rattle.line.proofs.Lines.{empty-event, first-event}

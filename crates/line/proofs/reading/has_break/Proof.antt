@@ -1,5 +1,4 @@
 -- `line::reading::has_break` meets its contract. The invariant: a break stands in the line where one stands in what is left from `i`.
--- Assumes nothing.
 use mathlib.Core.Path.{_≡_, refl, sym, _∙_}
 use Prim.Native.Nat.{_-_, _≤_}
 use native.Mathlib.Omega.{arith}

@@ -1,5 +1,4 @@
 -- `line::reading::read` meets its contract: it is the first part of what `read_split` answers.
--- Assumes nothing.
 use Rattle.line.proofs.reading.read.Statement.{statement}
 use Rattle.line.proofs.reading.read.Tie as tie
 

@@ -1,5 +1,4 @@
 -- `line::reading::read_at` meets its contract: the length, then a break inside, then an event line or one that starts with `#`.
--- Assumes nothing.
 use mathlib.Core.Path.{_≡_, sym, _∙_}
 use mathlib.Core.Bool.{false, _||_}
 use lib.Dec.{ltb}

@@ -1,5 +1,4 @@
 -- `line::reading::read_split` meets its contract: the places are those that the line was read at.
--- Assumes nothing.
 use borrow.Author.Needs.{needs}
 use Rattle.line.proofs.reading.read_split.Statement.{statement}
 use Rattle.line.proofs.reading.read_split.Tie as tie

@@ -1,5 +1,4 @@
 -- `run::chunk::carry_over` meets its contract: a rest that is too long is fed, and any other is moved to the front.
--- Assumes nothing.
 use borrow.Author.Needs.{needs}
 use Rattle.run.proofs.Turns.{left-long, left-more}
 use Rattle.run.proofs.chunk.carry_over.Statement.{statement}

@@ -1,5 +1,4 @@
 -- `run::chunk::shift` meets its contract. The loop's invariant: the first `i` of the bytes are at the front. The measure is what is left of them.
--- Assumes nothing.
 use mathlib.Core.Path.{_≡_, refl}
 use Prim.Native.Nat.{_-_, _≤_}
 use native.Mathlib.Omega.{arith}

@@ -1,5 +1,4 @@
 -- `run::chunk::take_chunk` meets its contract: a refused chunk stops the reading, and what is left of any other is carried over.
--- Assumes nothing.
 use mathlib.Core.Path.{_≡_, sym}
 use mathlib.Core.Logic.{⊎-elim}
 use Prim.Native.Nat.{_+_}

@@ -1,5 +1,4 @@
 -- `run::chunk::take_last` meets its contract: no byte is no line, and otherwise what was carried over is fed.
--- Assumes nothing.
 use mathlib.Core.Path.{sym}
 use mathlib.Core.Logic.{⊎-elim}
 use lib.Seq.{length-take-le}

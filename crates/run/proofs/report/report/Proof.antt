@@ -1,5 +1,4 @@
 -- `run::report::report` meets its contract: each way out leaves what the definition says. The sheet goes behind the room for the verdict.
--- Assumes nothing.
 use native.Mathlib.Omega.{arith}
 use borrow.Author.Needs.{needs}
 use Rattle.run.proofs.Reports.{Told, report-refused, report-full, report-line, report-short, printed-fits, report-done}

@@ -1,5 +1,4 @@
 -- `sheet::figure::charge` meets its contract. The invariant: the sum is the charge that the first k rows make.
--- Assumes nothing.
 use mathlib.Core.Path.{_≡_, refl, sym, _∙_}
 use mathlib.Core.Logic.{⊎-elim}
 use Prim.Native.Nat.{_-_, _≤_}

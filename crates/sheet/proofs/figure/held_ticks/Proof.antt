@@ -1,5 +1,4 @@
 -- `sheet::figure::held_ticks` meets its contract: what is open is added where the core is held.
--- Assumes nothing.
 use borrow.Author.Needs.{needs}
 use borrow.Author.Tests.{lt-ltb, le-ltb}
 use Rattle.sheet.specs.Figure.{heldIn}

@@ -1,5 +1,4 @@
 -- `sheet::figure::holds_core` meets its contract: the two tests are the definition's.
--- Assumes nothing.
 use mathlib.Core.Path.{refl}
 use Prim.Native.Nat.{_+_}
 use native.Mathlib.Omega.{arith}

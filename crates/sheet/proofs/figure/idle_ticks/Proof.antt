@@ -1,5 +1,4 @@
 -- `sheet::figure::idle_ticks` meets its contract: what is open is added where the core is idle.
--- Assumes nothing.
 use borrow.Author.Needs.{needs}
 use borrow.Author.Tests.{eq-eqb, ne-eqb}
 use Rattle.sheet.specs.Figure.{idleIn}

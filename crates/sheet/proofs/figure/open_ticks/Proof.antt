@@ -1,5 +1,4 @@
 -- `sheet::figure::open_ticks` meets its contract: nothing is open where the last time is before `since`.
--- Assumes nothing.
 use native.Mathlib.Omega.{arith}
 use borrow.Author.Needs.{needs}
 use Rattle.sheet.specs.Figure.{openAt}

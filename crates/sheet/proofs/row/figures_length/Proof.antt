@@ -1,5 +1,4 @@
 -- `sheet::row::figures_length` meets its contract: the digits of each figure, and a blank for each. No sum wraps, since the figures are short.
--- Assumes nothing.
 use mathlib.Core.Path.{_≡_}
 use mathlib.Core.List.{List}
 use Prim.Native.Nat.{ℕ, _+_, _≤_}

@@ -1,5 +1,4 @@
 -- `sheet::row::put_figures` meets its contract: the figures are put one after another, and all have room.
--- Assumes nothing.
 use mathlib.Core.Path.{_≡_}
 use mathlib.Core.List.{[], _∷_}
 use Prim.Native.Nat.{ℕ, _+_, _≤_}

@@ -1,5 +1,4 @@
 -- `sheet::row::put_row` meets its contract: the name, the figures and the end are put one after another, and each has room since the line has.
--- Assumes nothing.
 use mathlib.Core.Path.{_≡_}
 use mathlib.Core.List.{[], _∷_, _++_}
 use Prim.Native.Nat.{_≤_, _<_}

@@ -1,5 +1,4 @@
 -- `sheet::row::row_length` meets its contract: the name, the figures and the end. No sum wraps, since a line is short.
--- Assumes nothing.
 use mathlib.Core.Path.{_≡_}
 use Prim.Native.Nat.{_+_, _≤_}
 use native.Mathlib.Omega.{arith}

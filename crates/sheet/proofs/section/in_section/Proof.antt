@@ -1,5 +1,4 @@
 -- `sheet::section::in_section` meets its contract: one kind, or one of two.
--- Assumes nothing.
 use borrow.Author.Needs.{needs}
 use Rattle.sheet.proofs.section.in_section.Statement.{statement}
 use Rattle.sheet.proofs.section.in_section.Tie as tie

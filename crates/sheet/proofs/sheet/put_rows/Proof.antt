@@ -1,5 +1,4 @@
 -- `sheet::sheet::put_rows` meets its contract. The invariant: the lines of the first i rows are put.
--- Assumes nothing.
 use mathlib.Core.Path.{_≡_, sym, _∙_}
 use mathlib.Core.Logic.{⊎-elim}
 use Prim.Native.Nat.{_-_, _≤_}

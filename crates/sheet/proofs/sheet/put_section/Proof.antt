@@ -1,6 +1,5 @@
 -- `sheet::sheet::put_section` meets its contract: the title, the count, an end and the lines are put one after another, and each has room since the
 -- section has.
--- Assumes nothing.
 use mathlib.Core.Path.{_≡_}
 use mathlib.Core.List.{List, [], _∷_, _++_}
 use native.Mathlib.Omega.{arith}

@@ -1,5 +1,4 @@
 -- `sheet::sheet::rows_count` meets its contract. The invariant: the count is that of the first i rows.
--- Assumes nothing.
 use mathlib.Core.Path.{_≡_, refl, sym, _∙_}
 use mathlib.Core.Logic.{⊎-elim}
 use Prim.Native.Nat.{_-_, _≤_}

@@ -1,6 +1,5 @@
 -- `sheet::sheet::rows_length` meets its contract. The invariant: the sum is the length of the lines of the first i rows. It does not wrap, since
 -- each line is short.
--- Assumes nothing.
 use mathlib.Core.Path.{_≡_, refl, sym, _∙_}
 use mathlib.Core.Logic.{⊎-elim}
 use Prim.Native.Nat.{_-_, _≤_}

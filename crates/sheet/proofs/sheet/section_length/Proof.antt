@@ -1,6 +1,5 @@
 -- `sheet::sheet::section_length` meets its contract: the title, the digits of the count, an end and the lines. No sum wraps, since a section is
 -- short.
--- Assumes nothing.
 use mathlib.Core.Path.{_≡_}
 use mathlib.Core.List.{List}
 use Prim.Native.Nat.{ℕ, _+_, _≤_}

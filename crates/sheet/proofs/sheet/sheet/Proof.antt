@@ -1,5 +1,4 @@
 -- `sheet::sheet::sheet` meets its contract: refused tables and a sheet that does not fit leave the output as it was, and any other sheet is put.
--- Assumes nothing.
 use mathlib.Core.Path.{_≡_, sym, _∙_}
 use mathlib.Core.List.{List, [], _∷_}
 use Prim.Native.Nat.{ℕ, _+_, _≤_}

@@ -1,4 +1,4 @@
--- `store::take::before_tracked` meets its contract: 0 at the first event, else the gap. Assumes nothing.
+-- `store::take::before_tracked` meets its contract: 0 at the first event, else the gap.
 use borrow.Author.Tests.{eq-eqb, ne-eqb}
 use borrow.Author.Needs.{needs}
 use Rattle.store.proofs.take.before_tracked.Statement.{statement}

@@ -1,4 +1,4 @@
--- `store::take::instance_row` meets its contract: the row found, or as many rows as there are. Assumes nothing.
+-- `store::take::instance_row` meets its contract: the row found, or as many rows as there are.
 use native.Mathlib.Omega.{arith}
 use borrow.Author.Needs.{needs}
 use Rattle.tables.specs.Entry.{instancesIndex}

@@ -1,4 +1,4 @@
--- `store::take::new_core` meets its contract: the number fits, since it is 0 or 1. Assumes nothing.
+-- `store::take::new_core` meets its contract: the number fits, since it is 0 or 1.
 use mathlib.Core.Bool.{not}
 use native.Mathlib.Omega.{arith}
 use lib.Dec.{eqb}

@@ -1,4 +1,4 @@
--- `store::take::new_name` meets its contract: the number fits, since it is 0 or 1. Assumes nothing.
+-- `store::take::new_name` meets its contract: the number fits, since it is 0 or 1.
 use native.Mathlib.Omega.{arith}
 use borrow.Author.Needs.{needs}
 use Rattle.decide.proofs.Counts.{one-at-most}

@@ -1,5 +1,5 @@
 -- `store::take::settle` meets its contract: where both rows are ones of their columns, class 1 adds to the idle ticks, class 2 to the held ticks
--- of the core and of its holder. Assumes nothing.
+-- of the core and of its holder.
 use native.Mathlib.Omega.{arith}
 use lib.ListN.{length-set}
 use borrow.Author.Tests.{eq-eqb, ne-eqb, le-ltb, lt-ltb}

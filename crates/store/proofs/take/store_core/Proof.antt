@@ -1,4 +1,4 @@
--- `store::take::store_core` meets its contract: no store for class 0, the state idle for class 2, and else the holder. Assumes nothing.
+-- `store::take::store_core` meets its contract: no store for class 0, the state idle for class 2, and else the holder.
 use borrow.Author.Tests.{eq-eqb, ne-eqb}
 use borrow.Author.Needs.{needs}
 use Rattle.store.specs.Store.{withCore}

@@ -1,4 +1,4 @@
--- `store::take::store_heads` meets its contract: each count is read after the stores before it, which leave it as it was. Assumes nothing.
+-- `store::take::store_heads` meets its contract: each count is read after the stores before it, which leave it as it was.
 use native.Mathlib.Omega.{arith}
 use lib.ListN.{length-set}
 use borrow.Author.Needs.{needs}

@@ -1,4 +1,4 @@
--- `store::take::store_holder` meets its contract: two stores where both rows are ones of the names. Assumes nothing.
+-- `store::take::store_holder` meets its contract: two stores where both rows are ones of the names.
 use native.Mathlib.Omega.{arith}
 use lib.ListN.{length-set}
 use borrow.Author.Tests.{le-ltb, lt-ltb}

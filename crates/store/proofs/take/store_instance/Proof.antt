@@ -1,4 +1,4 @@
--- `store::take::store_instance` meets its contract: three stores where both rows are ones of their columns. Assumes nothing.
+-- `store::take::store_instance` meets its contract: three stores where both rows are ones of their columns.
 use native.Mathlib.Omega.{arith}
 use lib.ListN.{length-set}
 use borrow.Author.Tests.{le-ltb, lt-ltb}

@@ -1,4 +1,4 @@
--- `store::take::store_mark` meets its contract: one store where the row is one of a name. Assumes nothing.
+-- `store::take::store_mark` meets its contract: one store where the row is one of a name.
 use borrow.Author.Tests.{le-ltb, lt-ltb}
 use borrow.Author.Needs.{needs}
 use Rattle.tables.specs.Entry.{nameRows}

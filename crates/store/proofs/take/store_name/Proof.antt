@@ -1,4 +1,4 @@
--- `store::take::store_name` meets its contract: the bytes are put where the row is one of a name. Assumes nothing.
+-- `store::take::store_name` meets its contract: the bytes are put where the row is one of a name.
 use mathlib.Core.Path.{ap}
 use borrow.Author.Tests.{le-ltb, lt-ltb}
 use borrow.Author.Needs.{needs}

@@ -1,4 +1,4 @@
--- `store::take::store_rows` meets its contract: the row of a new core, and after it the row of a new target. Assumes nothing.
+-- `store::take::store_rows` meets its contract: the row of a new core, and after it the row of a new target.
 use mathlib.Core.Path.{_≡_, _∙_, ap}
 use mathlib.Core.Bool.{cond}
 use mathlib.Core.List.{List}

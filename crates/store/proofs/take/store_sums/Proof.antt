@@ -1,4 +1,4 @@
--- `store::take::store_sums` meets its contract: four stores where the row is one of a name. Assumes nothing.
+-- `store::take::store_sums` meets its contract: four stores where the row is one of a name.
 use native.Mathlib.Omega.{arith}
 use lib.ListN.{length-set}
 use borrow.Author.Tests.{le-ltb, lt-ltb}

@@ -1,5 +1,5 @@
 -- `store::take::store_target` meets its contract: a semaphore's state and count; else the instance of a type with instances, and after it the
--- number of an event that numbers. Assumes nothing.
+-- number of an event that numbers.
 use mathlib.Core.Path.{_≡_, sym, _∙_, ap}
 use mathlib.Core.Bool.{cond}
 use mathlib.Core.List.{List}

@@ -1,4 +1,4 @@
--- `store::take::store_times` meets its contract: the first time is stored at the first event only, the last time always. Assumes nothing.
+-- `store::take::store_times` meets its contract: the first time is stored at the first event only, the last time always.
 use mathlib.Core.Path.{_≡_, _∙_, ap}
 use mathlib.Core.Logic.{⊎-elim}
 use native.Mathlib.Omega.{arith}

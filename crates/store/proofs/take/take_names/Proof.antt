@@ -1,4 +1,4 @@
--- `store::take::take_names` meets its contract: the bytes of a new core, and after them those of a new target. Assumes nothing.
+-- `store::take::take_names` meets its contract: the bytes of a new core, and after them those of a new target.
 use mathlib.Core.Path.{_≡_, _∙_, ap}
 use mathlib.Core.Bool.{cond}
 use mathlib.Core.List.{List}

@@ -1,4 +1,4 @@
--- `store::take::take_nums` meets its contract: the stores one after another, with the rows as they were before them. Assumes nothing.
+-- `store::take::take_nums` meets its contract: the stores one after another, with the rows as they were before them.
 use mathlib.Core.Bool.{not}
 use native.Mathlib.Omega.{arith}
 use lib.Dec.{eqb}

@@ -1,4 +1,4 @@
--- `store::take::take_ticks` meets its contract: the stores one after another, with the rows as they were before them. Assumes nothing.
+-- `store::take::take_ticks` meets its contract: the stores one after another, with the rows as they were before them.
 use mathlib.Core.Path.{_∙_}
 use borrow.Author.Needs.{needs}
 use Rattle.store.specs.Store.{takenTicks}

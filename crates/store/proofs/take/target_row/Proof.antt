@@ -1,4 +1,4 @@
--- `store::take::target_row` meets its contract: the row found, or the one after the rows that there are and the core's. Assumes nothing.
+-- `store::take::target_row` meets its contract: the row found, or the one after the rows that there are and the core's.
 use mathlib.Core.Bool.{not}
 use native.Mathlib.Omega.{arith}
 use lib.Dec.{eqb}

@@ -1,5 +1,4 @@
 -- `tables::find::eight_have` meets its contract. The invariant: where none was the instance yet, its last row is the one below `from`.
--- Assumes nothing.
 use mathlib.Core.Path.{_≡_}
 use mathlib.Core.Bool.{false, _&&_}
 use Prim.Native.Nat.{_+_, _-_, _≤_}

@@ -1,5 +1,4 @@
 -- `tables::find::ends_differ` meets its contract. The invariant: where two bytes differed, no row i of any lengths holds the name.
--- Assumes nothing.
 use mathlib.Core.Path.{_≡_}
 use mathlib.Core.Bool.{true, false}
 use mathlib.Core.List.{List}

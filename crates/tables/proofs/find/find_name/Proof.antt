@@ -1,5 +1,4 @@
 -- `tables::find::find_name` meets its contract: in tables of another size nothing is found, in any other the first row that holds the name.
--- Assumes nothing.
 use mathlib.Core.Path.{sym, _∙_}
 use native.Mathlib.Omega.{arith}
 use borrow.Author.Needs.{needs}

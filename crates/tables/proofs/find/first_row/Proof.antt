@@ -1,5 +1,4 @@
 -- `tables::find::first_row` meets its contract. The invariant: the first row that holds the name is the first such row from `from` on.
--- Assumes nothing.
 use mathlib.Core.Path.{_≡_, sym, _∙_}
 use Prim.Native.Nat.{_-_}
 use native.Mathlib.Nat.{sub-zero}

@@ -1,5 +1,4 @@
 -- `tables::find::instance_is` meets its contract: at each exit the tests passed say what the definition's tests say.
--- Assumes nothing.
 use mathlib.Core.Path.{refl}
 use borrow.Author.Needs.{needs}
 use borrow.Author.Tests.{lt-ltb, le-ltb, eq-eqb, ne-eqb}

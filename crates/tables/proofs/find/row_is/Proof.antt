@@ -1,5 +1,4 @@
 -- `tables::find::row_is` meets its contract: at each exit the tests passed say what the definition's tests say.
--- Assumes nothing.
 use mathlib.Core.Path.{ap, _∙_}
 use mathlib.Core.List.{List}
 use Prim.Native.Nat.{ℕ, _+_}

@@ -1,5 +1,4 @@
 -- `tables::find::skip_names` meets its contract. The invariant: the first row that holds the name from `from` on is the first from `i` on.
--- Assumes nothing.
 use mathlib.Core.Path.{_≡_, refl, _∙_}
 use mathlib.Core.List.{List}
 use Prim.Native.Nat.{ℕ, _-_, _≤_}

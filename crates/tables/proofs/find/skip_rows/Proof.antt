@@ -1,5 +1,4 @@
 -- `tables::find::skip_rows` meets its contract. The invariant: the instance's last row below `to` is its last row below `j`.
--- Assumes nothing.
 use mathlib.Core.Path.{_≡_, refl, _∙_}
 use Prim.Native.Nat.{_+_, _-_, _≤_}
 use native.Mathlib.Omega.{arith}

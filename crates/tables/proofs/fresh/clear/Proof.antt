@@ -1,5 +1,4 @@
 -- `tables::fresh::clear` meets its contract: 15 by the sizes, with nothing written, else every entry of the three tables is 0.
--- Assumes nothing.
 use borrow.Author.Needs.{needs}
 use Rattle.tables.specs.Fresh.{clearedOf}
 use Rattle.tables.proofs.Chains.{passed, failed}

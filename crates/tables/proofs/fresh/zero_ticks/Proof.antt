@@ -1,5 +1,4 @@
 -- `tables::fresh::zero_ticks` meets its contract. The invariant: the entries before `i` are 0, and the others are as they were.
--- Assumes nothing.
 use Prim.Native.Nat.{_-_}
 use borrow.Author.Needs.{needs}
 use lib.ListN.{length}

@@ -1,5 +1,4 @@
 -- `tables::range::bytes_ok` meets its contract: at each exit the tests passed say what the definition's tests say.
--- Assumes nothing.
 use mathlib.Core.Path.{ap, _∙_}
 use Prim.Native.Nat.{_+_}
 use native.Mathlib.Omega.{arith}

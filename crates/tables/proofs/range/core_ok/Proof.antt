@@ -1,5 +1,4 @@
 -- `tables::range::core_ok` meets its contract: below 2 the state is idle or none, and from 2 on it names a holder.
--- Assumes nothing.
 use borrow.Author.Needs.{needs}
 use borrow.Author.Tests.{lt-ltb, le-ltb}
 use Rattle.tables.specs.Range.{coreOk}

@@ -1,5 +1,4 @@
 -- `tables::range::in_range` meets its contract: with wrong counts the definition's test fails, and with right ones its other tests are left.
--- Assumes nothing.
 use mathlib.Core.Bool.{and-false}
 use borrow.Author.Needs.{needs}
 use Rattle.tables.specs.Range.{Counted, inRange}

@@ -1,5 +1,4 @@
 -- `tables::range::instance_ok` meets its contract: at each exit the tests passed say what the definition's tests say.
--- Assumes nothing.
 use borrow.Author.Needs.{needs}
 use borrow.Author.Tests.{lt-ltb, le-ltb}
 use Rattle.tables.specs.Range.{instanceOk}

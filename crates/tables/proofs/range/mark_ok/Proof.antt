@@ -1,5 +1,4 @@
 -- `tables::range::mark_ok` meets its contract: at each exit the tests passed say what the definition's tests say.
--- Assumes nothing.
 use borrow.Author.Needs.{needs}
 use borrow.Author.Tests.{eq-eqb, ne-eqb}
 use Rattle.rules.specs.Words.{core, semaphore}

@@ -1,5 +1,4 @@
 -- `tables::range::name_ok` meets its contract: its tests and those of the functions called are the definition's.
--- Assumes nothing.
 use borrow.Author.Needs.{needs}
 use Rattle.tables.specs.Range.{nameOk}
 use Rattle.tables.proofs.range.name_ok.Statement.{statement}

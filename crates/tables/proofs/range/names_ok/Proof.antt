@@ -1,5 +1,4 @@
 -- `tables::range::names_ok` meets its contract. The invariant: every row before `i` passes.
--- Assumes nothing.
 use mathlib.Core.Path.{_≡_, sym}
 use mathlib.Core.Bool.{true}
 use Prim.Native.Nat.{ℕ, _-_, _≤_, _<_}

@@ -1,5 +1,4 @@
 -- `tables::range::sized` meets its contract: at each exit the tests passed say what the definition's tests say.
--- Assumes nothing.
 use mathlib.Core.Path.{refl}
 use borrow.Author.Tests.{eq-eqb, ne-eqb}
 use Rattle.tables.specs.Sized.{isSized}

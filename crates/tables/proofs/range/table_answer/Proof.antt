@@ -1,5 +1,4 @@
 -- `tables::range::table_answer` meets its contract: 15 by the sizes, else 0 or 16 by the ranges.
--- Assumes nothing.
 use borrow.Author.Needs.{needs}
 use Rattle.tables.specs.Range.{tableAnswer}
 use Rattle.tables.proofs.Chains.{passed, failed}

@@ -1,5 +1,4 @@
 -- `tables::range::times_ok` meets its contract: its tests are the definition's.
--- Assumes nothing.
 use mathlib.Core.Path.{refl}
 use borrow.Author.Needs.{needs}
 use Rattle.tables.specs.Range.{timesOk}

@@ -1,5 +1,4 @@
 -- `tables::state::of_process` meets its contract: its tests are the chart's at every number.
--- Assumes nothing.
 use Rattle.tables.proofs.States.{process-states}
 use Rattle.tables.proofs.state.of_process.Statement.{statement}
 use Rattle.tables.proofs.state.of_process.Tie as tie

@@ -1,5 +1,4 @@
 -- `tables::state::of_runnable` meets its contract: its tests are the chart's at every number.
--- Assumes nothing.
 use Rattle.tables.proofs.States.{runnable-states}
 use Rattle.tables.proofs.state.of_runnable.Statement.{statement}
 use Rattle.tables.proofs.state.of_runnable.Tie as tie

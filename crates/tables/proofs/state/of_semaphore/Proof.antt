@@ -1,5 +1,4 @@
 -- `tables::state::of_semaphore` meets its contract: its tests are the chart's at every number.
--- Assumes nothing.
 use Rattle.tables.proofs.States.{semaphore-states}
 use Rattle.tables.proofs.state.of_semaphore.Statement.{statement}
 use Rattle.tables.proofs.state.of_semaphore.Tie as tie

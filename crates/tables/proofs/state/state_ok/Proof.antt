@@ -1,5 +1,4 @@
 -- `tables::state::state_ok` meets its contract: a process has the states of its chart, and of the other kinds a runnable alone has any.
--- Assumes nothing.
 use mathlib.Core.Path.{sym, _∙_}
 use borrow.Author.Needs.{needs}
 use Rattle.tables.proofs.States.{of-process, of-others}

@@ -1,5 +1,5 @@
 -- `walk::lines::line_between` meets its contract: the second place is not past the first, is past the end of the chunk, or a line's bytes lie
--- between. Assumes nothing.
+-- between.
 use borrow.Author.Needs.{needs}
 use native.Mathlib.Omega.{arith}
 use Rattle.walk.proofs.Nexts.{between-back, between-past, between-some, between-ends}

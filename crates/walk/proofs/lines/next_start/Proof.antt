@@ -1,5 +1,4 @@
 -- `walk::lines::next_start` meets its contract: what `find` returned is past the end, or the byte 10 before the place that it answers.
--- Assumes nothing.
 use borrow.Author.Needs.{needs}
 use Rattle.walk.proofs.Nexts.{found-none, found-some}
 use Rattle.walk.proofs.lines.next_start.Statement.{statement}

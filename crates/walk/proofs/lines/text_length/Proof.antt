@@ -1,4 +1,4 @@
--- `walk::lines::text_length` meets its contract: there is no byte, the last is a byte 13, or it is another. Assumes nothing.
+-- `walk::lines::text_length` meets its contract: there is no byte, the last is a byte 13, or it is another.
 use borrow.Author.Needs.{needs}
 use native.Mathlib.Omega.{arith}
 use Rattle.walk.proofs.Cuts.{text-front, text-cr, text-plain}

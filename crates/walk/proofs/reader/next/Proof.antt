@@ -2,7 +2,6 @@
 -- a local. Then `line_between` is called on the slice and the number of the one and the number of the other. All that the proof knows of `step`
 -- and of `line_between` is that each meets its contract; that what lies between the two places is the next line is a law (`between-next`).
 -- What the struct owns is kept for the exit (`Held.antt`), and the lifetime's token comes back from each call.
--- Assumes nothing.
 use mathlib.Core.Path.{_≡_, refl, ap, _∙_}
 use Prim.Native.Nat.{ℕ, _<_, _^_}
 use mathlib.Core.List.{[], _∷_}

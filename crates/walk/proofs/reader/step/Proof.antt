@@ -2,7 +2,6 @@
 -- number, and a struct is made anew of the slice and what it returned. All that the proof knows of `next_start` is that it meets its contract.
 -- What the struct owns is kept (`Held.antt`). At exit it is had twice, and one of the two, with the facts of the new number in the place of
 -- at's, is what the result owns.
--- Assumes nothing.
 use mathlib.Core.Path.{_≡_, refl, ap}
 use Prim.Native.Nat.{ℕ, _<_, _^_}
 use mathlib.Core.List.{[], _∷_}
