@@ -62,7 +62,8 @@ fn one_read(
     have: usize,
 ) -> Step
     requires { ⌜ (have ≤ 1024) × (length (now buf) ≡ bufferSize) ⌝ }
-    ensures { λ r. ⌜ Stepped r have (tables (now (names .entry)) (now (nums .entry)) (now (ticks .entry))) (now (buf .entry)) (tables (now (names .exit)) (now (nums .exit)) (now (ticks .exit))) (now (buf .exit)) ⌝ }
+    ensures { λ r. ⌜ Stepped r have (tables (now (names .entry)) (now (nums .entry)) (now (ticks .entry))) (now (buf .entry))
+        (tables (now (names .exit)) (now (nums .exit)) (now (ticks .exit))) (now (buf .exit)) ⌝ }
 {
     let got = fill(buf, have);
     match got {
@@ -83,7 +84,8 @@ fn one_read(
 // Reads until the input ends, a line is refused or a read fails.
 fn read_to_end(names: &mut [u8], nums: &mut [u32], ticks: &mut [u64], buf: &mut [u8]) -> Input
     requires { ⌜ inputRefusal (tables (now names) (now nums) (now ticks)) (now buf) ≡ 0 ⌝ }
-    ensures { λ r. ⌜ Taken r (tables (now (names .entry)) (now (nums .entry)) (now (ticks .entry))) (now (buf .entry)) (tables (now (names .exit)) (now (nums .exit)) (now (ticks .exit))) (now (buf .exit)) ⌝ }
+    ensures { λ r. ⌜ Taken r (tables (now (names .entry)) (now (nums .entry)) (now (ticks .entry))) (now (buf .entry))
+        (tables (now (names .exit)) (now (nums .exit)) (now (ticks .exit))) (now (buf .exit)) ⌝ }
 {
     let mut have: usize = 0;
     let mut total: u64 = 0;
@@ -120,7 +122,8 @@ fn input_refusal(names: &[u8], nums: &[u32], ticks: &[u64], buf: &[u8]) -> u32
 
 // All of standard input into the tables as they are, over a buffer of 64 KiB.
 pub fn read_all(names: &mut [u8], nums: &mut [u32], ticks: &mut [u64], buf: &mut [u8]) -> Input
-    ensures { λ r. ⌜ Taken r (tables (now (names .entry)) (now (nums .entry)) (now (ticks .entry))) (now (buf .entry)) (tables (now (names .exit)) (now (nums .exit)) (now (ticks .exit))) (now (buf .exit)) ⌝ }
+    ensures { λ r. ⌜ Taken r (tables (now (names .entry)) (now (nums .entry)) (now (ticks .entry))) (now (buf .entry))
+        (tables (now (names .exit)) (now (nums .exit)) (now (ticks .exit))) (now (buf .exit)) ⌝ }
 {
     let n = input_refusal(names, nums, ticks, buf);
     if n != 0 {

@@ -37,7 +37,8 @@ fn text_from_fresh(
     out: &mut [u8],
 ) -> Answer
     requires { ⌜ lentRefusal (lent (now names) (now nums) (now ticks) (now buf) (now out)) ≡ 0 ⌝ }
-    ensures { λ r. ⌜ Answered r (lent (now (names .entry)) (now (nums .entry)) (now (ticks .entry)) (now (buf .entry)) (now (out .entry))) (lent (now (names .exit)) (now (nums .exit)) (now (ticks .exit)) (now (buf .exit)) (now (out .exit))) ⌝ }
+    ensures { λ r. ⌜ Answered r (lent (now (names .entry)) (now (nums .entry)) (now (ticks .entry)) (now (buf .entry)) (now (out .entry)))
+        (lent (now (names .exit)) (now (nums .exit)) (now (ticks .exit)) (now (buf .exit)) (now (out .exit))) ⌝ }
 {
     fresh(names, nums, ticks);
     let input = read_all(names, nums, ticks, buf);
@@ -61,7 +62,8 @@ pub fn text_of_input(
     buf: &mut [u8],
     out: &mut [u8],
 ) -> Answer
-    ensures { λ r. ⌜ Answered r (lent (now (names .entry)) (now (nums .entry)) (now (ticks .entry)) (now (buf .entry)) (now (out .entry))) (lent (now (names .exit)) (now (nums .exit)) (now (ticks .exit)) (now (buf .exit)) (now (out .exit))) ⌝ }
+    ensures { λ r. ⌜ Answered r (lent (now (names .entry)) (now (nums .entry)) (now (ticks .entry)) (now (buf .entry)) (now (out .entry)))
+        (lent (now (names .exit)) (now (nums .exit)) (now (ticks .exit)) (now (buf .exit)) (now (out .exit))) ⌝ }
 {
     let n = size_refusal(names.len(), nums.len(), ticks.len(), buf.len(), out.len());
     if n != 0 {

@@ -6,7 +6,8 @@ ghost use Rattle.walk.specs.Lines.{wholeLines, usedUp};
 ghost use Rattle.fields.specs.Part.{commasOf};
 ghost use Rattle.tables.specs.Entry.{firstTime, lastTime, numsSize, ticksSize};
 ghost use Rattle.tables.specs.Sized.{Sized};
-ghost use Rattle.judge.specs.Feed.{tables, after, placeIn, remembered, counted, eventLined, readLined, lined, fedLine, allLined, chunked, fedChunk, verdictIn, verdictOf, traced, judgedTrace};
+ghost use Rattle.judge.specs.Feed.{tables, after, placeIn, remembered, counted, eventLined, readLined, lined, fedLine, allLined, chunked, fedChunk};
+ghost use Rattle.judge.specs.Feed.{verdictIn, verdictOf, traced, judgedTrace};
 use bill::scale::scale_number;
 use bill::verdict::Verdict;
 use decide::happening::to_rules;
@@ -87,7 +88,8 @@ fn event_in(
     count: u32,
 ) -> u32
     requires { ⌜ Sized (now names) (now nums) (now ticks) × (c ≡ commasOf (now l)) ⌝ }
-    ensures { λ r. ⌜ after r (now (names .exit)) (now (nums .exit)) (now (ticks .exit)) ≡ eventLined (tables (now (names .entry)) (now (nums .entry)) (now (ticks .entry))) (now (l .entry)) e count ⌝ }
+    ensures { λ r. ⌜ after r (now (names .exit)) (now (nums .exit)) (now (ticks .exit))
+        ≡ eventLined (tables (now (names .entry)) (now (nums .entry)) (now (ticks .entry))) (now (l .entry)) e count ⌝ }
 {
     let h = to_rules(e, count);
     let source = between(l, c.c1, c.c2);
@@ -112,7 +114,8 @@ fn read_in(
     r: Reading,
 ) -> u32
     requires { ⌜ Sized (now names) (now nums) (now ticks) × (c ≡ commasOf (now l)) ⌝ }
-    ensures { λ n. ⌜ after n (now (names .exit)) (now (nums .exit)) (now (ticks .exit)) ≡ readLined r (tables (now (names .entry)) (now (nums .entry)) (now (ticks .entry))) (now (l .entry)) ⌝ }
+    ensures { λ n. ⌜ after n (now (names .exit)) (now (nums .exit)) (now (ticks .exit))
+        ≡ readLined r (tables (now (names .entry)) (now (nums .entry)) (now (ticks .entry))) (now (l .entry)) ⌝ }
 {
     match r {
         Reading::Version => count_line(nums),
@@ -128,7 +131,8 @@ fn read_in(
 // A line against tables of the right sizes.
 fn line_in(names: &mut [u8], nums: &mut [u32], ticks: &mut [u64], l: &[u8]) -> u32
     requires { ⌜ Sized (now names) (now nums) (now ticks) ⌝ }
-    ensures { λ r. ⌜ after r (now (names .exit)) (now (nums .exit)) (now (ticks .exit)) ≡ lined (tables (now (names .entry)) (now (nums .entry)) (now (ticks .entry))) (now (l .entry)) ⌝ }
+    ensures { λ r. ⌜ after r (now (names .exit)) (now (nums .exit)) (now (ticks .exit))
+        ≡ lined (tables (now (names .entry)) (now (nums .entry)) (now (ticks .entry))) (now (l .entry)) ⌝ }
 {
     let v = nums[VERDICT];
     if v != 0 {
@@ -146,7 +150,8 @@ fn line_in(names: &mut [u8], nums: &mut [u32], ticks: &mut [u64], l: &[u8]) -> u
 
 // One line without its end.
 pub fn feed(names: &mut [u8], nums: &mut [u32], ticks: &mut [u64], l: &[u8]) -> u32
-    ensures { λ r. ⌜ after r (now (names .exit)) (now (nums .exit)) (now (ticks .exit)) ≡ fedLine (tables (now (names .entry)) (now (nums .entry)) (now (ticks .entry))) (now (l .entry)) ⌝ }
+    ensures { λ r. ⌜ after r (now (names .exit)) (now (nums .exit)) (now (ticks .exit))
+        ≡ fedLine (tables (now (names .entry)) (now (nums .entry)) (now (ticks .entry))) (now (l .entry)) ⌝ }
 {
     let t = table_answer(names, nums, ticks);
     if t != 0 {
@@ -158,7 +163,9 @@ pub fn feed(names: &mut [u8], nums: &mut [u32], ticks: &mut [u64], l: &[u8]) -> 
 // Every whole line of a chunk in turn, and how many bytes they took.
 fn lines_in(names: &mut [u8], nums: &mut [u32], ticks: &mut [u64], chunk: &[u8]) -> usize
     requires { ⌜ Sized (now names) (now nums) (now ticks) ⌝ }
-    ensures { λ r. ⌜ (r ≡ usedUp (now (chunk .entry))) × (tables (now (names .exit)) (now (nums .exit)) (now (ticks .exit)) ≡ allLined (tables (now (names .entry)) (now (nums .entry)) (now (ticks .entry))) (wholeLines (now (chunk .entry)))) ⌝ }
+    ensures { λ r. ⌜ (r ≡ usedUp (now (chunk .entry)))
+        × (tables (now (names .exit)) (now (nums .exit)) (now (ticks .exit))
+        ≡ allLined (tables (now (names .entry)) (now (nums .entry)) (now (ticks .entry))) (wholeLines (now (chunk .entry)))) ⌝ }
 {
     let mut at = 0;
     loop {
@@ -173,7 +180,8 @@ fn lines_in(names: &mut [u8], nums: &mut [u32], ticks: &mut [u64], chunk: &[u8])
 
 // Every whole line of a chunk in turn; the tables are tested once.
 pub fn feed_chunk(names: &mut [u8], nums: &mut [u32], ticks: &mut [u64], chunk: &[u8]) -> Fed
-    ensures { λ r. ⌜ chunked r (now (names .exit)) (now (nums .exit)) (now (ticks .exit)) ≡ fedChunk (tables (now (names .entry)) (now (nums .entry)) (now (ticks .entry))) (now (chunk .entry)) ⌝ }
+    ensures { λ r. ⌜ chunked r (now (names .exit)) (now (nums .exit)) (now (ticks .exit))
+        ≡ fedChunk (tables (now (names .entry)) (now (nums .entry)) (now (ticks .entry))) (now (chunk .entry)) ⌝ }
 {
     let t = table_answer(names, nums, ticks);
     if t != 0 {
@@ -254,7 +262,8 @@ pub fn verdict_now(names: &[u8], nums: &[u32], ticks: &[u64]) -> Verdict
 
 // A fresh start and every line of a whole trace, the last one with or without its end; the verdict.
 pub fn judge(names: &mut [u8], nums: &mut [u32], ticks: &mut [u64], trace: &[u8]) -> Verdict
-    ensures { λ r. ⌜ traced r (now (names .exit)) (now (nums .exit)) (now (ticks .exit)) ≡ judgedTrace (tables (now (names .entry)) (now (nums .entry)) (now (ticks .entry))) (now (trace .entry)) ⌝ }
+    ensures { λ r. ⌜ traced r (now (names .exit)) (now (nums .exit)) (now (ticks .exit))
+        ≡ judgedTrace (tables (now (names .entry)) (now (nums .entry)) (now (ticks .entry))) (now (trace .entry)) ⌝ }
 {
     let t = clear(names, nums, ticks);
     if t != 0 {

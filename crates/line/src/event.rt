@@ -118,7 +118,8 @@ fn read_fields(
     plain: bool,
 ) -> Reading
     requires { ⌜ (plain ≡ true → PlainFields (now source) (now target) (now note)) ⌝ }
-    ensures { λ r. ⌜ r ≡ fieldsReading (now (time .entry)) (now (source .entry)) (now («from» .entry)) (now (kind .entry)) (now (target .entry)) (now (to .entry)) (now (action .entry)) (now (note .entry)) noted ⌝ }
+    ensures { λ r. ⌜ r ≡ fieldsReading (now (time .entry)) (now (source .entry)) (now («from» .entry))
+        (now (kind .entry)) (now (target .entry)) (now (to .entry)) (now (action .entry)) (now (note .entry)) noted ⌝ }
 {
     if !names(source, target, note, noted, plain) {
         return Reading::Refused(5);

@@ -36,7 +36,8 @@ fn carry_over(
     left: usize,
 ) -> Turn
     requires { ⌜ used + left ≤ length (now buf) ⌝ }
-    ensures { λ r. ⌜ turned r (now (names .exit)) (now (nums .exit)) (now (ticks .exit)) (now (buf .exit)) ≡ carriedOver (tables (now (names .entry)) (now (nums .entry)) (now (ticks .entry))) (take left (drop used (now (buf .entry)))) (now (buf .entry)) ⌝ }
+    ensures { λ r. ⌜ turned r (now (names .exit)) (now (nums .exit)) (now (ticks .exit)) (now (buf .exit))
+        ≡ carriedOver (tables (now (names .entry)) (now (nums .entry)) (now (ticks .entry))) (take left (drop used (now (buf .entry)))) (now (buf .entry)) ⌝ }
 {
     if 1024 < left {
         let end = used + left;
@@ -55,7 +56,8 @@ pub fn take_chunk(
     buf: &mut [u8],
     n: usize,
 ) -> Turn
-    ensures { λ r. ⌜ turned r (now (names .exit)) (now (nums .exit)) (now (ticks .exit)) (now (buf .exit)) ≡ chunkTaken (tables (now (names .entry)) (now (nums .entry)) (now (ticks .entry))) (now (buf .entry)) n ⌝ }
+    ensures { λ r. ⌜ turned r (now (names .exit)) (now (nums .exit)) (now (ticks .exit)) (now (buf .exit))
+        ≡ chunkTaken (tables (now (names .entry)) (now (nums .entry)) (now (ticks .entry))) (now (buf .entry)) n ⌝ }
 {
     let mut end = n;
     if buf.len() < n {
@@ -72,7 +74,8 @@ pub fn take_chunk(
 
 // At the end of input: what was carried over is the last line, where there is any.
 pub fn take_last(names: &mut [u8], nums: &mut [u32], ticks: &mut [u64], buf: &[u8], n: usize)
-    ensures { λ _. ⌜ tables (now (names .exit)) (now (nums .exit)) (now (ticks .exit)) ≡ lastTaken (tables (now (names .entry)) (now (nums .entry)) (now (ticks .entry))) (now (buf .entry)) n ⌝ }
+    ensures { λ _. ⌜ tables (now (names .exit)) (now (nums .exit)) (now (ticks .exit))
+        ≡ lastTaken (tables (now (names .entry)) (now (nums .entry)) (now (ticks .entry))) (now (buf .entry)) n ⌝ }
 {
     let mut end = n;
     if buf.len() < n {

@@ -41,7 +41,10 @@ fn put_figures(
     out: &mut [u8],
     at: usize,
 ) -> usize
-    requires { ⌜ (length (now nums) ≡ numsSize) × ((length (now ticks) ≡ ticksSize) × ((i < nameRows) × ((nameCount (now nums) ≤ nameRows) × (at + length (figuresText (figuresIn section (now nums) (now ticks) i)) ≤ length (now out))))) ⌝ }
+    requires { ⌜ (length (now nums) ≡ numsSize)
+        × ((length (now ticks) ≡ ticksSize)
+        × ((i < nameRows) × ((nameCount (now nums) ≤ nameRows)
+        × (at + length (figuresText (figuresIn section (now nums) (now ticks) i)) ≤ length (now out))))) ⌝ }
     ensures { λ r. ⌜ after r (now (out .exit)) ≡ put (now (out .entry)) at (figuresText (figuresIn section (now (nums .entry)) (now (ticks .entry)) i)) ⌝ }
 {
     match section {
@@ -79,8 +82,10 @@ pub(crate) fn put_row(
     out: &mut [u8],
     at: usize,
 ) -> usize
-    requires { ⌜ (tableAnswer (now names) (now nums) (now ticks) ≡ 0) × ((i < nameCount (now nums)) × (at + length (rowText (rowIn section (now names) (now nums) (now ticks) i)) ≤ length (now out))) ⌝ }
-    ensures { λ r. ⌜ after r (now (out .exit)) ≡ put (now (out .entry)) at (rowText (rowIn section (now (names .entry)) (now (nums .entry)) (now (ticks .entry)) i)) ⌝ }
+    requires { ⌜ (tableAnswer (now names) (now nums) (now ticks) ≡ 0)
+        × ((i < nameCount (now nums)) × (at + length (rowText (rowIn section (now names) (now nums) (now ticks) i)) ≤ length (now out))) ⌝ }
+    ensures { λ r. ⌜ after r (now (out .exit))
+        ≡ put (now (out .entry)) at (rowText (rowIn section (now (names .entry)) (now (nums .entry)) (now (ticks .entry)) i)) ⌝ }
 {
     let start = NAME_ROOM * i;
     let end = start + nums[LENGTH + i] as usize;

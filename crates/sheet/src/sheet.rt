@@ -68,8 +68,10 @@ fn put_rows(
     out: &mut [u8],
     at: usize,
 ) -> usize
-    requires { ⌜ (tableAnswer (now names) (now nums) (now ticks) ≡ 0) × (at + length (rowsText (rowsIn section (now names) (now nums) (now ticks))) ≤ length (now out)) ⌝ }
-    ensures { λ r. ⌜ after r (now (out .exit)) ≡ put (now (out .entry)) at (rowsText (rowsIn section (now (names .entry)) (now (nums .entry)) (now (ticks .entry)))) ⌝ }
+    requires { ⌜ (tableAnswer (now names) (now nums) (now ticks) ≡ 0)
+        × (at + length (rowsText (rowsIn section (now names) (now nums) (now ticks))) ≤ length (now out)) ⌝ }
+    ensures { λ r. ⌜ after r (now (out .exit))
+        ≡ put (now (out .entry)) at (rowsText (rowsIn section (now (names .entry)) (now (nums .entry)) (now (ticks .entry)))) ⌝ }
 {
     let n = nums[NAMES] as usize;
     let mut next = at;
@@ -102,8 +104,10 @@ fn put_section(
     out: &mut [u8],
     at: usize,
 ) -> usize
-    requires { ⌜ (tableAnswer (now names) (now nums) (now ticks) ≡ 0) × (at + length (sectionText (title section) (rowsIn section (now names) (now nums) (now ticks))) ≤ length (now out)) ⌝ }
-    ensures { λ r. ⌜ after r (now (out .exit)) ≡ put (now (out .entry)) at (sectionText (title section) (rowsIn section (now (names .entry)) (now (nums .entry)) (now (ticks .entry)))) ⌝ }
+    requires { ⌜ (tableAnswer (now names) (now nums) (now ticks) ≡ 0)
+        × (at + length (sectionText (title section) (rowsIn section (now names) (now nums) (now ticks))) ≤ length (now out)) ⌝ }
+    ensures { λ r. ⌜ after r (now (out .exit))
+        ≡ put (now (out .entry)) at (sectionText (title section) (rowsIn section (now (names .entry)) (now (nums .entry)) (now (ticks .entry)))) ⌝ }
 {
     let count = rows_count(names, nums, ticks, section);
     let one = put_title(section, out, at);

@@ -8,7 +8,8 @@ ghost use Rattle.tables.specs.Entry.{tables, namesSize, numsSize, ticksSize};
 ghost use Rattle.tables.specs.Sized.{Sized};
 ghost use Rattle.decide.specs.Happening.{asEvent};
 ghost use Rattle.decide.specs.Known.{newCore, newName, newInstance};
-ghost use Rattle.store.specs.Store.{coreRow, targetRow, instanceRow, storeName, storeRow, storeSums, storeInstance, storeMark, storeHolder, storeNumber, takenNames, withRows, withTarget, withCore, withHeads, takenNums, settled, withTimes, withSums, takenTicks, stored};
+ghost use Rattle.store.specs.Store.{coreRow, targetRow, instanceRow, storeName, storeRow, storeSums, storeInstance, storeMark, storeHolder, storeNumber};
+ghost use Rattle.store.specs.Store.{takenNames, withRows, withTarget, withCore, withHeads, takenNums, settled, withTimes, withSums, takenTicks, stored};
 use decide::happening::Happening;
 use decide::known::one_new;
 use decide::sight::Sight;
@@ -364,7 +365,9 @@ fn take_in(
     target: &[u8],
 )
     requires { ⌜ Sized (now names) (now nums) (now ticks) ⌝ }
-    ensures { λ _. ⌜ (now (names .exit) ≡ takenNames (now (names .entry)) (now (nums .entry)) s (asEvent h (now (source .entry)) (now (target .entry)))) × ((now (nums .exit) ≡ takenNums (now (nums .entry)) s state h (length (now (source .entry))) (length (now (target .entry)))) × (now (ticks .exit) ≡ takenTicks (now (ticks .entry)) (now (nums .entry)) s (h .kind) (h .time))) ⌝ }
+    ensures { λ _. ⌜ (now (names .exit) ≡ takenNames (now (names .entry)) (now (nums .entry)) s (asEvent h (now (source .entry)) (now (target .entry))))
+        × ((now (nums .exit) ≡ takenNums (now (nums .entry)) s state h (length (now (source .entry))) (length (now (target .entry))))
+        × (now (ticks .exit) ≡ takenTicks (now (ticks .entry)) (now (nums .entry)) s (h .kind) (h .time))) ⌝ }
 {
     take_names(names, nums, s, h, source, target);
     take_ticks(ticks, nums, s, h.kind, h.time);
@@ -382,7 +385,8 @@ pub fn take(
     source: &[u8],
     target: &[u8],
 )
-    ensures { λ _. ⌜ tables (now (names .exit)) (now (nums .exit)) (now (ticks .exit)) ≡ stored (tables (now (names .entry)) (now (nums .entry)) (now (ticks .entry))) s state h (now (source .entry)) (now (target .entry)) ⌝ }
+    ensures { λ _. ⌜ tables (now (names .exit)) (now (nums .exit)) (now (ticks .exit))
+        ≡ stored (tables (now (names .entry)) (now (nums .entry)) (now (ticks .entry))) s state h (now (source .entry)) (now (target .entry)) ⌝ }
 {
     if !sized(names.len(), nums.len(), ticks.len()) {
         return;

@@ -54,7 +54,8 @@ fn ends_differ(names: &[u8], name: &[u8], i: usize) -> bool
 // A row from `from` on before which none holds the name.
 fn skip_names(names: &[u8], name: &[u8], from: usize, to: usize) -> usize
     requires { ⌜ length (now names) ≡ namesSize ⌝ }
-    ensures { λ r. ⌜ («from» ≤ r) × ((nums : List ℕ) → firstFrom (rowIs (now (names .entry)) nums (now (name .entry))) «from» (to - «from») ≡ firstFrom (rowIs (now (names .entry)) nums (now (name .entry))) r (to - r)) ⌝ }
+    ensures { λ r. ⌜ («from» ≤ r) × ((nums : List ℕ) → firstFrom (rowIs (now (names .entry)) nums (now (name .entry))) «from» (to - «from»)
+        ≡ firstFrom (rowIs (now (names .entry)) nums (now (name .entry))) r (to - r)) ⌝ }
 {
     if name.len() < 4 {
         return from;
@@ -125,7 +126,8 @@ fn instance_is(nums: &[u32], owner: u32, number: u32, j: usize) -> bool
 // at with no exit between, so that they can be compared at once.
 fn eight_have(nums: &[u32], owner: u32, number: u32, from: usize) -> bool
     requires { ⌜ («from» + 8 ≤ instanceRows) × (length (now nums) ≡ numsSize) ⌝ }
-    ensures { λ r. ⌜ (r ≡ false → lastBelow (instanceIs (now (nums .entry)) owner number) («from» + 8) ≡ lastBelow (instanceIs (now (nums .entry)) owner number) «from») ⌝ }
+    ensures { λ r. ⌜ (r ≡ false → lastBelow (instanceIs (now (nums .entry)) owner number) («from» + 8)
+        ≡ lastBelow (instanceIs (now (nums .entry)) owner number) «from») ⌝ }
 {
     let mut have = false;
     let mut k = 0;
