@@ -24,7 +24,7 @@ use Rattle.rules.specs.Text.{traceText}
 use Rattle.judge.specs.Feed.{Tables, placeIn, freshTables}
 use Rattle.run.specs.Chunk.{going, stopped, readOn, atInputEnd}
 use Rattle.promises.specs.Fed.{joined}
-use Rattle.rules.proofs.First.{none-refused}
+use Rattle.rules.proofs.First.{zero-takes-all}
 use Rattle.promises.proofs.Judged.{after-lines, shows-taken}
 use Rattle.promises.proofs.Printed.{printed}
 use Rattle.promises.proofs.Reading.{all-read, printed-right, stopped-right}
@@ -72,7 +72,7 @@ lines-none s e =
 
 -- which is taken or refused
 all-taken : (ls : List (List ℕ)) → refusalOn [] ls .0 ≡ 0 → length (takenLines [] ls) ≡ length ls
-all-taken ls e = ap length (none-refused answerAt ls [] e) ∙ length-reverse ls
+all-taken ls e = ap length (zero-takes-all answerAt ls [] e) ∙ length-reverse ls
 
 -- so it shows in the tables: no bytes that came are dropped, an unfinished last line neither
 pub nothing-dropped : {n : ℕ} → Came n freshTables freshTables → n ≡ 0

@@ -23,10 +23,10 @@ module _ {A : Type 0} (answer : List A → A → ℕ) where
 
   -- ---- nothing refused
 
-  pub none-refused : (xs h : List A) → firstRefusal answer h xs .0 ≡ 0 → takenOf answer h xs ≡ reverseAux xs h
+  pub zero-takes-all : (xs h : List A) → firstRefusal answer h xs .0 ≡ 0 → takenOf answer h xs ≡ reverseAux xs h
   unfolding takenOf firstRefusal
-  none-refused [] h q = refl
-  none-refused (x ∷ xs) h q = by-answer (answer h x) q (none-refused xs (x ∷ h))
+  zero-takes-all [] h q = refl
+  zero-takes-all (x ∷ xs) h q = by-answer (answer h x) q (zero-takes-all xs (x ∷ h))
     where
       by-answer : (n : ℕ) → (ifZero n (firstRefusal answer (x ∷ h) xs) (n, length h + 1)) .0 ≡ 0 →
           (firstRefusal answer (x ∷ h) xs .0 ≡ 0 → takenOf answer (x ∷ h) xs ≡ reverseAux xs (x ∷ h)) → ifZero n (takenOf answer (x ∷ h) xs) h ≡ reverseAux xs (x ∷ h)

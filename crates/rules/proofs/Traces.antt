@@ -18,7 +18,7 @@ use Rattle.rules.specs.Lines.{eventOfLine, withEvent, eventsOf}
 use Rattle.rules.specs.Refusals.{look, eventTests}
 use Rattle.rules.specs.Verdict.{Accepted}
 use Rattle.rules.specs.Trace.{placeOf, placeTests, answerInPlace, eventAnswer, answerAt, atEnd, takenLines, refusalOn, verdictOn, InPlace, Sound}
-use Rattle.rules.proofs.First.{taken-keeps, none-refused, kept-none, first-refused, stays}
+use Rattle.rules.proofs.First.{taken-keeps, zero-takes-all, kept-none, first-refused, stays}
 use Rattle.rules.proofs.Answers.{answer-lowest}
 use Rattle.rules.proofs.Seen.{Worded}
 use Rattle.rules.proofs.Laws.{Holds, accepted-holds}
@@ -85,14 +85,14 @@ zero-sound ls q = by-number (refusalOn [] ls .0) refl q
     by-number zero e q =
         let k = taken-kept ls in
         let s : Sound (takenLines [] ls) = record { in-place = k .in-place; scaled = end-scaled (takenLines [] ls) q; accepted = k .accepted } in
-        rw (none-refused answerAt ls [] e) at s
+        rw (zero-takes-all answerAt ls [] e) at s
     by-number (suc n) e q = absurd (omega arith)
 
 sound-zero : (ls : List (List ℕ)) → Sound (reverse ls) → verdictOn [] ls ≡ (0, 0)
 unfolding verdictOn
 sound-zero ls s =
     let z = kept-none answerAt Kept kept-before ls [] (record { in-place = s .in-place; accepted = s .accepted }) in
-    let t = none-refused answerAt ls [] (ap (λ (v : ℕ × ℕ). v .0) z) in
+    let t = zero-takes-all answerAt ls [] (ap (λ (v : ℕ × ℕ). v .0) z) in
     rw (z, t) (scaled-end (reverse ls) (s .scaled))
 
 -- The verdict is 0 exactly if the trace is sound; then its line is 0 too.
@@ -133,7 +133,7 @@ unfolding verdictOn
 verdict-names-first ls = by-number (refusalOn [] ls .0) refl
   where
     by-number : (n : ℕ) → refusalOn [] ls .0 ≡ n → Names ls (ifZero n (atEnd (takenLines [] ls)) (refusalOn [] ls)) (takenLines [] ls)
-    by-number zero e = at-end (none-refused answerAt ls [] e) refl
+    by-number zero e = at-end (zero-takes-all answerAt ls [] e) refl
     by-number (suc n) e =
         let r = first-refused answerAt ls [] (omega (arith, e)) in
         at-line r (why (takenLines [] ls) (r .first) (refusalOn [] ls .0) (r .refused) (r .answered))
@@ -145,7 +145,7 @@ pub refused-stays : (ls more : List (List ℕ)) → (takenLines [] ls ≡ revers
     (takenLines [] (ls ++ more) ≡ takenLines [] ls) × (verdictOn [] (ls ++ more) ≡ verdictOn [] ls)
 unfolding verdictOn
 refused-stays ls more q =
-    let n : refusalOn [] ls .0 ≡ 0 → ⊥ = λ e. q (none-refused answerAt ls [] e) in
+    let n : refusalOn [] ls .0 ≡ 0 → ⊥ = λ e. q (zero-takes-all answerAt ls [] e) in
     let s = stays answerAt ls more [] (omega arith) in
     (s .1, rw (s .0, s .1))
 
