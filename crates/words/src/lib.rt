@@ -4,4 +4,6 @@ pub mod class;
 pub mod code;
 pub mod kind;
 pub mod pair;
+pub mod reading;
 pub mod scale;
+pub mod writing;

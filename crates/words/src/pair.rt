@@ -3,10 +3,10 @@ ghost use mathlib.Core.Path.{_≡_};
 ghost use Rattle.words.specs.Pair.{namedBy};
 use crate::action::Action;
 use crate::action::ActionFound;
-use crate::action::action_of;
 use crate::kind::Kind;
 use crate::kind::KindFound;
 use crate::kind::kind_of;
+use crate::reading::action_of;
 
 pub enum Pair {
     Known(Kind, Action),

@@ -17,9 +17,11 @@ named-spec =
     (λ c. search needs)
     (λ c. search needs)
     (λ c.
-    let k = c .before .before .before .before in
-    rw (← (k .before .before .kind-of .ensures), k .k .given .1, ← (c .before .before .action-of .ensures), c .enum-told2 .given .1))
+    let asked = c .before .before in
+    let k = asked .before .before in
+    rw (← (k .before .before .kind-of .ensures), k .k .given .1, ← (asked .action-of .ensures), c .enum-told2 .given .1))
     (λ c.
     let a = c .before in
-    let k = a .before .before .before .before in
-    rw (← (k .before .before .kind-of .ensures), k .k .given .1, ← (a .before .before .action-of .ensures), a .a .given .1)))
+    let asked = a .before .before in
+    let k = asked .before .before in
+    rw (← (k .before .before .kind-of .ensures), k .k .given .1, ← (asked .action-of .ensures), a .a .given .1)))

@@ -1,4 +1,4 @@
--- `words::action::put_word` meets its contract: the part put is the event's word.
+-- `words::writing::put_word` meets its contract: the part put is the event's word.
 use mathlib.Core.Path.{_≡_, _∙_}
 use Prim.Native.Nat.{_+_, _-_}
 use native.Mathlib.Omega.{arith}
@@ -6,11 +6,11 @@ use borrow.Author.Needs.{needs}
 use lib.ListN.{length}
 use Rattle.words.specs.Action.{wordOf, wordStart}
 use Rattle.words.proofs.Tables.{word-entry, word-end}
-use Rattle.words.proofs.action.put_word.Statement.{statement}
-use Rattle.words.proofs.action.put_word.Tie as tie
+use Rattle.words.proofs.writing.put_word.Statement.{statement}
+use Rattle.words.proofs.writing.put_word.Tie as tie
 
-add-to : tie.Need-add-to
-add-to c =
+add-end : tie.Need-add-end
+add-end c =
     let h = word-end (c .before .before .before .args .action) in
     let s = c .before .word-start .ensures in
     let l = c .word-length .ensures in
@@ -33,4 +33,4 @@ returns c =
     p .put-part .ensures ∙ rw (w .word-length .ensures, w .before .word-start .ensures, n, word-entry (a .action))
 
 pub put-word-spec : {M : Type 1} → statement M
-put-word-spec = tie.close (tie.spec (λ c κs. tt) (λ c κs. tt) add-to (λ c. search needs) put-part-requires (λ c. search needs) returns)
+put-word-spec = tie.close (tie.spec (λ c κs. tt) (λ c κs. tt) add-end (λ c. search needs) put-part-requires (λ c. search needs) returns)

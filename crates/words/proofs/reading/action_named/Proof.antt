@@ -1,9 +1,9 @@
--- `words::action::action_named` meets its contract: `same` tells which of the two it is.
+-- `words::reading::action_named` meets its contract: `same` tells which of the two it is.
 use mathlib.Core.Path.{sym, _∙_}
 use borrow.Author.Needs.{needs}
 use Rattle.words.specs.Named.{pick}
-use Rattle.words.proofs.action.action_named.Statement.{statement}
-use Rattle.words.proofs.action.action_named.Tie as tie
+use Rattle.words.proofs.reading.action_named.Statement.{statement}
+use Rattle.words.proofs.reading.action_named.Tie as tie
 
 returns : tie.Need-returns
 unfolding pick

@@ -1,11 +1,11 @@
--- `words::action::action_of` meets its contract: each type asks the chain of its own events.
+-- `words::reading::action_of` meets its contract: each type asks the chain of its own events.
 use mathlib.Core.Path.{ap, _∙_}
 use borrow.Author.Needs.{needs}
 use Rattle.words.specs.declared.action.ActionFound.{ActionFound}
 use Rattle.words.specs.Action.{actionOf, actionsOf, wordOf, actionFrom, semaphoreStates}
 use Rattle.words.proofs.Chains.{step}
-use Rattle.words.proofs.action.action_of.Statement.{statement}
-use Rattle.words.proofs.action.action_of.Tie as tie
+use Rattle.words.proofs.reading.action_of.Statement.{statement}
+use Rattle.words.proofs.reading.action_of.Tie as tie
 
 pub action-of-spec : {M : Type 1} → statement M
 unfolding actionOf actionsOf wordOf
@@ -28,6 +28,7 @@ action-of-spec =
     (λ c. rw (c .before .enum-told6 .given .1) (c .os-event-action .ensures))
     (λ c. rw (c .before .enum-told7 .given .1) (c .signal-action .ensures))
     (λ c.
-    rw (c .before .before .enum-told8 .given .1)
+    let k = c .before .before in
+    rw (k .enum-told8 .given .1)
     (c .semaphore-state .ensures
-    ∙ ap (λ (o : ActionFound). actionFrom semaphoreStates o (c .before .before .before .before .before .args .s .now)) (c .before .semaphore-request .ensures))))
+    ∙ ap (λ (o : ActionFound). actionFrom semaphoreStates o (k .before .before .before .args .s .now)) (c .before .semaphore-request .ensures))))

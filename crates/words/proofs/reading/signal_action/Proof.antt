@@ -1,10 +1,10 @@
--- `words::action::scheduler_action` meets its contract: each word's answer is put into the one before it.
+-- `words::reading::signal_action` meets its contract: each word's answer is put into the one before it.
 use mathlib.Core.Path.{refl}
 use borrow.Author.Needs.{needs}
 use Rattle.words.specs.Action.{wordOf}
 use Rattle.words.proofs.Chains.{step}
-use Rattle.words.proofs.action.scheduler_action.Statement.{statement}
-use Rattle.words.proofs.action.scheduler_action.Tie as tie
+use Rattle.words.proofs.reading.signal_action.Statement.{statement}
+use Rattle.words.proofs.reading.signal_action.Tie as tie
 
 returns : tie.Need-returns
 unfolding wordOf
@@ -14,8 +14,8 @@ returns c2 =
     step _ _ (c1 .action-named .ensures) (
     refl))
 
-pub scheduler-action-spec : {M : Type 1} → statement M
-scheduler-action-spec =
+pub signal-action-spec : {M : Type 1} → statement M
+signal-action-spec =
     tie.close
     (tie.spec
     (λ c. search needs) (λ c κs. tt)

@@ -1,10 +1,10 @@
--- `words::action::semaphore_request` meets its contract: each word's answer is put into the one before it.
+-- `words::reading::semaphore_request` meets its contract: each word's answer is put into the one before it.
 use mathlib.Core.Path.{refl}
 use borrow.Author.Needs.{needs}
 use Rattle.words.specs.Action.{wordOf}
 use Rattle.words.proofs.Chains.{step}
-use Rattle.words.proofs.action.semaphore_request.Statement.{statement}
-use Rattle.words.proofs.action.semaphore_request.Tie as tie
+use Rattle.words.proofs.reading.semaphore_request.Statement.{statement}
+use Rattle.words.proofs.reading.semaphore_request.Tie as tie
 
 returns : tie.Need-returns
 unfolding wordOf

@@ -1,8 +1,8 @@
--- `words::action::word_length` meets its contract: the code is within the table, whose entry there is the one asked for.
+-- `words::writing::word_length` meets its contract: the code is within the table, whose entry there is the one asked for.
 use native.Mathlib.Omega.{arith}
 use Rattle.words.proofs.Tables.{code-bound, length-entry}
-use Rattle.words.proofs.action.word_length.Statement.{statement}
-use Rattle.words.proofs.action.word_length.Tie as tie
+use Rattle.words.proofs.writing.word_length.Statement.{statement}
+use Rattle.words.proofs.writing.word_length.Tie as tie
 
 cast-code : tie.Need-cast-code
 cast-code c = let h = code-bound (c .before .args .action) in let e = c .action-code .ensures in omega arith

@@ -1,9 +1,9 @@
--- `words::action::word_start` meets its contract: the code is within the table, whose entry there is the one asked for.
+-- `words::writing::word_start` meets its contract: the code is within the table, whose entry there is the one asked for.
 use native.Mathlib.Omega.{arith}
 use Rattle.words.specs.Action.{wordStart}
 use Rattle.words.proofs.Tables.{code-bound}
-use Rattle.words.proofs.action.word_start.Statement.{statement}
-use Rattle.words.proofs.action.word_start.Tie as tie
+use Rattle.words.proofs.writing.word_start.Statement.{statement}
+use Rattle.words.proofs.writing.word_start.Tie as tie
 
 cast-code : tie.Need-cast-code
 cast-code c = let h = code-bound (c .before .args .action) in let e = c .action-code .ensures in omega arith
