@@ -28,7 +28,7 @@ use Rattle.line.specs.declared.note.Note.{Note}
 use Rattle.line.specs.declared.note.Note.the-variants.{Means, Wrong}
 use Rattle.line.specs.declared.event.Event.{Event}
 use Rattle.line.specs.declared.event.Numbers.{Numbers}
-use Rattle.line.specs.declared.event.Numbers.the-variants.{Are, Wrong as NoNumbers}
+use Rattle.line.specs.declared.event.Numbers.the-variants.{TimeAndInstances, Wrong as NoNumbers}
 use Rattle.line.specs.declared.reading.Reading.{Reading}
 use Rattle.line.specs.declared.reading.Reading.the-variants.{Version, Comment, TimeScale, Creator, CreationDate, EventLine, Refused}
 use Rattle.line.specs.Note.{maxInstance, noteOf}
@@ -110,7 +110,7 @@ module _ (e : Event) (count : ℕ) where
   ruled-is (Means c) true x q = (cc, cc, cc)
   ruled-is (Means c) false x q = (cc, refl, cc)
 
-numbers-are : (n f t : Number) (x y z : ℕ) → numbersAs n f t ≡ Are x y z → (n ≡ Value x) × (f ≡ Value y) × (t ≡ Value z)
+numbers-are : (n f t : Number) (x y z : ℕ) → numbersAs n f t ≡ TimeAndInstances x y z → (n ≡ Value x) × (f ≡ Value y) × (t ≡ Value z)
 numbers-are Bad f t x y z q = (cc, cc, cc)
 numbers-are (Value n) Bad t x y z q = (cc, cc, cc)
 numbers-are (Value n) (Value f) Bad x y z q = (cc, cc, cc)
@@ -131,17 +131,17 @@ noted-name l (inr p) = rw (p .1, or-true)
 -- what is known once the names are: the numbers, the words, and the rules
 abbrev Fields : List ℕ → List ℕ → List ℕ → Event → ℕ → Numbers → Pair → Type 0
 Fields source target note e count ns p =
-    (ns ≡ Are (e .time) (e .«source_instance») (e .«target_instance»))
+    (ns ≡ TimeAndInstances (e .time) (e .«source_instance») (e .«target_instance»))
     × (p ≡ Known (e .kind) (e .action))
     × (noteOf (e .kind) note ≡ Means count)
     × (ruleBroken (e .kind) (e .action) source (e .«source_instance») target (e .«target_instance») note ≡ false)
 
 fields-are : (source target note : List ℕ) (e : Event) (count : ℕ) (ns : Numbers) (p : Pair) → numbersReading ns p source target note ≡ EventLine e count → Fields source target note e count ns p
 unfolding knownReading
-fields-are source target note e count (Are t f g) (Known k a) q =
+fields-are source target note e count (TimeAndInstances t f g) (Known k a) q =
     let r = ruled-is e count (noteOf k note) (ruleBroken k a source f target g note) _ q in
     rw (← (r .2)) (refl, refl, r .0, r .1)
-fields-are source target note e count (Are t f g) Unknown q = (cc, cc, cc, cc)
+fields-are source target note e count (TimeAndInstances t f g) Unknown q = (cc, cc, cc, cc)
 fields-are source target note e count NoNumbers p q = (cc, cc, cc, cc)
 
 -- ---- the line

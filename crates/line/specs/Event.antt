@@ -18,7 +18,7 @@ use Rattle.line.specs.declared.note.Note.{Note}
 use Rattle.line.specs.declared.note.Note.the-variants.{Means, Wrong}
 use Rattle.line.specs.declared.event.Event.{Event}
 use Rattle.line.specs.declared.event.Numbers.{Numbers}
-use Rattle.line.specs.declared.event.Numbers.the-variants.{Are, Wrong as NoNumbers}
+use Rattle.line.specs.declared.event.Numbers.the-variants.{TimeAndInstances, Wrong as NoNumbers}
 use Rattle.line.specs.declared.reading.Reading.{Reading}
 use Rattle.line.specs.declared.reading.Reading.the-variants.{EventLine, Refused}
 use Rattle.words.specs.Pair.{namedBy}
@@ -35,7 +35,7 @@ abbrev pub numbersAs : Number → Number → Number → Numbers
 numbersAs Bad f t = NoNumbers
 numbersAs (Value n) Bad t = NoNumbers
 numbersAs (Value n) (Value f) Bad = NoNumbers
-numbersAs (Value n) (Value f) (Value t) = Are n f t
+numbersAs (Value n) (Value f) (Value t) = TimeAndInstances n f t
 
 unfoldable pub numbersOf : List ℕ → List ℕ → List ℕ → Numbers
 numbersOf time from to = numbersAs (numberOf time maxTime) (numberOf from maxInstance) (numberOf to maxInstance)
@@ -74,7 +74,7 @@ pairReading (Known k a) time source from target to note = knownReading k a time 
 pairReading Unknown time source from target to note = Refused 6
 
 abbrev pub numbersReading : Numbers → Pair → List ℕ → List ℕ → List ℕ → Reading
-numbersReading (Are time from to) p source target note = pairReading p time source from target to note
+numbersReading (TimeAndInstances time from to) p source target note = pairReading p time source from target to note
 numbersReading NoNumbers p source target note = Refused 5
 
 unfoldable pub fieldsReading : List ℕ → List ℕ → List ℕ → List ℕ → List ℕ → List ℕ → List ℕ → List ℕ → Bool → Reading

@@ -29,27 +29,27 @@ pub struct Event {
 
 // The time and the two instances of an event line, or that one of them is no number of its size.
 pub(crate) enum Numbers {
-    Are(u64, u32, u32),
+    TimeAndInstances(u64, u32, u32),
     Wrong,
 }
 
 // The three numbers of an event line.
-fn read_numbers(time: &[u8], from: &[u8], to: &[u8]) -> Numbers
-    ensures { λ r. ⌜ r ≡ numbersOf (now (time .entry)) (now («from» .entry)) (now (to .entry)) ⌝ }
+fn read_numbers(time: &[u8], source_instance: &[u8], target_instance: &[u8]) -> Numbers
+    ensures { λ r. ⌜ r ≡ numbersOf (now (time .entry)) (now («source_instance» .entry)) (now («target_instance» .entry)) ⌝ }
 {
-    let t = read_number(time, 72057594037927935);
-    let Number::Value(time) = t else {
+    let first = read_number(time, 72057594037927935);
+    let Number::Value(time) = first else {
         return Numbers::Wrong;
     };
-    let f = read_number(from, 4294967295);
-    let Number::Value(from) = f else {
+    let second = read_number(source_instance, 4294967295);
+    let Number::Value(source) = second else {
         return Numbers::Wrong;
     };
-    let g = read_number(to, 4294967295);
-    let Number::Value(to) = g else {
+    let third = read_number(target_instance, 4294967295);
+    let Number::Value(target) = third else {
         return Numbers::Wrong;
     };
-    Numbers::Are(time, from as u32, to as u32)
+    Numbers::TimeAndInstances(time, source as u32, target as u32)
 }
 
 // Whether a field is a name. Of a plain line's field only its length is left to be looked at.
@@ -80,25 +80,34 @@ fn read_known(
     action: Action,
     time: u64,
     source: &[u8],
-    from: u32,
+    source_instance: u32,
     target: &[u8],
-    to: u32,
+    target_instance: u32,
     note: &[u8],
 ) -> Reading
-    ensures { λ r. ⌜ r ≡ knownReading kind action time (now (source .entry)) «from» (now (target .entry)) to (now (note .entry)) ⌝ }
+    ensures { λ r. ⌜ r ≡ knownReading kind action time
+        (now (source .entry)) «source_instance» (now (target .entry)) «target_instance» (now (note .entry)) ⌝ }
 {
     let n = note_of(kind, note);
     let Note::Means(count) = n else {
         return Reading::Refused(5);
     };
-    if rule_broken(kind, action, source, from, target, to, note) {
+    if rule_broken(
+        kind,
+        action,
+        source,
+        source_instance,
+        target,
+        target_instance,
+        note,
+    ) {
         return Reading::Refused(7);
     }
     let event = Event {
         time,
-        source_instance: from,
+        source_instance,
         kind,
-        target_instance: to,
+        target_instance,
         action,
     };
     Reading::EventLine(event, count)
@@ -108,31 +117,40 @@ fn read_known(
 fn read_fields(
     time: &[u8],
     source: &[u8],
-    from: &[u8],
+    source_instance: &[u8],
     kind: &[u8],
     target: &[u8],
-    to: &[u8],
+    target_instance: &[u8],
     action: &[u8],
     note: &[u8],
     noted: bool,
     plain: bool,
 ) -> Reading
     requires { ⌜ (plain ≡ true → PlainFields (now source) (now target) (now note)) ⌝ }
-    ensures { λ r. ⌜ r ≡ fieldsReading (now (time .entry)) (now (source .entry)) (now («from» .entry))
-        (now (kind .entry)) (now (target .entry)) (now (to .entry)) (now (action .entry)) (now (note .entry)) noted ⌝ }
+    ensures { λ r. ⌜ r ≡ fieldsReading (now (time .entry)) (now (source .entry)) (now («source_instance» .entry)) (now (kind .entry))
+        (now (target .entry)) (now («target_instance» .entry)) (now (action .entry)) (now (note .entry)) noted ⌝ }
 {
     if !names(source, target, note, noted, plain) {
         return Reading::Refused(5);
     }
-    let n = read_numbers(time, from, to);
-    let Numbers::Are(time, from, to) = n else {
+    let n = read_numbers(time, source_instance, target_instance);
+    let Numbers::TimeAndInstances(time, source_instance, target_instance) = n else {
         return Reading::Refused(5);
     };
     let p = named(kind, action);
     let Pair::Known(kind, action) = p else {
         return Reading::Refused(6);
     };
-    read_known(kind, action, time, source, from, target, to, note)
+    read_known(
+        kind,
+        action,
+        time,
+        source,
+        source_instance,
+        target,
+        target_instance,
+        note,
+    )
 }
 
 // What an event line says that has these commas and may be known to be plain.
@@ -157,20 +175,20 @@ pub(crate) fn read_event(line: &[u8], c: Commas, plain: bool) -> Reading
     }
     let time = &line[0..c1];
     let source = between(line, c1, c2);
-    let from = between(line, c2, c3);
+    let source_instance = between(line, c2, c3);
     let kind = between(line, c3, c4);
     let target = between(line, c4, c5);
-    let to = between(line, c5, c6);
+    let target_instance = between(line, c5, c6);
     let action = between(line, c6, c7);
     let note = between(line, c7, c8);
     let noted = c7 < n;
     read_fields(
         time,
         source,
-        from,
+        source_instance,
         kind,
         target,
-        to,
+        target_instance,
         action,
         note,
         noted,

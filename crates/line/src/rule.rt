@@ -48,7 +48,7 @@ fn zero_target(kind: Kind) -> bool
 }
 
 // Whether the event is one of its target's own: schedule, and a semaphore's state events.
-fn own(action: Action) -> bool
+fn targets_own(action: Action) -> bool
     ensures { λ r. ⌜ r ≡ isOwn action ⌝ }
 {
     let class = class_of(action);
@@ -70,16 +70,22 @@ fn target_broken(kind: Kind, instance: u32) -> bool
 }
 
 // Whether an event of its target's own has another source, or an instance that is not 0.
-fn own_broken(action: Action, source: &[u8], from: u32, target: &[u8], to: u32) -> bool
-    ensures { λ r. ⌜ r ≡ ownBroken action (now (source .entry)) «from» (now (target .entry)) to ⌝ }
+fn own_broken(
+    action: Action,
+    source: &[u8],
+    source_instance: u32,
+    target: &[u8],
+    target_instance: u32,
+) -> bool
+    ensures { λ r. ⌜ r ≡ ownBroken action (now (source .entry)) «source_instance» (now (target .entry)) «target_instance» ⌝ }
 {
-    if !own(action) {
+    if !targets_own(action) {
         return false;
     }
-    if from != 0 {
+    if source_instance != 0 {
         return true;
     }
-    if to != 0 {
+    if target_instance != 0 {
         return true;
     }
     !same(source, target)
@@ -104,20 +110,21 @@ fn note_broken(kind: Kind, action: Action, n: usize) -> bool
     }
 }
 
-// Whether an event breaks a rule on its source, its instances or the presence of its note. `from` and `to` are the instances.
+// Whether an event breaks a rule on its source, its instances or the presence of its note.
 pub(crate) fn rule_broken(
     kind: Kind,
     action: Action,
     source: &[u8],
-    from: u32,
+    source_instance: u32,
     target: &[u8],
-    to: u32,
+    target_instance: u32,
     note: &[u8],
 ) -> bool
-    ensures { λ r. ⌜ r ≡ ruleBroken kind action (now (source .entry)) «from» (now (target .entry)) to (now (note .entry)) ⌝ }
+    ensures { λ r. ⌜ r ≡ ruleBroken kind action
+        (now (source .entry)) «source_instance» (now (target .entry)) «target_instance» (now (note .entry)) ⌝ }
 {
-    source_broken(kind, action, from)
-        | (target_broken(kind, to)
-            | (own_broken(action, source, from, target, to)
+    source_broken(kind, action, source_instance)
+        | (target_broken(kind, target_instance)
+            | (own_broken(action, source, source_instance, target, target_instance)
                 | note_broken(kind, action, note.len())))
 }

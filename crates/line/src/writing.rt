@@ -13,12 +13,12 @@ use text::name::name;
 use text::put::digit_count;
 use text::put::put_bytes;
 use text::put::put_number;
-use words::action::put_word;
-use words::action::word_length;
 use words::class::is_of;
 use words::kind::Kind;
 use words::kind::kind_length;
 use words::kind::put_kind;
+use words::writing::put_word;
+use words::writing::word_length;
 
 // The length of the line that was written, or the number of the refusal.
 pub enum Written {

@@ -1,13 +1,12 @@
 -- `bill::figure::put_figure` meets its contract: where there is no room nothing is put, and otherwise a blank and the digits, one after the other.
-use mathlib.Core.Path.{sym}
+use mathlib.Core.Path.{sym, _∙_}
 use mathlib.Core.List.{[], _∷_}
-use Prim.Native.Nat.{_+_}
 use native.Mathlib.Omega.{arith}
-use lib.ListN.{length}
 use borrow.Author.Needs.{needs}
+use borrow.Author.Tests.{leb-true, leb-false, not-true, not-false}
 use Rattle.text.specs.Number.{digitsOf}
 use Rattle.text.proofs.Digits.{digits-short}
-use Rattle.text.proofs.Writes.{put-full, put-two, no-room, has-room}
+use Rattle.text.proofs.Writes.{put-full, put-two}
 use Rattle.bill.specs.Text.{figuresText}
 use Rattle.bill.proofs.Texts.{figure-text, length-figure}
 use Rattle.bill.proofs.figure.put_figure.Statement.{statement}
@@ -20,19 +19,20 @@ returns : tie.Need-returns
 returns c =
     let d = c .before .before in
     let a = d .before .before .args in
-    let h = no-room _ (a .at + (d .digit-count .result + 1)) (length (a .out .now)) (c .before .room .ensures) (c .if1 .taken) in
-    sym (put-full (a .out .now) (a .at) (figuresText (a .n ∷ [])) (omega (arith, length-figure (a .n), d .digit-count .ensures)))
+    let full = sym (c .before .room .ensures) ∙ not-true (c .before .room .result) (c .if1 .taken) in
+    sym (put-full (a .out .now) (a .at) (figuresText (a .n ∷ [])) (omega (arith, leb-false, length-figure (a .n), d .digit-count .ensures)))
 
 returns-2 : tie.Need-returns-2
 returns-2 c =
     let b = c .before .before in
-    let p = b .before .before .before .before in
+    let between = b .before .before in
+    let p = between .before .before in
     let e = p .before .before .before in
     let d = e .before .before in
     let a = d .before .before .args in
-    let h = has-room _ (a .at + (d .digit-count .result + 1)) (length (a .out .now)) (e .before .room .ensures) (e .if1 .left) in
+    let roomy = sym (e .before .room .ensures) ∙ not-false (e .before .room .result) (e .if1 .left) in
     rw (figure-text (a .n))
-    (put-two _ _ (32 ∷ []) (digitsOf (a .n)) (p .put-bytes .ensures) (b .put-number .ensures) (omega (arith, d .digit-count .ensures)))
+    (put-two _ _ (32 ∷ []) (digitsOf (a .n)) (p .put-bytes .ensures) (b .put-number .ensures) (omega (arith, leb-true, d .digit-count .ensures)))
 
 pub put-figure-spec : {M : Type 1} → statement M
 put-figure-spec =

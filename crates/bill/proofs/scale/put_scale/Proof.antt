@@ -27,7 +27,8 @@ part-put-bytes-end c =
 returns : tie.Need-returns
 returns c =
     let p = c .before .before in
-    let w = p .before .before .before .before in
+    let part = p .before .before in
+    let w = part .before .before in
     let a = w .before .before .before .args .scale in
     let n : (scaleStart a + length (scaleText a)) - scaleStart a ≡ length (scaleText a) = omega arith in
     p .put-bytes .ensures ∙ rw (w .scale-length .ensures, w .before .scale-start .ensures, n, scale-part a .0)

@@ -5,16 +5,22 @@ use Rattle.bill.proofs.VerdictLine.{put-five}
 use Rattle.bill.proofs.verdict.put_refused.Statement.{statement}
 use Rattle.bill.proofs.verdict.put_refused.Tie as tie
 
+-- e1 to e5 are the places after the pieces, k0 to k4 those before them, where the output is known
 returns : tie.Need-returns
 unfolding refusedText
 returns c =
     let e5 = c .before .before in
-    let e4 = e5 .before .before .before .before .before in
-    let e3 = e4 .before .before .before .before in
-    let e2 = e3 .before .before .before .before .before in
-    let e1 = e2 .before .before .before .before in
+    let k4 = e5 .before .before .before in
+    let e4 = k4 .before .before in
+    let k3 = e4 .before .before in
+    let e3 = k3 .before .before in
+    let k2 = e3 .before .before .before in
+    let e2 = k2 .before .before in
+    let k1 = e2 .before .before in
+    let e1 = k1 .before .before in
+    let k0 = e1 .before .before in
     put-five _ _ _ _ _ _ _ (e1 .put-bytes .ensures) (e2 .put-number .ensures) (e3 .put-bytes2 .ensures) (e4 .put-number2 .ensures) (e5 .put-bytes3 .ensures)
-    (e1 .before .before .before .before .pre)
+    (k0 .before .before .pre)
 
 pub put-refused-spec : {M : Type 1} → statement M
 put-refused-spec =

@@ -14,21 +14,27 @@ use Rattle.bill.proofs.verdict.verdict_length.Tie as tie
 
 -- how long the line is, and that this is not much
 accepted : (c : tie.After-digit-count) →
-    let s = c .before .before .before .before in
+    let i = c .before .before in
+    let s = i .before .before in
     let n = length (verdictText (s .args .v)) in
     (c .before .scale-length .result + c .digit-count .result + 30 ≡ n) × (n ≤ 52)
 accepted c =
-    let v = c .before .before .before .before .args .v in
-    let e = ap length (verdict-accepted v (c .before .before .if1 .taken)) ∙ length-accepted (v .scale) (v .span) in
+    let i = c .before .before in
+    let v = i .before .before .args .v in
+    let e = ap length (verdict-accepted v (i .if1 .taken)) ∙ length-accepted (v .scale) (v .span) in
     (omega arith, omega (arith, scale-short (v .scale), digits-short (v .span) (omega arith)))
 
 refused : (c : tie.After-digit-count3) →
-    let s = c .before .before .before .before .before .before in
+    let first = c .before .before in
+    let i = first .before .before in
+    let s = i .before .before in
     let n = length (verdictText (s .args .v)) in
-    (c .before .before .digit-count2 .result + c .digit-count3 .result + 15 ≡ n) × (n ≤ 55)
+    (first .digit-count2 .result + c .digit-count3 .result + 15 ≡ n) × (n ≤ 55)
 refused c =
-    let v = c .before .before .before .before .before .before .args .v in
-    let e = ap length (verdict-refused v (c .before .before .before .before .if1 .left)) ∙ length-refused (v .number) (v .line) in
+    let first = c .before .before in
+    let i = first .before .before in
+    let v = i .before .before .args .v in
+    let e = ap length (verdict-refused v (i .if1 .left)) ∙ length-refused (v .number) (v .line) in
     (omega arith, omega (arith, digits-short (v .number) (omega arith), digits-short (v .line) (omega arith)))
 
 pub verdict-length-spec : {M : Type 1} → statement M

@@ -26,10 +26,11 @@ returns-2 c =
 returns-3 : tie.Need-returns-3
 unfolding partFrom
 returns-3 c =
-    let a = c .before .before .before .before .args in
+    let e = c .before .before .before in
+    let a = e .before .args in
     record {
       block = refl;
-      place = rw (add-one, at-inside _ _ (c .before .before .before .if1 .left));
+      place = rw (add-one, at-inside _ _ (e .if1 .left));
       bytes = rw add-one (part-none (a .line .now) (suc (a .a)) (a .b) (omega arith));
     }
 

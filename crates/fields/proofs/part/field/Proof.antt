@@ -40,7 +40,9 @@ loop-again c =
     (omega arith, omega arith, omega arith, field-turn _ _ _ _ (i .find .ensures) (l .inv .0) (l .inv .3) (c .if2 .left), at-turn _ _ _ _ (i .find .ensures) (l .inv .0) (l .inv .4))
 
 -- the last part starts at `a` and ends at a comma or at the end
-ends : (c : tie.After-find2 Inv-loop μ-loop) → (c .before .before .loop .a ≤ c .find2 .result) × (c .find2 .result ≤ length (c .before .before .before .before .before .args .line .now))
+ends : (c : tie.After-find2 Inv-loop μ-loop) →
+    let l = c .before .before in
+    (l .loop .a ≤ c .find2 .result) × (c .find2 .result ≤ length (l .before .before .before .args .line .now))
 ends c =
     let l = c .before .before in
     let line = l .before .before .before .args .line .now in

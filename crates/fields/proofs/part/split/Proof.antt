@@ -1,47 +1,80 @@
 -- `fields::part::split` meets its contract: each place found is the next comma's, and none is far enough past the end for a sum to wrap.
+use mathlib.Core.List.{List}
+use Prim.Native.Nat.{ℕ}
 use native.Mathlib.Omega.{arith}
 use borrow.Author.Needs.{needs}
 use Rattle.fields.proofs.Parts.{Place, place-first, place-next}
 use Rattle.fields.proofs.part.split.Statement.{statement}
 use Rattle.fields.proofs.part.split.Tie as tie
 
--- the places, one after another
+-- the places, one after another, each in the line that was given at the start
 
-place-1 : (c : tie.After-find) → Place (c .before .before .args .line .now) 0 (c .find .result)
+abbrev line-1 : tie.After-find → List ℕ
+line-1 c = c .before .before .args .line .now
+
+place-1 : (c : tie.After-find) → Place (line-1 c) 0 (c .find .result)
 place-1 c = place-first _ _ (c .find .ensures)
 
-place-2 : (c : tie.After-find2) → Place (c .before .before .before .args .line .now) 1 (c .find2 .result)
+abbrev line-2 : tie.After-find2 → List ℕ
+line-2 c = line-1 (c .before)
+
+place-2 : (c : tie.After-find2) → Place (line-2 c) 1 (c .find2 .result)
 place-2 c = place-next _ 0 _ _ (place-1 (c .before)) (c .find2 .ensures)
 
-place-3 : (c : tie.After-find3) → Place (c .before .before .before .before .args .line .now) 2 (c .find3 .result)
+abbrev line-3 : tie.After-find3 → List ℕ
+line-3 c = line-2 (c .before)
+
+place-3 : (c : tie.After-find3) → Place (line-3 c) 2 (c .find3 .result)
 place-3 c = place-next _ 1 _ _ (place-2 (c .before)) (c .find3 .ensures)
 
-place-4 : (c : tie.After-find4) → Place (c .before .before .before .before .before .args .line .now) 3 (c .find4 .result)
+abbrev line-4 : tie.After-find4 → List ℕ
+line-4 c = line-3 (c .before)
+
+place-4 : (c : tie.After-find4) → Place (line-4 c) 3 (c .find4 .result)
 place-4 c = place-next _ 2 _ _ (place-3 (c .before)) (c .find4 .ensures)
 
-place-5 : (c : tie.After-find5) → Place (c .before .before .before .before .before .before .args .line .now) 4 (c .find5 .result)
+abbrev line-5 : tie.After-find5 → List ℕ
+line-5 c = line-4 (c .before)
+
+place-5 : (c : tie.After-find5) → Place (line-5 c) 4 (c .find5 .result)
 place-5 c = place-next _ 3 _ _ (place-4 (c .before)) (c .find5 .ensures)
 
-place-6 : (c : tie.After-find6) → Place (c .before .before .before .before .before .before .before .args .line .now) 5 (c .find6 .result)
+abbrev line-6 : tie.After-find6 → List ℕ
+line-6 c = line-5 (c .before)
+
+place-6 : (c : tie.After-find6) → Place (line-6 c) 5 (c .find6 .result)
 place-6 c = place-next _ 4 _ _ (place-5 (c .before)) (c .find6 .ensures)
 
-place-7 : (c : tie.After-find7) → Place (c .before .before .before .before .before .before .before .before .args .line .now) 6 (c .find7 .result)
+abbrev line-7 : tie.After-find7 → List ℕ
+line-7 c = line-6 (c .before)
+
+place-7 : (c : tie.After-find7) → Place (line-7 c) 6 (c .find7 .result)
 place-7 c = place-next _ 5 _ _ (place-6 (c .before)) (c .find7 .ensures)
 
-place-8 : (c : tie.After-find8) → Place (c .before .before .before .before .before .before .before .before .before .args .line .now) 7 (c .find8 .result)
+abbrev line-8 : tie.After-find8 → List ℕ
+line-8 c = line-7 (c .before)
+
+place-8 : (c : tie.After-find8) → Place (line-8 c) 7 (c .find8 .result)
 place-8 c = place-next _ 6 _ _ (place-7 (c .before)) (c .find8 .ensures)
 
 returns : tie.Need-returns
-returns c =
+returns f8 =
+    let f7 = f8 .before in
+    let f6 = f7 .before in
+    let f5 = f6 .before in
+    let f4 = f5 .before in
+    let f3 = f4 .before in
+    let f2 = f3 .before in
+    let f1 = f2 .before in
     λ i. record {
-      c1 = place-1 (c .before .before .before .before .before .before .before) .0 i;
-      c2 = place-2 (c .before .before .before .before .before .before) .0 i;
-      c3 = place-3 (c .before .before .before .before .before) .0 i;
-      c4 = place-4 (c .before .before .before .before) .0 i;
-      c5 = place-5 (c .before .before .before) .0 i;
-      c6 = place-6 (c .before .before) .0 i;
-      c7 = place-7 (c .before) .0 i;
-      c8 = place-8 c .0 i;
+      c1 = place-1 f1 .0 i;
+      c2 = place-2 f2 .0 i;
+      c3 = place-3 f3 .0 i;
+      c4 = place-4 f4 .0 i;
+      c5 = place-5 f5 .0 i;
+      c6 = place-6 f6 .0 i;
+      c7 = place-7 f7 .0 i;
+      c8 = place-8 f8 .0 i;
     }
 
 pub split-spec : {M : Type 1} → statement M

@@ -20,13 +20,17 @@ returns c = sym (fits-other _ _ (c .if1 .taken))
 
 returns-2 : tie.Need-returns-2 Inv-loop μ-loop
 returns-2 c =
-    let l = c .before .before .before .before .before in
-    sym (l .loop .inv .2 ∙ fits-turn _ _ (l .loop .i) (omega arith) (omega arith) ∙ rw (← (c .before .fits-byte .ensures), not-true (c .before .fits-byte .result) (c .if2 .taken)))
+    let f = c .before in
+    let bytes = f .before .before in
+    let l = bytes .before .before in
+    sym (l .loop .inv .2 ∙ fits-turn _ _ (l .loop .i) (omega arith) (omega arith) ∙ rw (← (f .fits-byte .ensures), not-true (f .fits-byte .result) (c .if2 .taken)))
 
 loop-again : tie.Need-loop-again Inv-loop μ-loop
 loop-again c =
-    let l = c .before .before .before .before .before in
-    (omega arith, omega arith, l .loop .inv .2 ∙ fits-turn _ _ (l .loop .i) (omega arith) (omega arith) ∙ rw (← (c .before .fits-byte .ensures), not-false (c .before .fits-byte .result) (c .if2 .left)))
+    let f = c .before in
+    let bytes = f .before .before in
+    let l = bytes .before .before in
+    (omega arith, omega arith, l .loop .inv .2 ∙ fits-turn _ _ (l .loop .i) (omega arith) (omega arith) ∙ rw (← (f .fits-byte .ensures), not-false (f .fits-byte .result) (c .if2 .left)))
 
 returns-3 : tie.Need-returns-3 Inv-loop μ-loop
 returns-3 c =

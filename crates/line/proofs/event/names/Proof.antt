@@ -14,6 +14,6 @@ names-spec =
     tie.close
     (tie.spec
     (λ c κs p. c .before .before .before .pre p .source-bytes)
-    (λ c κs p. c .before .before .before .before .pre p .target-bytes)
-    (λ c κs p. c .before .before .before .before .before .pre p .note-bytes)
+    (λ c κs p. let slices = c .before in slices .before .before .before .pre p .target-bytes)
+    (λ c κs p. let slices = c .before .before in slices .before .before .before .pre p .note-bytes)
     returns)

@@ -13,7 +13,8 @@ read-fields-requires : tie.Need-read-fields-requires
 read-fields-requires c κs = λ p.
     let b4 = c .before .before .before in
     let b1 = b4 .before .before .before in
-    let start = b1 .before .before .before .before .before in
+    let i2 = b1 .before .before in
+    let start = i2 .before .before .before in
     rw (b1 .between .ensures .bytes, b4 .between4 .ensures .bytes, c .between7 .ensures .bytes) (plain-fields _ (start .args .c) (start .pre .0) (start .pre .1 p))
 
 returns-3 : tie.Need-returns-3

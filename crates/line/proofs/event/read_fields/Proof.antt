@@ -7,7 +7,15 @@ use Rattle.line.specs.Event.{hasNames, fieldsReading}
 use Rattle.line.proofs.event.read_fields.Statement.{statement}
 use Rattle.line.proofs.event.read_fields.Tie as tie
 
-names-are : (c : tie.Else1) → let a = c .before .before .before .before .before .before .before .before .before .before .args in hasNames (a .source .now) (a .target .now) (a .note .now) (a .noted) ≡ true
+-- back over what is known of the eight slices
+abbrev start : tie.Else1 → tie.Start
+start c =
+    let all-eight = c .before .before in
+    let first-five = all-eight .before .before .before in
+    let first-two = first-five .before .before .before in
+    first-two .before .before
+
+names-are : (c : tie.Else1) → let a = start c .args in hasNames (a .source .now) (a .target .now) (a .note .now) (a .noted) ≡ true
 names-are c = sym (c .before .names .ensures) ∙ not-false _ (c .if1 .left)
 
 pub read-fields-spec : {M : Type 1} → statement M
@@ -25,10 +33,12 @@ read-fields-spec =
     (λ c. search needs)
     (λ c. search needs)
     (λ c.
-    let n = c .before .before .before .before in
-    rw (names-are (n .before .before .before), ← (n .before .before .read-numbers .ensures), n .n .given .1, ← (c .before .before .named .ensures), c .enum-told2 .given .1))
+    let asked = c .before .before in
+    let n = asked .before .before in
+    rw (names-are (n .before .before .before), ← (n .before .before .read-numbers .ensures), n .n .given .1, ← (asked .named .ensures), c .enum-told2 .given .1))
     (λ c κs. tt)
     (λ c.
     let p = c .before .before in
-    let n = p .before .before .before .before in
-    rw (names-are (n .before .before .before), ← (n .before .before .read-numbers .ensures), n .n .given .1, ← (p .before .before .named .ensures), p .p .given .1) (c .read-known .ensures)))
+    let asked = p .before .before in
+    let n = asked .before .before in
+    rw (names-are (n .before .before .before), ← (n .before .before .read-numbers .ensures), n .n .given .1, ← (asked .named .ensures), p .p .given .1) (c .read-known .ensures)))

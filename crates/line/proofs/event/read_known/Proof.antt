@@ -7,7 +7,10 @@ use Rattle.line.specs.Event.{knownReading}
 use Rattle.line.proofs.event.read_known.Statement.{statement}
 use Rattle.line.proofs.event.read_known.Tie as tie
 
-note-is : (c : tie.After-n) → let a = c .before .before .before .before .before .before .args in noteOf (a .kind) (a .note .now) ≡ Means (c .n .given .0 .0)
+note-is : (c : tie.After-n) →
+    let slices = c .before .before .before in
+    let a = slices .before .before .before .args in
+    noteOf (a .kind) (a .note .now) ≡ Means (c .n .given .0 .0)
 note-is c = sym (c .before .before .note-of .ensures) ∙ c .n .given .1
 
 pub read-known-spec : {M : Type 1} → statement M

@@ -11,16 +11,32 @@ use Rattle.line.specs.Event.{maxTime, numbersOf}
 use Rattle.line.proofs.event.read_numbers.Statement.{statement}
 use Rattle.line.proofs.event.read_numbers.Tie as tie
 
+-- from each number back to the one before it, and to the start
+abbrev start : tie.After-first → tie.Start
+start c =
+    let slices = c .before .before .before in
+    slices .before .before .before
+
+abbrev back-to-first : tie.After-second → tie.After-first
+back-to-first c =
+    let asked = c .before .before in
+    asked .before .before
+
+abbrev back-to-second : tie.After-third → tie.After-second
+back-to-second c =
+    let asked = c .before .before in
+    asked .before .before
+
 -- the numbers, one after another
 
-time-is : (c : tie.After-t) → numberOf (c .before .before .before .before .before .before .args .time .now) maxTime ≡ Value (c .t .given .0 .0)
-time-is c = sym (c .before .before .read-number .ensures) ∙ c .t .given .1
+time-is : (c : tie.After-first) → numberOf (start c .args .time .now) maxTime ≡ Value (c .first .given .0 .0)
+time-is c = sym (c .before .before .read-number .ensures) ∙ c .first .given .1
 
-from-is : (c : tie.After-f) → numberOf (c .before .before .before .before .before .before .before .before .before .before .args .from .now) maxInstance ≡ Value (c .f .given .0 .0)
-from-is c = sym (c .before .before .read-number2 .ensures) ∙ c .f .given .1
+source-is : (c : tie.After-second) → numberOf (start (back-to-first c) .args .source-instance .now) maxInstance ≡ Value (c .second .given .0 .0)
+source-is c = sym (c .before .before .read-number2 .ensures) ∙ c .second .given .1
 
-to-is : (c : tie.After-g) → numberOf (c .before .before .before .before .before .before .before .before .before .before .before .before .before .before .args .to .now) maxInstance ≡ Value (c .g .given .0 .0)
-to-is c = sym (c .before .before .read-number3 .ensures) ∙ c .g .given .1
+target-is : (c : tie.After-third) → numberOf (start (back-to-first (back-to-second c)) .args .target-instance .now) maxInstance ≡ Value (c .third .given .0 .0)
+target-is c = sym (c .before .before .read-number3 .ensures) ∙ c .third .given .1
 
 pub read-numbers-spec : {M : Type 1} → statement M
 unfolding numbersOf
@@ -34,15 +50,18 @@ read-numbers-spec =
     (λ c κs. tt)
     (λ c. search needs)
     (λ c. search needs)
-    (λ c. rw (time-is (c .before .before .before .before), ← (c .before .before .read-number2 .ensures), c .enum-told2 .given .1))
+    (λ c.
+    let asked = c .before .before in
+    rw (time-is (asked .before .before), ← (asked .read-number2 .ensures), c .enum-told2 .given .1))
     (λ c κs. tt)
     (λ c. search needs)
     (λ c. search needs)
     (λ c.
-    let f = c .before .before .before .before in
-    rw (time-is (f .before .before .before .before), from-is f, ← (c .before .before .read-number3 .ensures), c .enum-told3 .given .1))
-    (λ c. let h = read-written _ _ _ (from-is (c .before .before .before .before .before)) .1 in omega arith)
-    (λ c. let h = read-written _ _ _ (to-is (c .before)) .1 in omega arith)
+    let asked = c .before .before in
+    let s = asked .before .before in
+    rw (time-is (back-to-first s), source-is s, ← (asked .read-number3 .ensures), c .enum-told3 .given .1))
+    (λ c. let h = read-written _ _ _ (source-is (back-to-second (c .before))) .1 in omega arith)
+    (λ c. let h = read-written _ _ _ (target-is (c .before)) .1 in omega arith)
     (λ c.
-    let f = c .before .before .before .before .before in
-    rw (time-is (f .before .before .before .before), from-is f, to-is (c .before))))
+    let s = back-to-second (c .before) in
+    rw (time-is (back-to-first s), source-is s, target-is (c .before))))

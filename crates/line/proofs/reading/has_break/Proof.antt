@@ -22,13 +22,15 @@ returns c =
 
 returns-2 : tie.Need-returns-2 Inv-loop μ-loop
 returns-2 c =
-    let l = c .before .before .before .before .before in
-    sym (l .loop .inv .1 ∙ break-turn _ (l .loop .i) (omega arith) ∙ rw (ne-eqb _ 10 (c .before .before .if1 .left), eq-eqb _ 13 (c .if2 .taken)))
+    let not-10 = c .before .before in
+    let l = not-10 .before .before .before in
+    sym (l .loop .inv .1 ∙ break-turn _ (l .loop .i) (omega arith) ∙ rw (ne-eqb _ 10 (not-10 .if1 .left), eq-eqb _ 13 (c .if2 .taken)))
 
 loop-again : tie.Need-loop-again Inv-loop μ-loop
 loop-again c =
-    let l = c .before .before .before .before .before in
-    (omega arith, l .loop .inv .1 ∙ break-turn _ (l .loop .i) (omega arith) ∙ rw (ne-eqb _ 10 (c .before .before .if1 .left), ne-eqb _ 13 (c .if2 .left)))
+    let not-10 = c .before .before in
+    let l = not-10 .before .before .before in
+    (omega arith, l .loop .inv .1 ∙ break-turn _ (l .loop .i) (omega arith) ∙ rw (ne-eqb _ 10 (not-10 .if1 .left), ne-eqb _ 13 (c .if2 .left)))
 
 returns-3 : tie.Need-returns-3 Inv-loop μ-loop
 returns-3 c = sym (c .before .loop .inv .1 ∙ break-end _ _ (c .loop-test .left))

@@ -8,7 +8,10 @@ use Rattle.line.specs.Reading.{hasBreak, readLine}
 use Rattle.line.proofs.reading.read_at.Statement.{statement}
 use Rattle.line.proofs.reading.read_at.Tie as tie
 
-is-line : (c : tie.Else2) → let l = c .before .before .before .before .before .args .line .now in (ltb 1023 (length l) || hasBreak l) ≡ false
+is-line : (c : tie.Else2) →
+    let short = c .before .before .before in
+    let l = short .before .before .args .line .now in
+    (ltb 1023 (length l) || hasBreak l) ≡ false
 is-line c = rw (le-ltb 1023 _ (c .before .before .before .if1 .left), ← (c .before .broken .ensures), c .if2 .left)
 
 pub read-at-spec : {M : Type 1} → statement M
@@ -21,7 +24,10 @@ read-at-spec =
     (λ c κs p. sym (c .all-plain .ensures) ∙ p)
     (λ c. rw (le-ltb 1023 _ (c .before .before .before .if1 .left), ← (c .before .broken .ensures), c .if2 .taken))
     (λ c κs. tt)
-    (λ c κs. (c .before .before .before .before .before .before .before .pre, λ p. sym (c .before .before .before .before .all-plain .ensures) ∙ p))
+    (λ c κs.
+    let unbroken = c .before .before in
+    let plain = unbroken .before .before in
+    (plain .before .before .before .pre, λ p. sym (plain .all-plain .ensures) ∙ p))
     (λ c.
     let e = c .before in
     rw (is-line (e .before .before), ← (e .before .event-line .ensures), e .if3 .taken) (c .read-event .ensures))

@@ -9,25 +9,25 @@ use Rattle.line.proofs.rule.own_broken.Tie as tie
 
 returns : tie.Need-returns
 unfolding ownBroken
-returns c = let o = c .before .own in rw (← (o .ensures), not-true (o .result) (c .if1 .taken))
+returns c = let o = c .before .targets-own in rw (← (o .ensures), not-true (o .result) (c .if1 .taken))
 
 returns-2 : tie.Need-returns-2
 unfolding ownBroken
 returns-2 c =
-    let o = c .before .before .own in
+    let o = c .before .before .targets-own in
     rw (← (o .ensures), not-false (o .result) (c .before .if1 .left), ne-eqb _ 0 (c .if2 .taken), and-false)
 
 returns-3 : tie.Need-returns-3
 unfolding ownBroken
 returns-3 c =
-    let o = c .before .before .before .own in
+    let o = c .before .before .before .targets-own in
     rw (← (o .ensures), not-false (o .result) (c .before .before .if1 .left), ne-eqb _ 0 (c .if3 .taken), and-false, and-false)
 
 returns-4 : tie.Need-returns-4
 unfolding ownBroken
 returns-4 c =
     let d = c .before in
-    let o = d .before .before .before .own in
+    let o = d .before .before .before .targets-own in
     rw (← (o .ensures), not-false (o .result) (d .before .before .if1 .left), eq-eqb _ 0 (d .before .if2 .left), eq-eqb _ 0 (d .if3 .left), and-true)
     (ap not (c .same .ensures))
 

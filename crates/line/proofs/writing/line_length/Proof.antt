@@ -16,8 +16,13 @@ short : (c : tie.Start) → length (digitsOf (c .args .event .time)) + length (d
 short c = words-short (c .args .event) (omega arith) (omega arith) (omega arith)
 
 -- from a place to the start
+abbrev from-first : tie.After-digit-count → tie.Start
+from-first c =
+    let slices = c .before in
+    slices .before .before .before
+
 abbrev from-second : tie.After-digit-count2 → tie.Start
-from-second c = c .before .before .before .before .before .before
+from-second c = from-first (c .before .before)
 
 abbrev from-third : tie.After-digit-count3 → tie.Start
 from-third c = from-second (c .before .before)

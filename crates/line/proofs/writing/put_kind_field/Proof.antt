@@ -9,7 +9,8 @@ returns : tie.Need-returns
 unfolding nameField
 returns c =
     let b = c .before .before in
-    let a = b .before .before .before .before .before in
+    let between = b .before .before .before in
+    let a = between .before .before in
     put-two _ _ _ _ (a .put-kind .ensures) (b .put-bytes .ensures) (a .before .before .before .pre)
 
 pub put-kind-field-spec : {M : Type 1} → statement M

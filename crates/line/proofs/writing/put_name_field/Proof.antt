@@ -9,8 +9,11 @@ returns : tie.Need-returns
 unfolding nameField
 returns c =
     let b = c .before .before in
-    let a = b .before .before .before .before .before in
-    put-two _ _ _ _ (a .put-bytes .ensures) (b .put-bytes2 .ensures) (a .before .before .before .before .pre)
+    let between = b .before .before .before in
+    let a = between .before .before in
+    let lent = a .before .before in
+    let start = lent .before .before in
+    put-two _ _ _ _ (a .put-bytes .ensures) (b .put-bytes2 .ensures) (start .pre)
 
 pub put-name-field-spec : {M : Type 1} → statement M
 put-name-field-spec =

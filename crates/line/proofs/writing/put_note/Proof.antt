@@ -15,7 +15,8 @@ returns c =
 returns-2 : tie.Need-returns-2
 returns-2 c =
     let b = c .before .before in
-    let a = b .before .before .before .before in
+    let between = b .before .before in
+    let a = between .before .before in
     let d = a .before .before .before in
     let s = d .before .before .before in
     let e = note-some (s .args .note .now) (d .if1 .left) in

@@ -18,14 +18,16 @@ by-type c = record-refusal (c .args .event) (c .args .source .now) (c .args .tar
 returns : tie.Need-returns
 returns c =
     let s = c .before .sizes in
-    rw (by-type (c .before .before .before .before .before), ← (s .ensures), not-true (s .result) (c .if1 .taken))
+    let slices = c .before .before in
+    rw (by-type (slices .before .before .before), ← (s .ensures), not-true (s .result) (c .if1 .taken))
 
 returns-2 : tie.Need-returns-2
 returns-2 c =
     let o = c .before .is-of in
     let d = c .before .before in
     let s = d .before .sizes in
-    rw (by-type (d .before .before .before .before .before), ← (s .ensures), not-false (s .result) (d .if1 .left), ← (o .ensures), not-true (o .result) (c .if2 .taken))
+    let slices = d .before .before in
+    rw (by-type (slices .before .before .before), ← (s .ensures), not-false (s .result) (d .if1 .left), ← (o .ensures), not-true (o .result) (c .if2 .taken))
 
 returns-3 : tie.Need-returns-3
 returns-3 c =
@@ -34,7 +36,8 @@ returns-3 c =
     let o = e .before .is-of in
     let d = e .before .before in
     let s = d .before .sizes in
-    rw (by-type (d .before .before .before .before .before), ← (s .ensures), not-false (s .result) (d .if1 .left), ← (o .ensures), not-false (o .result) (e .if2 .left), ← (n .note-of .ensures), c .enum-told2 .given .1)
+    let slices = d .before .before in
+    rw (by-type (slices .before .before .before), ← (s .ensures), not-false (s .result) (d .if1 .left), ← (o .ensures), not-false (o .result) (e .if2 .left), ← (n .note-of .ensures), c .enum-told2 .given .1)
 
 returns-4 : tie.Need-returns-4
 returns-4 c =
@@ -44,7 +47,8 @@ returns-4 c =
     let o = e .before .is-of in
     let d = e .before .before in
     let s = d .before .sizes in
-    rw (by-type (d .before .before .before .before .before), ← (s .ensures), not-false (s .result) (d .if1 .left), ← (o .ensures), not-false (o .result) (e .if2 .left), ← (n .note-of .ensures), f .enum-told .given .1, ← (c .before .rule-broken .ensures), c .if3 .taken)
+    let slices = d .before .before in
+    rw (by-type (slices .before .before .before), ← (s .ensures), not-false (s .result) (d .if1 .left), ← (o .ensures), not-false (o .result) (e .if2 .left), ← (n .note-of .ensures), f .enum-told .given .1, ← (c .before .rule-broken .ensures), c .if3 .taken)
 
 returns-5 : tie.Need-returns-5
 returns-5 c =
@@ -54,7 +58,8 @@ returns-5 c =
     let o = e .before .is-of in
     let d = e .before .before in
     let s = d .before .sizes in
-    rw (by-type (d .before .before .before .before .before), ← (s .ensures), not-false (s .result) (d .if1 .left), ← (o .ensures), not-false (o .result) (e .if2 .left), ← (n .note-of .ensures), f .enum-told .given .1, ← (c .before .rule-broken .ensures), c .if3 .left)
+    let slices = d .before .before in
+    rw (by-type (slices .before .before .before), ← (s .ensures), not-false (s .result) (d .if1 .left), ← (o .ensures), not-false (o .result) (e .if2 .left), ← (n .note-of .ensures), f .enum-told .given .1, ← (c .before .rule-broken .ensures), c .if3 .left)
 
 pub refusal-spec : {M : Type 1} → statement M
 refusal-spec =

@@ -1,7 +1,0 @@
--- `line::rule::own` meets its contract: the events of two classes are their target's own.
-use Rattle.line.proofs.Rules.{own-class}
-use Rattle.line.proofs.rule.own.Statement.{statement}
-use Rattle.line.proofs.rule.own.Tie as tie
-
-pub own-spec : {M : Type 1} → statement M
-own-spec = tie.close (tie.spec (λ c κs. tt) (λ c. rw (own-class _ _ (c .class-of .ensures))))
