@@ -1,4 +1,4 @@
--- `try_tables::same_ticks` meets its contract, as `text::bytes::same` does. The invariant: the slices are the same where what is left of them
+-- `try_tables::compare::same_nums` meets its contract, as `text::bytes::same` does. The invariant: the slices are the same where what is left of them
 -- from `i` is.
 use mathlib.Core.Path.{_≡_, sym, _∙_}
 use Prim.Native.Nat.{_-_, _≤_}
@@ -7,8 +7,8 @@ use borrow.Author.Needs.{needs}
 use lib.ListN.{length, drop}
 use Rattle.text.specs.Bytes.{sameBytes}
 use Rattle.text.proofs.Words.{other-length, same-turn, same-stop, same-end}
-use Rattle.try_tables.proofs.same_ticks.Statement.{statement}
-use Rattle.try_tables.proofs.same_ticks.Tie as tie
+use Rattle.try_tables.proofs.compare.same_nums.Statement.{statement}
+use Rattle.try_tables.proofs.compare.same_nums.Tie as tie
 
 abbrev Inv-loop : tie.InvT-loop
 Inv-loop s t i₀ i = (i ≤ length s) × (length s ≡ length t) × (sameBytes s t ≡ sameBytes (drop i s) (drop i t))
@@ -21,12 +21,14 @@ returns c = sym (other-length _ _ (c .if1 .taken))
 
 returns-2 : tie.Need-returns-2 Inv-loop μ-loop
 returns-2 c =
-    let l = c .before .before .before .before in
+    let entries = c .before .before in
+    let l = entries .before .before in
     sym (l .loop .inv .2 ∙ same-stop _ _ (l .loop .i) (omega arith) (omega arith) (c .if2 .taken))
 
 loop-again : tie.Need-loop-again Inv-loop μ-loop
 loop-again c =
-    let l = c .before .before .before .before in
+    let entries = c .before .before in
+    let l = entries .before .before in
     (search needs, search needs, l .loop .inv .2 ∙ same-turn _ _ (l .loop .i) (omega arith) (omega arith) (c .if2 .left))
 
 returns-3 : tie.Need-returns-3 Inv-loop μ-loop
@@ -34,8 +36,8 @@ returns-3 c =
     let l = c .before in
     sym (l .loop .inv .2 ∙ same-end _ _ (l .loop .i) (omega arith) (omega arith))
 
-pub same-ticks-spec : {M : Type 1} → statement M
-same-ticks-spec =
+pub same-nums-spec : {M : Type 1} → statement M
+same-nums-spec =
     tie.close
     (tie.spec
     Inv-loop

@@ -1,10 +1,10 @@
--- `try_tables::end_lines` is safe and ends: a store keeps the length.
+-- `try_tables::call::end_lines` is safe and ends: a store keeps the length.
 use mathlib.Core.Path.{_≡_}
 use Prim.Native.Nat.{_-_}
 use borrow.Author.Needs.{needs}
 use lib.ListN.{length}
-use Rattle.try_tables.proofs.end_lines.Statement.{statement}
-use Rattle.try_tables.proofs.end_lines.Tie as tie
+use Rattle.try_tables.proofs.call.end_lines.Statement.{statement}
+use Rattle.try_tables.proofs.call.end_lines.Tie as tie
 
 abbrev Inv-loop : tie.InvT-loop
 Inv-loop s₀ i₀ s i = length s ≡ length s₀

@@ -1,10 +1,10 @@
--- `try_tables::fill_names` is safe and ends: the n entries from the first on are within the slice, and a store keeps its length.
+-- `try_tables::fill::fill_names` is safe and ends: the n entries from the first on are within the slice, and a store keeps its length.
 use mathlib.Core.Path.{_≡_}
 use Prim.Native.Nat.{_+_, _-_, _≤_}
 use borrow.Author.Needs.{needs}
 use lib.ListN.{length}
-use Rattle.try_tables.proofs.fill_names.Statement.{statement}
-use Rattle.try_tables.proofs.fill_names.Tie as tie
+use Rattle.try_tables.proofs.fill.fill_names.Statement.{statement}
+use Rattle.try_tables.proofs.fill.fill_names.Tie as tie
 
 abbrev Inv-loop : tie.InvT-loop
 Inv-loop s₀ from n v i₀ s i = (length s ≡ length s₀) × (from + n ≤ length s₀)
