@@ -12,7 +12,7 @@ use Rattle.rules.specs.Refusals.{countAllowed}
 use Rattle.rules.specs.Words.{free, unlock, lock}
 use Rattle.tables.specs.declared.find.Found.{Found}
 use Rattle.tables.specs.declared.find.Found.the-variants.{At, Nothing}
-use Rattle.decide.specs.Known.{oneNew}
+use Rattle.decide.specs.Known.{rowsAdded}
 use Rattle.decide.specs.PlanCode.{leastCount}
 
 -- a core's state is 2 more than the row of the process whose instance holds it
@@ -26,7 +26,7 @@ row-named m j h = by-test (eqb (m - 2) j) refl
 pub row-unnamed : (m j : ℕ) → m < 2 → false ≡ eqb m (j + 2)
 row-unnamed m j h = sym (ne-eqb m (j + 2) (λ q. omega arith))
 
-pub one-at-most : {r : ℕ} (b : Bool) (f : Found) → r ≡ oneNew b f → r ≤ 1
+pub one-at-most : {r : ℕ} (b : Bool) (f : Found) → r ≡ rowsAdded b f → r ≤ 1
 one-at-most false f e = omega arith
 one-at-most true (At i) e = omega arith
 one-at-most true Nothing e = omega arith

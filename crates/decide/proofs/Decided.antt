@@ -12,9 +12,9 @@ use Rattle.rules.specs.Event.{Event}
 use Rattle.rules.specs.Refusals.{Known, eventTests, answerTo}
 use Rattle.tables.specs.Sized.{Sized, isSized}
 use Rattle.tables.proofs.Valid.{sizes-mean}
-use Rattle.decide.specs.declared.sight.Sight.{Sight}
+use Rattle.decide.specs.declared.look.LookedUp.{LookedUp}
 use Rattle.decide.specs.declared.plan.Plan.the-variants.{Refuse, Take}
-use Rattle.decide.specs.Sight.{sightOf}
+use Rattle.decide.specs.LookedUp.{lookedUp}
 use Rattle.decide.specs.Known.{knownBy}
 use Rattle.decide.specs.Decide.{planAnswer, enters, planBy, planOf, decided}
 
@@ -40,13 +40,13 @@ answer-ranged k e =
 module _ (names nums ticks : List ℕ) (e : Event) where
   -- the rules' answer at what is looked up
   abbrev pub ruled : ℕ
-  ruled = answerTo (knownBy nums ticks (sightOf names nums e) e) e
+  ruled = answerTo (knownBy nums ticks (lookedUp names nums e) e) e
 
   pub plan-answer : planAnswer (planOf names nums ticks e) ≡ ruled
   unfolding planAnswer planOf planBy
-  plan-answer = by-answer (sightOf names nums e) (enters nums (sightOf names nums e) e) ruled
+  plan-answer = by-answer (lookedUp names nums e) (enters nums (lookedUp names nums e) e) ruled
     where
-      by-answer : (s : Sight) (t a : ℕ) → planAnswer (ifZero a (Take s t) (Refuse a)) ≡ a
+      by-answer : (s : LookedUp) (t a : ℕ) → planAnswer (ifZero a (Take s t) (Refuse a)) ≡ a
       by-answer s t zero = refl
       by-answer s t (suc a) = refl
 
@@ -60,16 +60,16 @@ module _ (names nums ticks : List ℕ) (e : Event) where
 
   -- by tables of the right sizes a refusal is by one of 8 to 14
   pub plan-refuses : 1 ≤ planAnswer (planOf names nums ticks e) → (8 ≤ planAnswer (planOf names nums ticks e)) × (planAnswer (planOf names nums ticks e) ≤ lastRefusal)
-  plan-refuses = rw plan-answer (answer-ranged (knownBy nums ticks (sightOf names nums e) e) e)
+  plan-refuses = rw plan-answer (answer-ranged (knownBy nums ticks (lookedUp names nums e) e) e)
 
   -- and a line that is taken carries what was looked up and the state entered
-  pub plan-takes : (s : Sight) (t : ℕ) → planOf names nums ticks e ≡ Take s t → (s ≡ sightOf names nums e) × (t ≡ enters nums s e)
+  pub plan-takes : (s : LookedUp) (t : ℕ) → planOf names nums ticks e ≡ Take s t → (s ≡ lookedUp names nums e) × (t ≡ enters nums s e)
   unfolding planOf planBy
-  plan-takes s t q = by-answer (sightOf names nums e) ruled q
+  plan-takes s t q = by-answer (lookedUp names nums e) ruled q
     where
-      by-answer : (x : Sight) (a : ℕ) → ifZero a (Take x (enters nums x e)) (Refuse a) ≡ Take s t → (s ≡ x) × (t ≡ enters nums s e)
+      by-answer : (x : LookedUp) (a : ℕ) → ifZero a (Take x (enters nums x e)) (Refuse a) ≡ Take s t → (s ≡ x) × (t ≡ enters nums s e)
       by-answer x zero p =
           let same : x ≡ s = cc in
           let state : enters nums x e ≡ t = cc in
-          (sym same, sym state ∙ ap (λ (y : Sight). enters nums y e) same)
+          (sym same, sym state ∙ ap (λ (y : LookedUp). enters nums y e) same)
       by-answer x (suc a) p = let z : _≡_ {A = ℕ} 0 1 = cc in absurd (omega arith)

@@ -44,11 +44,11 @@ use Rattle.rules.proofs.CoreWords.{on-process}
 use Rattle.tables.specs.declared.find.Found.{Found}
 use Rattle.tables.specs.declared.find.Found.the-variants.{At, Nothing}
 use Rattle.tables.specs.Entry.{startedEntry, lastTime}
-use Rattle.decide.specs.declared.sight.Sight.{Sight}
+use Rattle.decide.specs.declared.look.LookedUp.{LookedUp}
 use Rattle.decide.specs.declared.plan.Plan.{Plan}
 use Rattle.decide.specs.declared.plan.Plan.the-variants.{Refuse, Take}
-use Rattle.decide.specs.Sight.{sightOf}
-use Rattle.decide.specs.Known.{kindIn, markIn, numberIn, numberedIn, stateIn, another, isHolder, coreIn, knownBy}
+use Rattle.decide.specs.LookedUp.{lookedUp}
+use Rattle.decide.specs.Known.{kindIn, standingIn, numberIn, numberedIn, stateIn, another, isHolder, coreIn, knownBy}
 use Rattle.decide.specs.Decide.{enters, planBy, planOf}
 use Rattle.decide.specs.PlanCode.{
   timeFallsIn,
@@ -101,8 +101,8 @@ idle-unheld number Nothing n = refl
 idle-unheld number (At p) n = rw (ne-eqb 1 (p + 2) (λ q. omega arith))
 
 module _ (class number : ℕ) (f : Found) (x : Instance) (first : Bool) where
-  serves-in : (t : Bool) → eqb class 1 ≡ t → (mark : ℕ) →
-      coreServes class mark (isHolder mark number f (x .number)) first ≡ serves (coreIn mark number f x) t first x
+  serves-in : (t : Bool) → eqb class 1 ≡ t → (standing : ℕ) →
+      coreServes class standing (isHolder standing number f (x .number)) first ≡ serves (coreIn standing number f x) t first x
   unfolding coreServes coreIn
   serves-in true q zero = rw q
   serves-in false q zero = rw q
@@ -119,7 +119,7 @@ module _ (class number : ℕ) (f : Found) (x : Instance) (first : Bool) where
 
 -- ---- each rule
 
-module _ (nums ticks : List ℕ) (s : Sight) (e : Event) where
+module _ (nums ticks : List ℕ) (s : LookedUp) (e : Event) where
   time-in : timeFallsIn nums ticks (e .time) ≡ timeFalls (knownBy nums ticks s e) e
   unfolding timeFallsIn timeFalls knownBy
   time-in = by-test (eqb (startedEntry nums) 0)
@@ -172,8 +172,8 @@ module _ (nums ticks : List ℕ) (s : Sight) (e : Event) where
     unfolding coreBrokenIn coreBroken knownBy
     core-in = rw on-in (by-test (onCore e) refl)
       where
-        mark : ℕ
-        mark = markIn nums (s .source)
+        standing : ℕ
+        standing = standingIn nums (s .source)
 
         state : ℕ
         state = stateIn nums s (e .kind)
@@ -182,18 +182,18 @@ module _ (nums ticks : List ℕ) (s : Sight) (e : Event) where
         number = numberIn nums (s .source)
 
         by-test : (b : Bool) → onCore e ≡ b →
-            b && not (coreServes (s .class) mark (isHolder mark number (s .target) (e .targetInstance)) (eqb state 0))
-            ≡ b && not (serves (coreIn mark number (s .target) (instanceOf e)) (takes (e .word)) (unseen (opened state)) (instanceOf e))
+            b && not (coreServes (s .class) standing (isHolder standing number (s .target) (e .targetInstance)) (eqb state 0))
+            ≡ b && not (serves (coreIn standing number (s .target) (instanceOf e)) (takes (e .word)) (unseen (opened state)) (instanceOf e))
         by-test true o =
             ap not
-            (ap (λ (n : ℕ). coreServes (s .class) mark (isHolder mark number (s .target) n) (eqb state 0)) (sym (own-number e (on-instances e o)))
-            ∙ serves-in (s .class) number (s .target) (instanceOf e) (eqb state 0) (takes (e .word)) (rw c (class-takes e o)) mark
-            ∙ ap (λ (b : Bool). serves (coreIn mark number (s .target) (instanceOf e)) (takes (e .word)) b (instanceOf e)) (unseen-opened state))
+            (ap (λ (n : ℕ). coreServes (s .class) standing (isHolder standing number (s .target) n) (eqb state 0)) (sym (own-number e (on-instances e o)))
+            ∙ serves-in (s .class) number (s .target) (instanceOf e) (eqb state 0) (takes (e .word)) (rw c (class-takes e o)) standing
+            ∙ ap (λ (b : Bool). serves (coreIn standing number (s .target) (instanceOf e)) (takes (e .word)) b (instanceOf e)) (unseen-opened state))
         by-test false o = refl
 
 -- ---- the answer as a plan
 
-module _ (s : Sight) (t : ℕ) where
+module _ (s : LookedUp) (t : ℕ) where
   abbrev planFor : ℕ → Plan
   planFor n = ifZero n (Take s t) (Refuse n)
 
@@ -206,7 +206,7 @@ module _ (s : Sight) (t : ℕ) where
   tested-two true d n a p q = refl
   tested-two false d n a p q = tested d n a p q
 
-module _ (nums ticks : List ℕ) (s : Sight) (e : Event) (c : s .class ≡ coreClass (e .kind) (e .word)) where
+module _ (nums ticks : List ℕ) (s : LookedUp) (e : Event) (c : s .class ≡ coreClass (e .kind) (e .word)) where
   abbrev known : Known
   known = knownBy nums ticks s e
 
@@ -233,6 +233,6 @@ module _ (nums ticks : List ℕ) (s : Sight) (e : Event) (c : s .class ≡ coreC
       (tested s t (timeFalls known e) 7 _ _ (tested-two s t (sourceClash known e) (targetClash known e) 8 _ _ (tested s t (noRoom known e) 9 _ _ steps)))
 
 -- the code's tests on what is looked up are the plan
-pub tests-decide : (names nums ticks : List ℕ) (s : Sight) (e : Event) → s ≡ sightOf names nums e → testsPlan nums ticks s e ≡ planOf names nums ticks e
-unfolding planOf sightOf
-tests-decide names nums ticks s e q = tests-plan nums ticks s e (ap (λ (x : Sight). x .class) q) ∙ ap (λ (x : Sight). planBy nums ticks x e) q
+pub tests-decide : (names nums ticks : List ℕ) (s : LookedUp) (e : Event) → s ≡ lookedUp names nums e → testsPlan nums ticks s e ≡ planOf names nums ticks e
+unfolding planOf lookedUp
+tests-decide names nums ticks s e q = tests-plan nums ticks s e (ap (λ (x : LookedUp). x .class) q) ∙ ap (λ (x : LookedUp). planBy nums ticks x e) q

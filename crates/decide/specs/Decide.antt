@@ -10,10 +10,10 @@ use Rattle.rules.specs.Event.{Event}
 use Rattle.rules.specs.Refusals.{answerTo}
 use Rattle.rules.specs.Rows.{leadsTo}
 use Rattle.tables.specs.Sized.{isSized}
-use Rattle.decide.specs.declared.sight.Sight.{Sight}
+use Rattle.decide.specs.declared.look.LookedUp.{LookedUp}
 use Rattle.decide.specs.declared.plan.Plan.{Plan}
 use Rattle.decide.specs.declared.plan.Plan.the-variants.{Refuse, Take}
-use Rattle.decide.specs.Sight.{sightOf}
+use Rattle.decide.specs.LookedUp.{lookedUp}
 use Rattle.decide.specs.Known.{stateIn, knownBy}
 
 -- the number of document 01's table that a plan is: that of the refusal, and 0 for a line that is taken
@@ -22,15 +22,15 @@ planAnswer (Refuse n) = n
 planAnswer (Take s state) = 0
 
 -- the state that the event's semaphore or instance enters
-unfoldable pub enters : List ℕ → Sight → Event → ℕ
+unfoldable pub enters : List ℕ → LookedUp → Event → ℕ
 enters nums s e = leadsTo (stepFor (chartOf (e .kind)) (e .word)) (stateIn nums s (e .kind))
 
-unfoldable pub planBy : List ℕ → List ℕ → Sight → Event → Plan
+unfoldable pub planBy : List ℕ → List ℕ → LookedUp → Event → Plan
 planBy nums ticks s e = ifZero (answerTo (knownBy nums ticks s e) e) (Take s (enters nums s e)) (Refuse (answerTo (knownBy nums ticks s e) e))
 
 -- for tables of the right sizes
 unfoldable pub planOf : List ℕ → List ℕ → List ℕ → Event → Plan
-planOf names nums ticks e = planBy nums ticks (sightOf names nums e) e
+planOf names nums ticks e = planBy nums ticks (lookedUp names nums e) e
 
 -- 15: "lent output or table of the wrong size"
 unfoldable pub decided : List ℕ → List ℕ → List ℕ → Event → Plan

@@ -12,8 +12,8 @@ use Rattle.rules.specs.History.{hasInstances, isTracked}
 use Rattle.rules.specs.Refusals.{Known}
 use Rattle.tables.specs.declared.find.Found.{Found}
 use Rattle.tables.specs.declared.find.Found.the-variants.{At, Nothing}
-use Rattle.tables.specs.Entry.{Column, entryAt, kindColumn, markColumn, numberColumn, numberedColumn, stateColumn, startedEntry, lastTime, nameCount, coreCount, instanceCount}
-use Rattle.decide.specs.declared.sight.Sight.{Sight}
+use Rattle.tables.specs.Entry.{Column, entryAt, kindColumn, standingColumn, numberColumn, numberedColumn, stateColumn, startedEntry, lastTime, nameCount, coreCount, instanceCount}
+use Rattle.decide.specs.declared.look.LookedUp.{LookedUp}
 
 -- an entry of a column, in the row found; 0 where there is none
 unfoldable pub entryOf : Column → List ℕ → Found → ℕ
@@ -24,8 +24,8 @@ entryOf c nums (At i) = cond (ltb i (c .rows)) (entryAt c nums i) 0
 abbrev pub kindIn : List ℕ → Found → ℕ
 kindIn = entryOf kindColumn
 
-abbrev pub markIn : List ℕ → Found → ℕ
-markIn = entryOf markColumn
+abbrev pub standingIn : List ℕ → Found → ℕ
+standingIn = entryOf standingColumn
 
 abbrev pub numberIn : List ℕ → Found → ℕ
 numberIn = entryOf numberColumn
@@ -34,23 +34,23 @@ abbrev pub numberedIn : List ℕ → Found → ℕ
 numberedIn = entryOf numberedColumn
 
 -- the state of an event line's semaphore or instance
-unfoldable pub stateIn : List ℕ → Sight → ℕ → ℕ
-stateIn nums s k = cond (eqb k semaphore) (markIn nums (s .target)) (entryOf stateColumn nums (s .instance))
+unfoldable pub stateIn : List ℕ → LookedUp → ℕ → ℕ
+stateIn nums s k = cond (eqb k semaphore) (standingIn nums (s .target)) (entryOf stateColumn nums (s .instance))
 
 -- 1 where a row is needed and there is none yet
-abbrev pub oneNew : Bool → Found → ℕ
-oneNew false f = 0
-oneNew true (At i) = 0
-oneNew true Nothing = 1
+abbrev pub rowsAdded : Bool → Found → ℕ
+rowsAdded false f = 0
+rowsAdded true (At i) = 0
+rowsAdded true Nothing = 1
 
-abbrev pub newCore : Sight → ℕ
-newCore s = oneNew (not (eqb (s .class) no-core)) (s .source)
+abbrev pub newCore : LookedUp → ℕ
+newCore s = rowsAdded (not (eqb (s .class) no-core)) (s .source)
 
-abbrev pub newName : Sight → ℕ → ℕ
-newName s k = oneNew (isTracked k) (s .target)
+abbrev pub newName : LookedUp → ℕ → ℕ
+newName s k = rowsAdded (isTracked k) (s .target)
 
-abbrev pub newInstance : Sight → ℕ → ℕ
-newInstance s k = oneNew (hasInstances k) (s .instance)
+abbrev pub newInstance : LookedUp → ℕ → ℕ
+newInstance s k = rowsAdded (hasInstances k) (s .instance)
 
 abbrev pub numberKnown : List ℕ → Found → Option ℕ
 numberKnown nums f = cond (eqb (numberedIn nums f) 0) none (some (numberIn nums f))
@@ -61,13 +61,13 @@ another x = record { kind = suc (x .kind); name = x .name; number = x .number }
 
 -- a core's state and number name the instance n of the name in a row
 abbrev pub isHolder : ℕ → ℕ → Found → ℕ → Bool
-isHolder mark number Nothing n = false
-isHolder mark number (At p) n = eqb mark (p + 2) && eqb number n
+isHolder standing number Nothing n = false
+isHolder standing number (At p) n = eqb standing (p + 2) && eqb number n
 
 unfoldable pub coreIn : ℕ → ℕ → Found → Instance → Core
-coreIn mark number f x = cond (eqb mark 0) unknown (cond (eqb mark 1) idle (cond (isHolder mark number f (x .number)) (held x) (held (another x))))
+coreIn standing number f x = cond (eqb standing 0) unknown (cond (eqb standing 1) idle (cond (isHolder standing number f (x .number)) (held x) (held (another x))))
 
-unfoldable pub knownBy : List ℕ → List ℕ → Sight → Event → Known
+unfoldable pub knownBy : List ℕ → List ℕ → LookedUp → Event → Known
 knownBy nums ticks s e = record {
   time = cond (eqb (startedEntry nums) 0) none (some (lastTime ticks));
   sourceKind = opened (kindIn nums (s .source));
@@ -77,6 +77,6 @@ knownBy nums ticks s e = record {
   instances = instanceCount nums + newInstance s (e .kind);
   state = opened (stateIn nums s (e .kind));
   number = numberKnown nums (s .target);
-  core = coreIn (markIn nums (s .source)) (numberIn nums (s .source)) (s .target) (instanceOf e);
+  core = coreIn (standingIn nums (s .source)) (numberIn nums (s .source)) (s .target) (instanceOf e);
   count = numberKnown nums (s .target);
 }

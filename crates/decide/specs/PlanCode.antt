@@ -17,10 +17,10 @@ use Rattle.rules.specs.declared.chart.Move.the-variants.{To, Off}
 use Rattle.rules.specs.History.{isTracked, activates}
 use Rattle.rules.specs.Refusals.{countAllowed}
 use Rattle.tables.specs.Entry.{startedEntry, lastTime, nameCount, coreCount, instanceCount}
-use Rattle.decide.specs.declared.sight.Sight.{Sight}
+use Rattle.decide.specs.declared.look.LookedUp.{LookedUp}
 use Rattle.decide.specs.declared.plan.Plan.{Plan}
 use Rattle.decide.specs.declared.plan.Plan.the-variants.{Refuse, Take}
-use Rattle.decide.specs.Known.{kindIn, markIn, numberIn, numberedIn, stateIn, newCore, newName, newInstance, isHolder}
+use Rattle.decide.specs.Known.{kindIn, standingIn, numberIn, numberedIn, stateIn, newCore, newName, newInstance, isHolder}
 
 -- ---- each refusal
 
@@ -30,29 +30,29 @@ timeFallsIn nums ticks time = not (eqb (startedEntry nums) 0) && ltb time (lastT
 unfoldable pub kindClash : ℕ → ℕ → Bool
 kindClash j k = not (eqb j 0) && not (eqb j k)
 
-unfoldable pub sourceClashIn : List ℕ → Sight → List ℕ → List ℕ → Bool
+unfoldable pub sourceClashIn : List ℕ → LookedUp → List ℕ → List ℕ → Bool
 sourceClashIn nums s source target = not (eqb (s .class) no-core) && (kindClash (kindIn nums (s .source)) core || sameBytes source target)
 
-unfoldable pub targetClashIn : List ℕ → Sight → ℕ → Bool
+unfoldable pub targetClashIn : List ℕ → LookedUp → ℕ → Bool
 targetClashIn nums s k = isTracked k && kindClash (kindIn nums (s .target)) k
 
-unfoldable pub noRoomIn : List ℕ → Sight → ℕ → Bool
+unfoldable pub noRoomIn : List ℕ → LookedUp → ℕ → Bool
 noRoomIn nums s k =
     ltb nameLimit (nameCount nums + newCore s + newName s k)
     || (ltb coreLimit (coreCount nums + newCore s) || ltb instanceLimit (instanceCount nums + newInstance s k))
 
-unfoldable pub notNextIn : List ℕ → Sight → ℕ → ℕ → ℕ → Bool
+unfoldable pub notNextIn : List ℕ → LookedUp → ℕ → ℕ → ℕ → Bool
 notNextIn nums s k a n = activates k a && (not (eqb (numberedIn nums (s .target)) 0) && not (eqb n (numberIn nums (s .target) + 1)))
 
 -- whether a core serves an event of a class: `holder`, the event's instance holds it, and `first`, that instance is seen for the first time
 unfoldable pub coreServes : ℕ → ℕ → Bool → Bool → Bool
-coreServes class mark holder first = cond (eqb class takes-core) (leb mark 1) (cond (eqb mark 0) first holder)
+coreServes class standing holder first = cond (eqb class takes-core) (leb standing 1) (cond (eqb standing 0) first holder)
 
-unfoldable pub coreBrokenIn : List ℕ → Sight → ℕ → ℕ → Bool
+unfoldable pub coreBrokenIn : List ℕ → LookedUp → ℕ → ℕ → Bool
 coreBrokenIn nums s k n =
-    let mark = markIn nums (s .source) in
+    let standing = standingIn nums (s .source) in
     not (eqb (s .class) no-core)
-    && not (coreServes (s .class) mark (isHolder mark (numberIn nums (s .source)) (s .target) n) (eqb (stateIn nums s k) 0))
+    && not (coreServes (s .class) standing (isHolder standing (numberIn nums (s .source)) (s .target) n) (eqb (stateIn nums s k) 0))
 
 unfoldable pub countFollowsIn : ℕ → ℕ → ℕ → Bool
 countFollowsIn c a n = cond (eqb a increment) (eqb n (c + 1)) (cond (eqb a decrement) (eqb (n + 1) c) (eqb n c))
@@ -60,22 +60,22 @@ countFollowsIn c a n = cond (eqb a increment) (eqb n (c + 1)) (cond (eqb a decre
 unfoldable pub leastCount : ℕ → ℕ
 leastCount a = cond (member a (increment ∷ used ∷ unlock-full ∷ lock-used ∷ full ∷ [])) 1 (cond (eqb a overfull) 2 0)
 
-unfoldable pub countBrokenIn : List ℕ → Sight → ℕ → ℕ → ℕ → Bool
+unfoldable pub countBrokenIn : List ℕ → LookedUp → ℕ → ℕ → ℕ → Bool
 countBrokenIn nums s k a n =
     eqb k semaphore
     && (not (countAllowed a n) || (not (eqb (numberedIn nums (s .target)) 0) && not (countFollowsIn (numberIn nums (s .target)) a n)))
 
 -- ---- test after test
 
-abbrev pub movePlan : Move → List ℕ → Sight → ℕ → ℕ → ℕ → ℕ → Plan
+abbrev pub movePlan : Move → List ℕ → LookedUp → ℕ → ℕ → ℕ → ℕ → Plan
 movePlan Off nums s k a n c = Refuse 11
 movePlan (To t) nums s k a n c =
     cond (notNextIn nums s k a n) (Refuse 12) (cond (coreBrokenIn nums s k n) (Refuse 13) (cond (countBrokenIn nums s k a c) (Refuse 14) (Take s t)))
 
-unfoldable pub stepsPlan : List ℕ → Sight → ℕ → ℕ → ℕ → ℕ → Plan
+unfoldable pub stepsPlan : List ℕ → LookedUp → ℕ → ℕ → ℕ → ℕ → Plan
 stepsPlan nums s k a n c = movePlan (moveBy (chartOf k) a (stateIn nums s k)) nums s k a n c
 
-unfoldable pub testsPlan : List ℕ → List ℕ → Sight → Event → Plan
+unfoldable pub testsPlan : List ℕ → List ℕ → LookedUp → Event → Plan
 testsPlan nums ticks s e =
     cond (timeFallsIn nums ticks (e .time)) (Refuse 8)
     (cond (sourceClashIn nums s (e .source) (e .target)) (Refuse 9)

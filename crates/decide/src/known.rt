@@ -4,9 +4,9 @@ ghost use mathlib.Core.Bool.{not};
 ghost use lib.Dec.{eqb};
 ghost use Prim.Native.Nat.{_+_, _≤_};
 ghost use lib.ListN.{length};
-ghost use Rattle.decide.specs.Known.{entryOf, kindIn, markIn, numberIn, numberedIn, oneNew, stateIn};
+ghost use Rattle.decide.specs.Known.{entryOf, kindIn, standingIn, numberIn, numberedIn, rowsAdded, stateIn};
 ghost use Rattle.tables.specs.Entry.{numsSize, column, stateColumn};
-use crate::sight::Sight;
+use crate::look::LookedUp;
 use rules::numbers::SEMAPHORE;
 use tables::entry::*;
 use tables::find::Found;
@@ -34,11 +34,11 @@ pub(crate) fn kind_in(nums: &[u32], f: Found) -> u32
 }
 
 // The state of the core or semaphore in a row.
-pub(crate) fn mark_in(nums: &[u32], f: Found) -> u32
+pub(crate) fn standing_in(nums: &[u32], f: Found) -> u32
     requires { ⌜ length (now nums) ≡ numsSize ⌝ }
-    ensures { λ r. ⌜ r ≡ markIn (now (nums .entry)) f ⌝ }
+    ensures { λ r. ⌜ r ≡ standingIn (now (nums .entry)) f ⌝ }
 {
-    entry(nums, MARK, NAME_ROWS, f)
+    entry(nums, STANDING, NAME_ROWS, f)
 }
 
 // The state of the instance in a row.
@@ -50,21 +50,21 @@ fn instance_state(nums: &[u32], f: Found) -> u32
 }
 
 // The state of an event line's semaphore or instance.
-pub(crate) fn state_in(nums: &[u32], s: Sight, kind: u32) -> u32
+pub(crate) fn state_in(nums: &[u32], s: LookedUp, kind: u32) -> u32
     requires { ⌜ length (now nums) ≡ numsSize ⌝ }
     ensures { λ r. ⌜ r ≡ stateIn (now (nums .entry)) s kind ⌝ }
 {
     let target = s.target;
     let instance = s.instance;
     if kind == SEMAPHORE {
-        return mark_in(nums, target);
+        return standing_in(nums, target);
     }
     instance_state(nums, instance)
 }
 
 // 1 where a row is needed and there is none yet.
-pub fn one_new(needed: bool, f: Found) -> u64
-    ensures { λ r. ⌜ r ≡ oneNew needed f ⌝ }
+pub fn rows_added(needed: bool, f: Found) -> u64
+    ensures { λ r. ⌜ r ≡ rowsAdded needed f ⌝ }
 {
     if !needed {
         return 0;

@@ -8,7 +8,7 @@ use libc::STDIN_FILENO;
 use run::chunk::Turn;
 use run::chunk::take_chunk;
 use run::chunk::take_last;
-use tables::table_answer;
+use tables::range::table_answer;
 
 // What one read came to: how many bytes, never 0; the end of input; or an error.
 enum Got {

@@ -4,10 +4,10 @@ ghost use Rattle.input.specs.Whole.{lent, sizeRefusal, lentRefusal, Answ
 use crate::reads::BUFFER_SIZE;
 use crate::reads::Input;
 use crate::reads::read_all;
-use judge::fresh::fresh;
 use run::report::TEXT_MOST;
 use run::report::report;
 use sheet::sheet::Printed;
+use tables::fresh::fresh;
 use tables::range::sized;
 
 // How many bytes of the output the text takes, and how many were read; that a read failed; or a refusal of what was lent, 15, and nothing was

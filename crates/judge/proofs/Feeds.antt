@@ -20,6 +20,8 @@ use Rattle.line.specs.Reading.{readLine}
 use Rattle.bill.specs.declared.verdict.Verdict.{Verdict}
 use Rattle.bill.specs.Scale.{scaleNumber}
 use Rattle.rules.specs.declared.place.Place.{Place}
+use Rattle.rules.specs.Event.{Event}
+use Rattle.rules.specs.Lines.{eventFrom}
 use Rattle.rules.specs.PlaceCode.{answerByReading}
 use Rattle.rules.proofs.Tests.{if-some}
 use Rattle.tables.specs.Entry.{namesSize, numsSize, ticksSize, scaleIndex, creatorIndex, dateIndex, verdictNumber}
@@ -28,16 +30,14 @@ use Rattle.tables.specs.Range.{tableAnswer}
 use Rattle.tables.specs.Fresh.{Cleared, cleared, clearedOf}
 use Rattle.tables.proofs.Valid.{valid, sizes-mean}
 use Rattle.tables.proofs.Zeros.{fresh-valid}
-use Rattle.decide.specs.declared.happening.Happening.{Happening}
 use Rattle.decide.specs.declared.plan.Plan.{Plan}
 use Rattle.decide.specs.declared.plan.Plan.the-variants.{Refuse, Take}
-use Rattle.decide.specs.declared.sight.Sight.{Sight}
-use Rattle.decide.specs.Happening.{happeningOf, asEvent}
+use Rattle.decide.specs.declared.look.LookedUp.{LookedUp}
 use Rattle.decide.specs.Decide.{planOf, decided}
 use Rattle.decide.proofs.Decided.{decided-sized}
 use Rattle.store.specs.Store.{stored}
 use Rattle.store.proofs.Stores.{stored-sized, length-takenNames, length-takenNums, length-takenTicks}
-use Rattle.judge.specs.Feed.{Tables, tables, After, after, placeIn, remembered, counted, carried, eventLined, readLined, placedLine, lined, fedLine, allLined, chunked, fedChunk, verdict, verdictIn, verdictOf, freshTables, AfterTrace, traced, judgedTrace}
+use Rattle.judge.specs.Feed.{Tables, tables, After, after, placeIn, remembered, counted, carried, judgedEvent, judgedReading, judgedInPlace, judgedLine, fedLine, judgedLines, chunked, fedChunk, verdict, verdictIn, verdictOf, freshTables, AfterTrace, traced, judgedTrace}
 
 -- ---- sizes
 
@@ -69,52 +69,52 @@ length-counted nums = simp length-set
 only-nums : (t : Tables) (m : List ℕ) → length m ≡ length (t .nums) → Alike t (tables (t .names) m (t .ticks))
 only-nums t m e = record { names-kept = refl; nums-kept = e; ticks-kept = refl }
 
-carried-alike : (p : Plan) (t : Tables) (h : Happening) (source target : List ℕ) → Alike t (carried p t h source target .left)
-carried-alike (Refuse n) t h source target = only-nums t (remembered (t .nums) n) (length-remembered (t .nums) n)
-carried-alike (Take s state) t h source target =
+carried-alike : (p : Plan) (t : Tables) (e : Event) → Alike t (carried p t e .left)
+carried-alike (Refuse n) t e = only-nums t (remembered (t .nums) n) (length-remembered (t .nums) n)
+carried-alike (Take s state) t e =
     record {
-      names-kept = length-takenNames (t .names) (t .nums) s (asEvent h source target);
-      nums-kept = length-takenNums (t .nums) s state h (length source) (length target);
-      ticks-kept = length-takenTicks (t .ticks) (t .nums) s (h .kind) (h .time);
+      names-kept = length-takenNames (t .names) (t .nums) s (e .kind) (e .source) (e .target);
+      nums-kept = length-takenNums (t .nums) s state e;
+      ticks-kept = length-takenTicks (t .ticks) (t .nums) s (e .kind) (e .time);
     }
 
-eventLined-alike : (t : Tables) (l : List ℕ) (e : ReadEvent) (count : ℕ) → Alike t (eventLined t l e count .left)
-unfolding eventLined
-eventLined-alike t l e count =
-    let h = happeningOf e count in
-    carried-alike (planOf (t .names) (t .nums) (t .ticks) (asEvent h (fieldOf l 2) (fieldOf l 5))) t h (fieldOf l 2) (fieldOf l 5)
+judgedEvent-alike : (t : Tables) (l : List ℕ) (e : ReadEvent) (count : ℕ) → Alike t (judgedEvent t l e count .left)
+unfolding judgedEvent
+judgedEvent-alike t l e count =
+    let event = eventFrom e (fieldOf l 2) (fieldOf l 5) count in
+    carried-alike (planOf (t .names) (t .nums) (t .ticks) event) t event
 
 pub length-entry : (nums : List ℕ) (i v : ℕ) → length (counted (set nums i v)) ≡ length nums
 length-entry nums i v = length-counted (set nums i v) ∙ length-set nums i v
 
-readLined-alike : (r : Reading) (t : Tables) (l : List ℕ) → Alike t (readLined r t l .left)
-readLined-alike Version t l = only-nums t (counted (t .nums)) (length-counted (t .nums))
-readLined-alike Comment t l = only-nums t (counted (t .nums)) (length-counted (t .nums))
-readLined-alike (TimeScale s) t l = only-nums t (counted (set (t .nums) scaleIndex (scaleNumber s))) (length-entry (t .nums) scaleIndex (scaleNumber s))
-readLined-alike Creator t l = only-nums t (counted (set (t .nums) creatorIndex 1)) (length-entry (t .nums) creatorIndex 1)
-readLined-alike CreationDate t l = only-nums t (counted (set (t .nums) dateIndex 1)) (length-entry (t .nums) dateIndex 1)
-readLined-alike (EventLine e count) t l = eventLined-alike t l e count
-readLined-alike (Refused n) t l = same t
+judgedReading-alike : (r : Reading) (t : Tables) (l : List ℕ) → Alike t (judgedReading r t l .left)
+judgedReading-alike Version t l = only-nums t (counted (t .nums)) (length-counted (t .nums))
+judgedReading-alike Comment t l = only-nums t (counted (t .nums)) (length-counted (t .nums))
+judgedReading-alike (TimeScale s) t l = only-nums t (counted (set (t .nums) scaleIndex (scaleNumber s))) (length-entry (t .nums) scaleIndex (scaleNumber s))
+judgedReading-alike Creator t l = only-nums t (counted (set (t .nums) creatorIndex 1)) (length-entry (t .nums) creatorIndex 1)
+judgedReading-alike CreationDate t l = only-nums t (counted (set (t .nums) dateIndex 1)) (length-entry (t .nums) dateIndex 1)
+judgedReading-alike (EventLine e count) t l = judgedEvent-alike t l e count
+judgedReading-alike (Refused n) t l = same t
 
-placedLine-alike : (n : ℕ) (t : Tables) (l : List ℕ) → Alike t (placedLine n t l .left)
-unfolding placedLine
-placedLine-alike zero t l = readLined-alike (readLine l) t l
-placedLine-alike (suc n) t l = only-nums t (remembered (t .nums) (suc n)) (length-remembered (t .nums) (suc n))
+judgedInPlace-alike : (n : ℕ) (t : Tables) (l : List ℕ) → Alike t (judgedInPlace n t l .left)
+unfolding judgedInPlace
+judgedInPlace-alike zero t l = judgedReading-alike (readLine l) t l
+judgedInPlace-alike (suc n) t l = only-nums t (remembered (t .nums) (suc n)) (length-remembered (t .nums) (suc n))
 
 either-alike : (b : Bool) (t : Tables) (x y : After) → Alike t (x .left) → Alike t (y .left) → Alike t (cond b x y .left)
 either-alike true t x y p q = p
 either-alike false t x y p q = q
 
-pub lined-alike : (t : Tables) (l : List ℕ) → Alike t (lined t l .left)
-unfolding lined
-lined-alike t l =
+pub judgedLine-alike : (t : Tables) (l : List ℕ) → Alike t (judgedLine t l .left)
+unfolding judgedLine
+judgedLine-alike t l =
     let n = answerByReading (placeIn (t .nums)) (readLine l) in
-    either-alike (eqb (verdictNumber (t .nums)) 0) t (placedLine n t l) (after (verdictNumber (t .nums)) (t .names) (t .nums) (t .ticks)) (placedLine-alike n t l) (same t)
+    either-alike (eqb (verdictNumber (t .nums)) 0) t (judgedInPlace n t l) (after (verdictNumber (t .nums)) (t .names) (t .nums) (t .ticks)) (judgedInPlace-alike n t l) (same t)
 
-pub allLined-alike : (t : Tables) (ls : List (List ℕ)) → Alike t (allLined t ls)
-unfolding allLined
-allLined-alike t [] = same t
-allLined-alike t (l ∷ ls) = chain (lined-alike t l) (allLined-alike (lined t l .left) ls)
+pub judgedLines-alike : (t : Tables) (ls : List (List ℕ)) → Alike t (judgedLines t ls)
+unfolding judgedLines
+judgedLines-alike t [] = same t
+judgedLines-alike t (l ∷ ls) = chain (judgedLine-alike t l) (judgedLines-alike (judgedLine t l .left) ls)
 
 pub alike-sized : {t u : Tables} → Alike t u → Sized (t .names) (t .nums) (t .ticks) → Sized (u .names) (u .nums) (u .ticks)
 alike-sized a s = record { names-size = a .names-kept ∙ s .names-size; nums-size = a .nums-kept ∙ s .nums-size; ticks-size = a .ticks-kept ∙ s .ticks-size }
@@ -134,8 +134,8 @@ fresh-sized e = rw e (fresh-valid .sizes)
 left-alike : {t : Tables} {x y : After} → x ≡ y → Alike t (y .left) → Alike t (x .left)
 left-alike e a = rw e a
 
-pub lines-alike : {t u : Tables} (ls : List (List ℕ)) → u ≡ allLined t ls → Alike t u
-lines-alike {t} ls e = rw e (allLined-alike t ls)
+pub lines-alike : {t u : Tables} (ls : List (List ℕ)) → u ≡ judgedLines t ls → Alike t u
+lines-alike {t} ls e = rw e (judgedLines-alike t ls)
 
 pub same-tables : {a b d x y z : List ℕ} → a ≡ x → b ≡ y → d ≡ z → tables a b d ≡ tables x y z
 same-tables p q r = rw (p, q, r)
@@ -143,37 +143,36 @@ same-tables p q r = rw (p, q, r)
 -- ---- an event line
 
 module _ (t : Tables) where
-  pub refused-carried : {p : Plan} {r n : ℕ} {m : List ℕ} (h : Happening) (source target : List ℕ) → p ≡ Refuse n → r ≡ n → m ≡ remembered (t .nums) n
-      → after r (t .names) m (t .ticks) ≡ carried p t h source target
-  refused-carried h source target p r m = rw (p, r, m)
+  pub refused-carried : {p : Plan} {r n : ℕ} {m : List ℕ} (e : Event) → p ≡ Refuse n → r ≡ n → m ≡ remembered (t .nums) n → after r (t .names) m (t .ticks) ≡ carried p t e
+  refused-carried e p r m = rw (p, r, m)
 
-  pub taken-carried : {p : Plan} {s : Sight} {state : ℕ} {u : Tables} (h : Happening) (source target : List ℕ) → Sized (t .names) (t .nums) (t .ticks) → p ≡ Take s state
-      → u ≡ stored t s state h source target → after 0 (u .names) (u .nums) (u .ticks) ≡ carried p t h source target
-  taken-carried {s = s} {state} h source target z p q = rw (p, q, stored-sized t s state h source target z)
+  pub taken-carried : {p : Plan} {s : LookedUp} {state : ℕ} {u : Tables} (e : Event) → Sized (t .names) (t .nums) (t .ticks) → p ≡ Take s state → u ≡ stored t s state e
+      → after 0 (u .names) (u .nums) (u .ticks) ≡ carried p t e
+  taken-carried {s = s} {state} e z p q = rw (p, q, stored-sized t s state e z)
 
-  pub carried-lined : {p : Plan} {h : Happening} {source target : List ℕ} (l : List ℕ) (e : ReadEvent) (count : ℕ) → Sized (t .names) (t .nums) (t .ticks) → h ≡ happeningOf e count
+  pub carried-judged : {p : Plan} {source target : List ℕ} (l : List ℕ) (e : ReadEvent) (count : ℕ) → Sized (t .names) (t .nums) (t .ticks)
       → source ≡ fieldOf l 2 → target ≡ fieldOf l 5
-      → p ≡ decided (t .names) (t .nums) (t .ticks) (asEvent h source target) → carried p t h source target ≡ eventLined t l e count
-  unfolding eventLined
-  carried-lined {h = h} {source} {target} l e count z ph ps pt pp = rw (pp, decided-sized (asEvent h source target) z, ph, ps, pt)
+      → p ≡ decided (t .names) (t .nums) (t .ticks) (eventFrom e source target count) → carried p t (eventFrom e source target count) ≡ judgedEvent t l e count
+  unfolding judgedEvent
+  carried-judged {source = source} {target} l e count z ps pt pp = rw (pp, decided-sized (eventFrom e source target count) z, ps, pt)
 
 -- ---- a line
 
 module _ (t : Tables) (l : List ℕ) where
-  pub verdict-again : (verdictNumber (t .nums) ≡ 0 → ⊥) → after (verdictNumber (t .nums)) (t .names) (t .nums) (t .ticks) ≡ lined t l
-  unfolding lined
+  pub verdict-again : (verdictNumber (t .nums) ≡ 0 → ⊥) → after (verdictNumber (t .nums)) (t .names) (t .nums) (t .ticks) ≡ judgedLine t l
+  unfolding judgedLine
   verdict-again h = rw (ne-eqb (verdictNumber (t .nums)) 0 h)
 
-  pub placed-lined : {p : Place} {r : Reading} {n : ℕ} → verdictNumber (t .nums) ≡ 0 → p ≡ placeIn (t .nums) → r ≡ readLine l → n ≡ answerByReading p r → placedLine n t l ≡ lined t l
-  unfolding lined
-  placed-lined h pp pr pn = rw (eq-eqb (verdictNumber (t .nums)) 0 h, pn, pp, pr)
+  pub placed-judged : {p : Place} {r : Reading} {n : ℕ} → verdictNumber (t .nums) ≡ 0 → p ≡ placeIn (t .nums) → r ≡ readLine l → n ≡ answerByReading p r → judgedInPlace n t l ≡ judgedLine t l
+  unfolding judgedLine
+  placed-judged h pp pr pn = rw (eq-eqb (verdictNumber (t .nums)) 0 h, pn, pp, pr)
 
-  pub refused-placed : {r n : ℕ} {m : List ℕ} → (n ≡ 0 → ⊥) → r ≡ n → m ≡ remembered (t .nums) n → after r (t .names) m (t .ticks) ≡ placedLine n t l
-  unfolding placedLine
-  refused-placed {r} {n} h pr pm = rw (pr, pm) (sym (if-some n (readLined (readLine l) t l) (after n (t .names) (remembered (t .nums) n) (t .ticks)) h))
+  pub refused-placed : {r n : ℕ} {m : List ℕ} → (n ≡ 0 → ⊥) → r ≡ n → m ≡ remembered (t .nums) n → after r (t .names) m (t .ticks) ≡ judgedInPlace n t l
+  unfolding judgedInPlace
+  refused-placed {r} {n} h pr pm = rw (pr, pm) (sym (if-some n (judgedReading (readLine l) t l) (after n (t .names) (remembered (t .nums) n) (t .ticks)) h))
 
-  pub read-placed : {x : After} {r : Reading} {n : ℕ} → n ≡ 0 → r ≡ readLine l → x ≡ readLined r t l → x ≡ placedLine n t l
-  unfolding placedLine
+  pub read-placed : {x : After} {r : Reading} {n : ℕ} → n ≡ 0 → r ≡ readLine l → x ≡ judgedReading r t l → x ≡ judgedInPlace n t l
+  unfolding judgedInPlace
   read-placed h pr px = rw (h, ← pr) px
 
 -- ---- the tables tested first
@@ -187,26 +186,26 @@ module _ (t : Tables) where
 
   pub refused-fed : {r : ℕ} (l : List ℕ) → r ≡ answer → (r ≡ 0 → ⊥) → after r (t .names) (t .nums) (t .ticks) ≡ fedLine t l
   unfolding fedLine
-  refused-fed {r} l e h = rw (← e) (sym (if-some r (lined t l) (after r (t .names) (t .nums) (t .ticks)) h))
+  refused-fed {r} l e h = rw (← e) (sym (if-some r (judgedLine t l) (after r (t .names) (t .nums) (t .ticks)) h))
 
-  pub lined-fed : {r : ℕ} {x : After} (l : List ℕ) → r ≡ answer → r ≡ 0 → x ≡ lined t l → x ≡ fedLine t l
+  pub judged-fed : {r : ℕ} {x : After} (l : List ℕ) → r ≡ answer → r ≡ 0 → x ≡ judgedLine t l → x ≡ fedLine t l
   unfolding fedLine
-  lined-fed l e z p = rw (← e, z) p
+  judged-fed l e z p = rw (← e, z) p
 
   pub refused-chunk : {r : ℕ} (s : List ℕ) → r ≡ answer → (r ≡ 0 → ⊥)
       → chunked (record { answer = r; used = 0 }) (t .names) (t .nums) (t .ticks) ≡ fedChunk t s
   unfolding fedChunk
   refused-chunk {r} s e h =
-      let u = allLined t (wholeLines s) in
+      let u = judgedLines t (wholeLines s) in
       rw (← e)
       (sym
       (if-some r (chunked (record { answer = verdictNumber (u .nums); used = usedUp s }) (u .names) (u .nums) (u .ticks))
       (chunked (record { answer = r; used = 0 }) (t .names) (t .nums) (t .ticks)) h))
 
-  pub lined-chunk : {r n : ℕ} {u : Tables} (s : List ℕ) → r ≡ answer → r ≡ 0 → n ≡ usedUp s → u ≡ allLined t (wholeLines s)
+  pub judged-chunk : {r n : ℕ} {u : Tables} (s : List ℕ) → r ≡ answer → r ≡ 0 → n ≡ usedUp s → u ≡ judgedLines t (wholeLines s)
       → chunked (record { answer = verdictNumber (u .nums); used = n }) (u .names) (u .nums) (u .ticks) ≡ fedChunk t s
   unfolding fedChunk
-  lined-chunk s e z pn pu = rw (← e, z, pn, pu)
+  judged-chunk s e z pn pu = rw (← e, z, pn, pu)
 
   pub unsized-verdict : {r : ℕ} → r ≡ answer → (r ≡ 0 → ⊥) → verdict r 0 0 0 ≡ verdictOf t
   unfolding verdictOf
@@ -222,56 +221,56 @@ pub record Going (t u : Tables) (s : List ℕ) (at : ℕ) : Type 0 where
   pub inside : at ≤ length s
   pub alike : Alike t u
   pub used : at + usedUp (drop at s) ≡ usedUp s
-  pub lines : allLined u (wholeLines (drop at s)) ≡ allLined t (wholeLines s)
+  pub lines : judgedLines u (wholeLines (drop at s)) ≡ judgedLines t (wholeLines s)
 
 pub going-start : (t : Tables) (s : List ℕ) → Going t t s 0
 going-start t s = record { inside = omega arith; alike = same t; used = omega arith; lines = refl }
 
-pub going-on : {t u : Tables} {s : List ℕ} {at e n : ℕ} {x : After} → Going t u s at → Stepped s at e n → x ≡ lined u (take (e - at) (drop at s)) → Going t (x .left) s n
-unfolding allLined
+pub going-on : {t u : Tables} {s : List ℕ} {at e n : ℕ} {x : After} → Going t u s at → Stepped s at e n → x ≡ judgedLine u (take (e - at) (drop at s)) → Going t (x .left) s n
+unfolding judgedLines
 going-on {t} {u} {s} {at} {e} {n} {x} g d p =
     record {
       inside = d .within;
-      alike = chain (g .alike) (left-alike p (lined-alike u (take (e - at) (drop at s))));
+      alike = chain (g .alike) (left-alike p (judgedLine-alike u (take (e - at) (drop at s))));
       used = sym (d .used) ∙ g .used;
-      lines = rw p (sym (ap (allLined u) (d .whole)) ∙ g .lines);
+      lines = rw p (sym (ap (judgedLines u) (d .whole)) ∙ g .lines);
     }
 
-pub going-end : {t u : Tables} {s : List ℕ} {at : ℕ} → Going t u s at → Rested s at → (at ≡ usedUp s) × (u ≡ allLined t (wholeLines s))
-unfolding allLined
-going-end {t} {u} g r = (omega (arith, r .used, g .used), sym (ap (allLined u) (r .whole)) ∙ g .lines)
+pub going-end : {t u : Tables} {s : List ℕ} {at : ℕ} → Going t u s at → Rested s at → (at ≡ usedUp s) × (u ≡ judgedLines t (wholeLines s))
+unfolding judgedLines
+going-end {t} {u} g r = (omega (arith, r .used, g .used), sym (ap (judgedLines u) (r .whole)) ∙ g .lines)
 
 -- ---- a whole trace: the whole lines, and the rest where there is one
 
-pub allLined-append : (t : Tables) (ls ms : List (List ℕ)) → allLined t (ls ++ ms) ≡ allLined (allLined t ls) ms
-unfolding allLined
-allLined-append t [] ms = refl
-allLined-append t (l ∷ ls) ms = allLined-append (lined t l .left) ls ms
+pub judgedLines-append : (t : Tables) (ls ms : List (List ℕ)) → judgedLines t (ls ++ ms) ≡ judgedLines (judgedLines t ls) ms
+unfolding judgedLines
+judgedLines-append t [] ms = refl
+judgedLines-append t (l ∷ ls) ms = judgedLines-append (judgedLine t l .left) ls ms
 
 -- a rest that is not empty is one line
-last-one : (t : Tables) (r : List ℕ) → 0 < length r → allLined t (lastLine r) ≡ lined t r .left
-unfolding allLined
+last-one : (t : Tables) (r : List ℕ) → 0 < length r → judgedLines t (lastLine r) ≡ judgedLine t r .left
+unfolding judgedLines
 last-one t [] h = absurd (omega (arith, h))
 last-one t (x ∷ r) h = refl
 
-last-none : (t : Tables) (r : List ℕ) → length r ≤ 0 → allLined t (lastLine r) ≡ t
-unfolding allLined
+last-none : (t : Tables) (r : List ℕ) → length r ≤ 0 → judgedLines t (lastLine r) ≡ t
+unfolding judgedLines
 last-none t [] h = refl
 last-none t (x ∷ r) h = absurd (omega (arith, h))
 
 module _ (t : Tables) (s : List ℕ) where
-  lines-split : {u : Tables} → u ≡ allLined t (wholeLines s) → allLined u (lastLine (restOf s)) ≡ allLined t (linesOf s)
+  lines-split : {u : Tables} → u ≡ judgedLines t (wholeLines s) → judgedLines u (lastLine (restOf s)) ≡ judgedLines t (linesOf s)
   unfolding linesOf
-  lines-split e = rw e (sym (allLined-append t (wholeLines s) (lastLine (restOf s))))
+  lines-split e = rw e (sym (judgedLines-append t (wholeLines s) (lastLine (restOf s))))
 
-  pub rest-lined : {n : ℕ} {u : Tables} {x : After} → n ≡ usedUp s → u ≡ allLined t (wholeLines s) → n < length s → x ≡ lined u (take (length s - n) (drop n s))
-      → x .left ≡ allLined t (linesOf s)
-  rest-lined {n} {u} {x} pn pu h px =
+  pub rest-judged : {n : ℕ} {u : Tables} {x : After} → n ≡ usedUp s → u ≡ judgedLines t (wholeLines s) → n < length s → x ≡ judgedLine u (take (length s - n) (drop n s))
+      → x .left ≡ judgedLines t (linesOf s)
+  rest-judged {n} {u} {x} pn pu h px =
       let d : take (length s - n) (drop n s) ≡ restOf s = take-all (length s - n) (drop n s) (omega (arith, length-drop n s)) ∙ rw pn (sym (rest-drop s)) in
       ap (λ (y : After). y .left) px ∙ rw d (sym (last-one u (restOf s) (omega (arith, size s)))) ∙ lines-split pu
 
-  pub all-lined : {n : ℕ} {u : Tables} → n ≡ usedUp s → u ≡ allLined t (wholeLines s) → length s ≤ n → u ≡ allLined t (linesOf s)
-  all-lined {n} {u} pn pu h = sym (last-none u (restOf s) (omega (arith, size s))) ∙ lines-split pu
+  pub all-judged : {n : ℕ} {u : Tables} → n ≡ usedUp s → u ≡ judgedLines t (wholeLines s) → length s ≤ n → u ≡ judgedLines t (linesOf s)
+  all-judged {n} {u} pn pu h = sym (last-none u (restOf s) (omega (arith, size s))) ∙ lines-split pu
 
 -- ---- a fresh start
 
@@ -279,7 +278,7 @@ module _ (t : Tables) where
   abbrev fits : Bool
   fits = isSized (length (t .names)) (length (t .nums)) (length (t .ticks))
 
-  -- what `clear` left and answered, by its test
+  -- what `fresh` left and answered, by its test
   abbrev by-test : Bool → Cleared
   by-test b = cond b (cleared 0 (replicate namesSize 0) (replicate numsSize 0) (replicate ticksSize 0)) (cleared 15 (t .names) (t .nums) (t .ticks))
 
@@ -291,7 +290,7 @@ module _ (t : Tables) where
     pub refused-trace : (s : List ℕ) → cleared r a b d ≡ clearedOf (t .names) (t .nums) (t .ticks) → (r ≡ 0 → ⊥) → traced (verdict r 0 0 0) a b d ≡ judgedTrace t s
     unfolding clearedOf judgedTrace
     refused-trace s e h =
-        let u = allLined freshTables (linesOf s) in
+        let u = judgedLines freshTables (linesOf s) in
         refused-by fits (traced (verdictIn (u .nums) (u .ticks)) (u .names) (u .nums) (u .ticks)) e h
 
     fresh-by : (f : Bool) → cleared r a b d ≡ by-test f → r ≡ 0 → (f ≡ true) × (tables a b d ≡ freshTables)
@@ -305,7 +304,7 @@ module _ (t : Tables) where
   pub fits-sized : fits ≡ true → Sized (t .names) (t .nums) (t .ticks)
   fits-sized f = sizes-mean (t .names) (t .nums) (t .ticks) .holds f
 
-  pub judged-trace : {u : Tables} {v : Verdict} (s : List ℕ) → fits ≡ true → u ≡ allLined freshTables (linesOf s) → v ≡ verdictIn (u .nums) (u .ticks)
+  pub judged-trace : {u : Tables} {v : Verdict} (s : List ℕ) → fits ≡ true → u ≡ judgedLines freshTables (linesOf s) → v ≡ verdictIn (u .nums) (u .ticks)
       → traced v (u .names) (u .nums) (u .ticks) ≡ judgedTrace t s
   unfolding judgedTrace
   judged-trace s f pu pv = rw (f, pv, pu)

@@ -19,7 +19,7 @@ use Rattle.tables.specs.Entry.{lineCount}
 use Rattle.tables.specs.Sized.{isSized}
 use Rattle.tables.specs.Range.{tableAnswer}
 use Rattle.tables.proofs.Zeros.{fresh-answer}
-use Rattle.judge.specs.Feed.{Tables, tables, After, placeIn, counted, placedLine, lined, fedLine, allLined, AfterChunk, fedChunk, verdictIn, verdictOf, freshTables}
+use Rattle.judge.specs.Feed.{Tables, tables, After, placeIn, counted, judgedInPlace, judgedLine, fedLine, judgedLines, AfterChunk, fedChunk, verdictIn, verdictOf, freshTables}
 
 -- ---- `feed`
 
@@ -28,12 +28,12 @@ feeds (t, l) = fedLine t l
 
 -- the version line, first of all, is taken
 version-taken : fedLine freshTables (bytes "#version 2.2.0") .answer ≡ 0
-unfolding fedLine lined placedLine placeIn answerByReading readLine hasBreak isEventLine parameterReading isVersion sameBytes
+unfolding fedLine judgedLine judgedInPlace placeIn answerByReading readLine hasBreak isEventLine parameterReading isVersion sameBytes
 version-taken = rw fresh-answer
 
 -- a comment, first of all, is not
 comment-refused : fedLine freshTables (bytes "# ") .answer ≡ 2
-unfolding fedLine lined placedLine placeIn answerByReading readLine hasBreak isEventLine parameterReading isVersion isVersionLine isComment startsWith sameBytes
+unfolding fedLine judgedLine judgedInPlace placeIn answerByReading readLine hasBreak isEventLine parameterReading isVersion isVersionLine isComment startsWith sameBytes
 comment-refused = rw fresh-answer
 
 pub feed-not-refusing : (g : Tables × List ℕ → After) → ((x : Tables × List ℕ) → g x .answer ≡ 0 → ⊥) → ShutsOut feeds g
@@ -61,7 +61,7 @@ abbrev oneLine : List ℕ
 oneLine = bytes "#version 2.2.0" ++ 10 ∷ []
 
 line-counted : lineCount (fedChunk freshTables oneLine .left .nums) ≡ 1
-unfolding fedChunk allLined wholeLines lineText ended pieces lined placedLine placeIn answerByReading counted readLine hasBreak isEventLine parameterReading isVersion sameBytes
+unfolding fedChunk judgedLines wholeLines lineText ended pieces judgedLine judgedInPlace placeIn answerByReading counted readLine hasBreak isEventLine parameterReading isVersion sameBytes
 line-counted = rw fresh-answer
 
 -- it feeds nothing: the fresh tables are left as they were, whatever it says

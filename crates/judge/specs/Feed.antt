@@ -13,18 +13,18 @@ use Rattle.line.specs.Reading.{readLine}
 use Rattle.bill.specs.declared.verdict.Verdict.{Verdict}
 use Rattle.bill.specs.Scale.{scaleNumber}
 use Rattle.rules.specs.declared.place.Place.{Place}
+use Rattle.rules.specs.Event.{Event}
+use Rattle.rules.specs.Lines.{eventFrom}
 use Rattle.rules.specs.Lists.{ifZero}
 use Rattle.rules.specs.PlaceCode.{answerByReading}
 pub use Rattle.tables.specs.Entry.{Tables, tables}
 use Rattle.tables.specs.Entry.{verdictIndex, verdictLineIndex, linesIndex, scaleIndex, creatorIndex, dateIndex, namesSize, numsSize, ticksSize, verdictNumber, verdictLine, lineCount, scaleEntry, creatorEntry, dateEntry, startedEntry, firstTime, lastTime}
 use Rattle.tables.specs.Sized.{isSized}
 use Rattle.tables.specs.Range.{tableAnswer}
-use Rattle.decide.specs.declared.happening.Happening.{Happening}
 use Rattle.decide.specs.declared.plan.Plan.{Plan}
 use Rattle.decide.specs.declared.plan.Plan.the-variants.{Refuse, Take}
-use Rattle.decide.specs.Happening.{happeningOf, asEvent}
 use Rattle.decide.specs.Decide.{planOf}
-use Rattle.store.specs.Store.{takenNames, takenNums, takenTicks}
+use Rattle.store.specs.Store.{takenTables}
 use Rattle.judge.specs.declared.feed.Fed.{Fed}
 
 -- an answer with the three tables afterwards
@@ -55,47 +55,43 @@ unfoldable pub counted : List ℕ → List ℕ
 counted nums = set nums linesIndex ((lineCount nums + 1) % 2 ^ 32)
 
 -- an event line decided and stored
-abbrev pub carried : Plan → Tables → Happening → List ℕ → List ℕ → After
-carried (Refuse n) t h source target = after n (t .names) (remembered (t .nums) n) (t .ticks)
-carried (Take s state) t h source target =
-    after 0
-    (takenNames (t .names) (t .nums) s (asEvent h source target))
-    (takenNums (t .nums) s state h (length source) (length target))
-    (takenTicks (t .ticks) (t .nums) s (h .kind) (h .time))
+abbrev pub carried : Plan → Tables → Event → After
+carried (Refuse n) t e = after n (t .names) (remembered (t .nums) n) (t .ticks)
+carried (Take s state) t e = record { answer = 0; left = takenTables t s state e }
 
-unfoldable pub eventLined : Tables → List ℕ → ReadEvent → ℕ → After
-eventLined t l e count =
-    let h = happeningOf e count in
-    carried (planOf (t .names) (t .nums) (t .ticks) (asEvent h (fieldOf l 2) (fieldOf l 5))) t h (fieldOf l 2) (fieldOf l 5)
+unfoldable pub judgedEvent : Tables → List ℕ → ReadEvent → ℕ → After
+judgedEvent t l e count =
+    let event = eventFrom e (fieldOf l 2) (fieldOf l 5) count in
+    carried (planOf (t .names) (t .nums) (t .ticks) event) t event
 
 -- a line in its place, by its reading
-abbrev pub readLined : Reading → Tables → List ℕ → After
-readLined Version t l = after 0 (t .names) (counted (t .nums)) (t .ticks)
-readLined Comment t l = after 0 (t .names) (counted (t .nums)) (t .ticks)
-readLined (TimeScale s) t l = after 0 (t .names) (counted (set (t .nums) scaleIndex (scaleNumber s))) (t .ticks)
-readLined Creator t l = after 0 (t .names) (counted (set (t .nums) creatorIndex 1)) (t .ticks)
-readLined CreationDate t l = after 0 (t .names) (counted (set (t .nums) dateIndex 1)) (t .ticks)
-readLined (EventLine e count) t l = eventLined t l e count
-readLined (Refused n) t l = after 0 (t .names) (t .nums) (t .ticks)
+abbrev pub judgedReading : Reading → Tables → List ℕ → After
+judgedReading Version t l = after 0 (t .names) (counted (t .nums)) (t .ticks)
+judgedReading Comment t l = after 0 (t .names) (counted (t .nums)) (t .ticks)
+judgedReading (TimeScale s) t l = after 0 (t .names) (counted (set (t .nums) scaleIndex (scaleNumber s))) (t .ticks)
+judgedReading Creator t l = after 0 (t .names) (counted (set (t .nums) creatorIndex 1)) (t .ticks)
+judgedReading CreationDate t l = after 0 (t .names) (counted (set (t .nums) dateIndex 1)) (t .ticks)
+judgedReading (EventLine e count) t l = judgedEvent t l e count
+judgedReading (Refused n) t l = after 0 (t .names) (t .nums) (t .ticks)
 
-unfoldable pub placedLine : ℕ → Tables → List ℕ → After
-placedLine n t l = ifZero n (readLined (readLine l) t l) (after n (t .names) (remembered (t .nums) n) (t .ticks))
+unfoldable pub judgedInPlace : ℕ → Tables → List ℕ → After
+judgedInPlace n t l = ifZero n (judgedReading (readLine l) t l) (after n (t .names) (remembered (t .nums) n) (t .ticks))
 
 -- "Further lines get that verdict again."
-unfoldable pub lined : Tables → List ℕ → After
-lined t l =
-    cond (eqb (verdictNumber (t .nums)) 0) (placedLine (answerByReading (placeIn (t .nums)) (readLine l)) t l)
+unfoldable pub judgedLine : Tables → List ℕ → After
+judgedLine t l =
+    cond (eqb (verdictNumber (t .nums)) 0) (judgedInPlace (answerByReading (placeIn (t .nums)) (readLine l)) t l)
     (after (verdictNumber (t .nums)) (t .names) (t .nums) (t .ticks))
 
 -- "the judge tests 15 and 16 before all others"; "15 and 16 write nothing and are not remembered"
 unfoldable pub fedLine : Tables → List ℕ → After
-fedLine t l = ifZero (tableAnswer (t .names) (t .nums) (t .ticks)) (lined t l) (after (tableAnswer (t .names) (t .nums) (t .ticks)) (t .names) (t .nums) (t .ticks))
+fedLine t l = ifZero (tableAnswer (t .names) (t .nums) (t .ticks)) (judgedLine t l) (after (tableAnswer (t .names) (t .nums) (t .ticks)) (t .names) (t .nums) (t .ticks))
 
 -- ---- many lines
 
-unfoldable pub allLined : Tables → List (List ℕ) → Tables
-allLined t [] = t
-allLined t (l ∷ ls) = allLined (lined t l .left) ls
+unfoldable pub judgedLines : Tables → List (List ℕ) → Tables
+judgedLines t [] = t
+judgedLines t (l ∷ ls) = judgedLines (judgedLine t l .left) ls
 
 -- every whole line of a chunk; the answer is the remembered verdict, 0 where there is none
 pub record AfterChunk : Type 0 where
@@ -109,8 +105,8 @@ unfoldable pub fedChunk : Tables → List ℕ → AfterChunk
 fedChunk t chunk =
     ifZero (tableAnswer (t .names) (t .nums) (t .ticks))
     (record {
-      fed = record { answer = verdictNumber (allLined t (wholeLines chunk) .nums); used = usedUp chunk };
-      left = allLined t (wholeLines chunk);
+      fed = record { answer = verdictNumber (judgedLines t (wholeLines chunk) .nums); used = usedUp chunk };
+      left = judgedLines t (wholeLines chunk);
     })
     (record { fed = record { answer = tableAnswer (t .names) (t .nums) (t .ticks); used = 0 }; left = t })
 
@@ -146,5 +142,5 @@ traced v names nums ticks = record { judged = v; left = tables names nums ticks 
 unfoldable pub judgedTrace : Tables → List ℕ → AfterTrace
 judgedTrace t trace =
     cond (isSized (length (t .names)) (length (t .nums)) (length (t .ticks)))
-    (let u = allLined freshTables (linesOf trace) in record { judged = verdictIn (u .nums) (u .ticks); left = u })
+    (let u = judgedLines freshTables (linesOf trace) in record { judged = verdictIn (u .nums) (u .ticks); left = u })
     (record { judged = verdict 15 0 0 0; left = t })

@@ -6,11 +6,10 @@ ghost use Rattle.walk.specs.Lines.{wholeLines, usedUp};
 ghost use Rattle.fields.specs.Part.{commasOf};
 ghost use Rattle.tables.specs.Entry.{firstTime, lastTime, numsSize, ticksSize};
 ghost use Rattle.tables.specs.Sized.{Sized};
-ghost use Rattle.judge.specs.Feed.{tables, after, placeIn, remembered, counted, eventLined, readLined, lined, fedLine, allLined, chunked, fedChunk};
+ghost use Rattle.judge.specs.Feed.{tables, after, placeIn, remembered, counted, judgedEvent, judgedReading, judgedLine, fedLine, judgedLines, chunked, fedChunk};
 ghost use Rattle.judge.specs.Feed.{verdictIn, verdictOf, traced, judgedTrace};
 use bill::scale::scale_number;
 use bill::verdict::Verdict;
-use decide::happening::to_rules;
 use decide::plan::Plan;
 use decide::plan::decide;
 use fields::between;
@@ -22,9 +21,9 @@ use rules::place::Place;
 use rules::place::answer_in_place;
 use std::num::wrapping_add_u32;
 use store::take::take;
-use tables::clear;
 use tables::entry::*;
-use tables::table_answer;
+use tables::fresh::fresh;
+use tables::range::table_answer;
 use walk::lines::Next;
 use walk::reader::line_from;
 
@@ -89,16 +88,15 @@ fn event_in(
 ) -> u32
     requires { ⌜ Sized (now names) (now nums) (now ticks) × (c ≡ commasOf (now l)) ⌝ }
     ensures { λ r. ⌜ after r (now (names .exit)) (now (nums .exit)) (now (ticks .exit))
-        ≡ eventLined (tables (now (names .entry)) (now (nums .entry)) (now (ticks .entry))) (now (l .entry)) e count ⌝ }
+        ≡ judgedEvent (tables (now (names .entry)) (now (nums .entry)) (now (ticks .entry))) (now (l .entry)) e count ⌝ }
 {
-    let h = to_rules(e, count);
     let source = between(l, c.c1, c.c2);
     let target = between(l, c.c4, c.c5);
-    let p = decide(names, nums, ticks, h, source, target);
+    let p = decide(names, nums, ticks, e, count, source, target);
     match p {
         Plan::Refuse(n) => remember(nums, n),
         Plan::Take(s, state) => {
-            take(names, nums, ticks, s, state, h, source, target);
+            take(names, nums, ticks, s, state, e, count, source, target);
             0
         }
     }
@@ -115,7 +113,7 @@ fn read_in(
 ) -> u32
     requires { ⌜ Sized (now names) (now nums) (now ticks) × (c ≡ commasOf (now l)) ⌝ }
     ensures { λ n. ⌜ after n (now (names .exit)) (now (nums .exit)) (now (ticks .exit))
-        ≡ readLined r (tables (now (names .entry)) (now (nums .entry)) (now (ticks .entry))) (now (l .entry)) ⌝ }
+        ≡ judgedReading r (tables (now (names .entry)) (now (nums .entry)) (now (ticks .entry))) (now (l .entry)) ⌝ }
 {
     match r {
         Reading::Version => count_line(nums),
@@ -132,7 +130,7 @@ fn read_in(
 fn line_in(names: &mut [u8], nums: &mut [u32], ticks: &mut [u64], l: &[u8]) -> u32
     requires { ⌜ Sized (now names) (now nums) (now ticks) ⌝ }
     ensures { λ r. ⌜ after r (now (names .exit)) (now (nums .exit)) (now (ticks .exit))
-        ≡ lined (tables (now (names .entry)) (now (nums .entry)) (now (ticks .entry))) (now (l .entry)) ⌝ }
+        ≡ judgedLine (tables (now (names .entry)) (now (nums .entry)) (now (ticks .entry))) (now (l .entry)) ⌝ }
 {
     let v = nums[VERDICT];
     if v != 0 {
@@ -165,7 +163,7 @@ fn lines_in(names: &mut [u8], nums: &mut [u32], ticks: &mut [u64], chunk: &[u8])
     requires { ⌜ Sized (now names) (now nums) (now ticks) ⌝ }
     ensures { λ r. ⌜ (r ≡ usedUp (now (chunk .entry)))
         × (tables (now (names .exit)) (now (nums .exit)) (now (ticks .exit))
-        ≡ allLined (tables (now (names .entry)) (now (nums .entry)) (now (ticks .entry))) (wholeLines (now (chunk .entry)))) ⌝ }
+        ≡ judgedLines (tables (now (names .entry)) (now (nums .entry)) (now (ticks .entry))) (wholeLines (now (chunk .entry)))) ⌝ }
 {
     let mut at = 0;
     loop {
@@ -265,7 +263,7 @@ pub fn judge(names: &mut [u8], nums: &mut [u32], ticks: &mut [u64], trace: &[u8]
     ensures { λ r. ⌜ traced r (now (names .exit)) (now (nums .exit)) (now (ticks .exit))
         ≡ judgedTrace (tables (now (names .entry)) (now (nums .entry)) (now (ticks .entry))) (now (trace .entry)) ⌝ }
 {
-    let t = clear(names, nums, ticks);
+    let t = fresh(names, nums, ticks);
     if t != 0 {
         return Verdict {
             number: t,

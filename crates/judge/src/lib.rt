@@ -1,3 +1,2 @@
 // The judge over lent tables. In come the tables and a line, a chunk or a whole trace; out go the number or the verdict, and the tables after it.
 pub mod feed;
-pub mod fresh;

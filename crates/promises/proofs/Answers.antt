@@ -34,14 +34,14 @@ use Rattle.rules.specs.Refusals.{
 use Rattle.rules.specs.Rows.{opened}
 use Rattle.rules.specs.Verdict.{answer, Accepted}
 use Rattle.tables.specs.Entry.{startedEntry, nameCount, coreCount, instanceCount, lastTime}
-use Rattle.decide.specs.declared.sight.Sight.{Sight}
-use Rattle.decide.specs.Sight.{sightOf}
+use Rattle.decide.specs.declared.look.LookedUp.{LookedUp}
+use Rattle.decide.specs.LookedUp.{lookedUp}
 use Rattle.decide.specs.Known.{kindIn, newCore, newName, newInstance, knownBy}
 use Rattle.judge.specs.Feed.{Tables}
-use Rattle.promises.specs.Shown.{Shown, HeadShown, startedOf, lastOf}
-use Rattle.promises.specs.Taken.{sightIn}
+use Rattle.promises.specs.Shown.{Shown, SinglesShown, startedOf, lastOf}
+use Rattle.promises.specs.Taken.{lookedUpIn}
 use Rattle.promises.proofs.Grown.{AllMet, names-length, cores-length, instances-length}
-use Rattle.promises.proofs.Lookups.{sight-source, sight-target, sight-shown, new-core, new-name, new-instance}
+use Rattle.promises.proofs.Lookups.{looked-up-source, looked-up-target, looked-up-shown, new-core, new-name, new-instance}
 use Rattle.promises.proofs.Told.{kind-told}
 use Rattle.promises.proofs.Later.{source-asked, target-asked, chart-agrees, number-agrees, core-agrees, count-agrees}
 
@@ -56,18 +56,18 @@ rest k e = lowest (test 10 (noRoom k e) ∷ test 11 (offChart k e) ∷ test 12 (
 
 module _ (h : List Event) (a : Accepted h) (met : AllMet h) (t : Tables) (s : Shown h t) (e : Event) where
   -- what the tables have for the event, by the rows that were looked up
-  abbrev known : Sight → Known
+  abbrev known : LookedUp → Known
   known v = knownBy (t .nums) (t .ticks) v e
 
   -- ---- 8
 
-  time-agrees : (v : Sight) → timeFalls (known v) e ≡ timeFalls (look h e) e
+  time-agrees : (v : LookedUp) → timeFalls (known v) e ≡ timeFalls (look h e) e
   unfolding timeFalls knownBy
-  time-agrees v = ap (less (e .time)) (time-told h (t .nums) (t .ticks) (s .head .started) (s .head .last))
+  time-agrees v = ap (less (e .time)) (time-told h (t .nums) (t .ticks) (s .singles .started) (s .singles .last))
 
   -- ---- 9: the source is looked up where the event is on a core, and only there is it asked for
 
-  source-agrees : (v : Sight) → v .source ≡ sightIn h t e .source → sourceClash (known v) e ≡ sourceClash (look h e) e
+  source-agrees : (v : LookedUp) → v .source ≡ lookedUpIn h t e .source → sourceClash (known v) e ≡ sourceClash (look h e) e
   unfolding sourceClash knownBy
   source-agrees v q = by-test (onCore e) refl
     where
@@ -76,7 +76,7 @@ module _ (h : List Event) (a : Accepted h) (met : AllMet h) (t : Tables) (s : Sh
       by-test true o = rw (q, source-asked h t e o, kind-told h a t s (e .source))
       by-test false o = refl
 
-  target-agrees : (v : Sight) → v .target ≡ sightIn h t e .target → targetClash (known v) e ≡ targetClash (look h e) e
+  target-agrees : (v : LookedUp) → v .target ≡ lookedUpIn h t e .target → targetClash (known v) e ≡ targetClash (look h e) e
   unfolding targetClash knownBy
   target-agrees v q = by-test (isTracked (e .kind)) refl
     where
@@ -87,37 +87,37 @@ module _ (h : List Event) (a : Accepted h) (met : AllMet h) (t : Tables) (s : Sh
   module _ (f : secondKind (look h e) e ≡ false) where
     -- ---- 10
 
-    room-agrees : noRoom (known (sightIn h t e)) e ≡ noRoom (look h e) e
+    room-agrees : noRoom (known (lookedUpIn h t e)) e ≡ noRoom (look h e) e
     unfolding noRoom knownBy
     room-agrees = rw (names-more, cores-more, instances-more)
       where
-        counted : HeadShown h (t .nums) (t .ticks)
-        counted = s .head
+        counted : SinglesShown h (t .nums) (t .ticks)
+        counted = s .singles
 
-        names-more : nameCount (t .nums) + newCore (sightIn h t e) + newName (sightIn h t e) (e .kind) ≡ length (names (e ∷ h))
+        names-more : nameCount (t .nums) + newCore (lookedUpIn h t e) + newName (lookedUpIn h t e) (e .kind) ≡ length (names (e ∷ h))
         names-more = omega (arith, counted .names-counted, new-core h t e, new-name h t e, names-length h e f)
 
-        cores-more : coreCount (t .nums) + newCore (sightIn h t e) ≡ length (cores (e ∷ h))
+        cores-more : coreCount (t .nums) + newCore (lookedUpIn h t e) ≡ length (cores (e ∷ h))
         cores-more = omega (arith, counted .cores-counted, new-core h t e, cores-length h e f)
 
-        instances-more : instanceCount (t .nums) + newInstance (sightIn h t e) (e .kind) ≡ length (instances (e ∷ h))
+        instances-more : instanceCount (t .nums) + newInstance (lookedUpIn h t e) (e .kind) ≡ length (instances (e ∷ h))
         instances-more = omega (arith, counted .instances-counted, new-instance h a met t s e f, instances-length h e)
 
-    rest-agrees : (v : Sight) → v ≡ sightIn h t e → rest (known v) e ≡ rest (look h e) e
+    rest-agrees : (v : LookedUp) → v ≡ lookedUpIn h t e → rest (known v) e ≡ rest (look h e) e
     rest-agrees v q =
         rw (q, room-agrees, chart-agrees h a met t s e f, number-agrees h a met t s e f, core-agrees h a met t s e f, count-agrees h a met t s e f)
 
   -- ---- the answer
 
-  pub answers-agree : answerTo (knownBy (t .nums) (t .ticks) (sightOf (t .names) (t .nums) e) e) e ≡ answer h e
+  pub answers-agree : answerTo (knownBy (t .nums) (t .ticks) (lookedUp (t .names) (t .nums) e) e) e ≡ answer h e
   unfolding answerTo eventTests secondKind
   answers-agree =
-      let v = sightOf (t .names) (t .nums) e in
-      rw (time-agrees v, source-agrees v (sight-source h a met t s e), target-agrees v (sight-target h a met t s e))
+      let v = lookedUp (t .names) (t .nums) e in
+      rw (time-agrees v, source-agrees v (looked-up-source h a met t s e), target-agrees v (looked-up-target h a met t s e))
       (by-nine (timeFalls (look h e) e) (secondKind (look h e) e) refl)
     where
       by-nine : (b d : Bool) → secondKind (look h e) e ≡ d →
-          cond b 8 (cond d 9 (rest (known (sightOf (t .names) (t .nums) e)) e)) ≡ cond b 8 (cond d 9 (rest (look h e) e))
+          cond b 8 (cond d 9 (rest (known (lookedUp (t .names) (t .nums) e)) e)) ≡ cond b 8 (cond d 9 (rest (look h e) e))
       by-nine true d q = refl
       by-nine false true q = refl
-      by-nine false false q = rest-agrees q (sightOf (t .names) (t .nums) e) (sight-shown h a met t s e)
+      by-nine false false q = rest-agrees q (lookedUp (t .names) (t .nums) e) (looked-up-shown h a met t s e)

@@ -32,8 +32,8 @@ use Rattle.tables.proofs.Valid.{valid, three-answers}
 use Rattle.tables.proofs.Zeros.{clear-answers}
 use Rattle.decide.specs.Decide.{planAnswer, decided}
 use Rattle.decide.proofs.Decided.{ruled, plan-answer, decided-answer, plan-refuses}
-use Rattle.judge.specs.Feed.{Tables, After, after, lined, allLined, fedLine, AfterChunk, fedChunk, verdict, verdictIn, verdictOf, AfterTrace, freshTables, judgedTrace}
-use Rattle.promises.proofs.Numbers.{lined-numbered, lines-most}
+use Rattle.judge.specs.Feed.{Tables, After, after, judgedLine, judgedLines, fedLine, AfterChunk, fedChunk, verdict, verdictIn, verdictOf, AfterTrace, freshTables, judgedTrace}
+use Rattle.promises.proofs.Numbers.{judged-numbered, lines-most}
 use Rattle.promises.proofs.Refused.{StopsAfter, lines-spare}
 use Rattle.promises.proofs.Judged.{never-16}
 use Rattle.sheet.specs.declared.sheet.Printed.the-variants.{Done, NotPrinted}
@@ -114,20 +114,20 @@ module _ (t : Tables) where
 
   module _ (line : List ℕ) where
     abbrev one : ℕ → After
-    one n = ifZero n (lined t line) (after n (t .names) (t .nums) (t .ticks))
+    one n = ifZero n (judgedLine t line) (after n (t .names) (t .nums) (t .ticks))
 
-    line-most : tableAnswer (t .names) (t .nums) (t .ticks) ≡ 0 → lined t line .answer ≤ lastRefusal
-    line-most e = let v = valid (t .names) (t .nums) (t .ticks) e in lined-numbered t (v .sizes .nums-size) (v .verdict) line .most
+    line-most : tableAnswer (t .names) (t .nums) (t .ticks) ≡ 0 → judgedLine t line .answer ≤ lastRefusal
+    line-most e = let v = valid (t .names) (t .nums) (t .ticks) e in judged-numbered t (v .sizes .nums-size) (v .verdict) line .most
 
     pub feeds : member (fedLine t line .answer) feedAnswers ≡ true
     unfolding fedLine
-    feeds = by-own (λ n. member (one n .answer) feedAnswers ≡ true) (λ e. let m = line-most e in in-feed (lined t line .answer) (omega arith)) refl refl
+    feeds = by-own (λ n. member (one n .answer) feedAnswers ≡ true) (λ e. let m = line-most e in in-feed (judgedLine t line .answer) (omega arith)) refl refl
 
     pub feed-still : member (fedLine t line .answer) writeNothing ≡ true → fedLine t line .left ≡ t
     unfolding fedLine
     feed-still =
         by-own (λ n. member (one n .answer) writeNothing ≡ true → one n .left ≡ t)
-        (λ e q. let z = remembers (lined t line .answer) (line-most e) in cc) (λ q. refl) (λ q. refl)
+        (λ e q. let z = remembers (judgedLine t line .answer) (line-most e) in cc) (λ q. refl) (λ q. refl)
 
   -- ---- a chunk
 
@@ -135,28 +135,28 @@ module _ (t : Tables) where
     abbrev many : ℕ → AfterChunk
     many n =
         ifZero n
-        (record { fed = record { answer = verdictNumber (allLined t (wholeLines chunk) .nums); used = usedUp chunk }; left = allLined t (wholeLines chunk) })
+        (record { fed = record { answer = verdictNumber (judgedLines t (wholeLines chunk) .nums); used = usedUp chunk }; left = judgedLines t (wholeLines chunk) })
         (record { fed = record { answer = n; used = 0 }; left = t })
 
-    chunk-most : tableAnswer (t .names) (t .nums) (t .ticks) ≡ 0 → verdictNumber (allLined t (wholeLines chunk) .nums) ≤ lastRefusal
+    chunk-most : tableAnswer (t .names) (t .nums) (t .ticks) ≡ 0 → verdictNumber (judgedLines t (wholeLines chunk) .nums) ≤ lastRefusal
     chunk-most e = let v = valid (t .names) (t .nums) (t .ticks) e in lines-most t (v .sizes .nums-size) (v .verdict) (wholeLines chunk)
 
     pub chunks : member (fedChunk t chunk .fed .answer) feedAnswers ≡ true
     unfolding fedChunk
     chunks =
         by-own (λ n. member (many n .fed .answer) feedAnswers ≡ true)
-        (λ e. let m = chunk-most e in in-feed (verdictNumber (allLined t (wholeLines chunk) .nums)) (omega arith)) refl refl
+        (λ e. let m = chunk-most e in in-feed (verdictNumber (judgedLines t (wholeLines chunk) .nums)) (omega arith)) refl refl
 
     pub chunk-still : member (fedChunk t chunk .fed .answer) writeNothing ≡ true → fedChunk t chunk .left ≡ t
     unfolding fedChunk
     chunk-still =
         by-own (λ n. member (many n .fed .answer) writeNothing ≡ true → many n .left ≡ t)
-        (λ e q. let z = remembers (verdictNumber (allLined t (wholeLines chunk) .nums)) (chunk-most e) in cc) (λ q. refl) (λ q. refl)
+        (λ e q. let z = remembers (verdictNumber (judgedLines t (wholeLines chunk) .nums)) (chunk-most e) in cc) (λ q. refl) (λ q. refl)
 
-    pub chunk-stops : member (fedChunk t chunk .fed .answer) writeNothing ≡ false → (fedChunk t chunk .left ≡ allLined t (wholeLines chunk)) × StopsAfter t (wholeLines chunk)
+    pub chunk-stops : member (fedChunk t chunk .fed .answer) writeNothing ≡ false → (fedChunk t chunk .left ≡ judgedLines t (wholeLines chunk)) × StopsAfter t (wholeLines chunk)
     unfolding fedChunk
     chunk-stops =
-        by-own (λ n. member (many n .fed .answer) writeNothing ≡ false → (many n .left ≡ allLined t (wholeLines chunk)) × StopsAfter t (wholeLines chunk))
+        by-own (λ n. member (many n .fed .answer) writeNothing ≡ false → (many n .left ≡ judgedLines t (wholeLines chunk)) × StopsAfter t (wholeLines chunk))
         (λ e q. let v = valid (t .names) (t .nums) (t .ticks) e in (refl, lines-spare t (v .sizes .nums-size) (v .verdict) (wholeLines chunk)))
         (λ q. absurd (let z : _≡_ {A = ℕ} 0 1 = cc in omega arith))
         (λ q. absurd (let z : _≡_ {A = ℕ} 0 1 = cc in omega arith))
@@ -166,11 +166,11 @@ module _ (t : Tables) where
   module _ (trace : List ℕ) where
     abbrev all : Bool → AfterTrace
     all b =
-        cond b (let u = allLined freshTables (linesOf trace) in record { judged = verdictIn (u .nums) (u .ticks); left = u })
+        cond b (let u = judgedLines freshTables (linesOf trace) in record { judged = verdictIn (u .nums) (u .ticks); left = u })
         (record { judged = verdict 15 0 0 0; left = t })
 
     trace-most : all true .judged .number ≤ lastRefusal
-    trace-most = let u = allLined freshTables (linesOf trace) in told-most (u .names) (u .nums) (u .ticks) (never-16 (linesOf trace))
+    trace-most = let u = judgedLines freshTables (linesOf trace) in told-most (u .names) (u .nums) (u .ticks) (never-16 (linesOf trace))
 
     pub judges : member (judgedTrace t trace .judged .number) judgeAnswers ≡ true
     unfolding judgedTrace

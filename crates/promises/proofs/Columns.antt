@@ -13,15 +13,14 @@ use Rattle.rules.specs.Charts.{isProcess}
 use Rattle.rules.specs.History.{hasInstances, activates}
 use Rattle.rules.proofs.Tests.{both}
 use Rattle.tables.specs.Entry.{nameRows, instanceRows, numsSize, linesIndex, startedIndex, namesIndex, coresIndex, instancesIndex}
-use Rattle.tables.specs.Entry.{kindColumn, lengthColumn, markColumn, numberColumn, numberedColumn, ownerColumn, instanceColumn, stateColumn}
+use Rattle.tables.specs.Entry.{kindColumn, lengthColumn, standingColumn, numberColumn, numberedColumn, ownerColumn, instanceColumn, stateColumn}
 use Rattle.tables.specs.Entry.{lineCount, nameCount, coreCount, instanceCount}
-use Rattle.tables.specs.Entry.{kindAt, lengthAt, markAt, numberAt, numberedAt, ownerAt, instanceAt, stateAt}
+use Rattle.tables.specs.Entry.{kindAt, lengthAt, standingAt, numberAt, numberedAt, ownerAt, instanceAt, stateAt}
 use Rattle.tables.proofs.Stores.{other, single, cell, Outside, beside}
-use Rattle.decide.specs.declared.happening.Happening.{Happening}
-use Rattle.decide.specs.declared.sight.Sight.{Sight}
+use Rattle.decide.specs.declared.look.LookedUp.{LookedUp}
 use Rattle.decide.specs.Known.{newCore, newName}
-use Rattle.store.specs.Store.{targetRow, storeRow, storeInstance, storeMark, storeHolder, storeNumber, withRows, withTarget, withCore, withHeads}
-use Rattle.store.proofs.Stores.{length-storeRow, length-storeMark, length-storeInstance}
+use Rattle.store.specs.Store.{targetRow, storeRow, storeInstance, storeStanding, storeHolder, storeNumber, withRows, withTarget, withCore, withCounts}
+use Rattle.store.proofs.Stores.{length-storeRow, length-storeStanding, length-storeInstance}
 
 -- ---- a store that is made or not
 
@@ -58,9 +57,9 @@ module _ (nums : List ℕ) (z : length nums ≡ numsSize) (i r : ℕ) (h : r < n
   unfolding storeRow
   row-length kind n = row-if nameRows i (ltb i nameRows) refl _ nums (lengthColumn .base) r (n % 2 ^ 32) h (λ k. simp (cell numsSize nameRows, length-set, z))
 
-  pub row-mark : (kind n : ℕ) → markAt (storeRow nums i kind n) r ≡ cond (eqb r i) 0 (markAt nums r)
+  pub row-standing : (kind n : ℕ) → standingAt (storeRow nums i kind n) r ≡ cond (eqb r i) 0 (standingAt nums r)
   unfolding storeRow
-  row-mark kind n = row-if nameRows i (ltb i nameRows) refl _ nums (markColumn .base) r 0 h (λ k. simp (cell numsSize nameRows, length-set, z))
+  row-standing kind n = row-if nameRows i (ltb i nameRows) refl _ nums (standingColumn .base) r 0 h (λ k. simp (cell numsSize nameRows, length-set, z))
 
   pub row-number : (kind n : ℕ) → numberAt (storeRow nums i kind n) r ≡ cond (eqb r i) 0 (numberAt nums r)
   unfolding storeRow
@@ -70,9 +69,9 @@ module _ (nums : List ℕ) (z : length nums ≡ numsSize) (i r : ℕ) (h : r < n
   unfolding storeRow
   row-numbered kind n = row-if nameRows i (ltb i nameRows) refl _ nums (numberedColumn .base) r 0 h (λ k. simp (cell numsSize nameRows, length-set, z))
 
-  mark-mark : (v : ℕ) → markAt (storeMark nums i v) r ≡ cond (eqb r i) v (markAt nums r)
-  unfolding storeMark
-  mark-mark v = row-if nameRows i (ltb i nameRows) refl _ nums (markColumn .base) r v h (λ k. simp (cell numsSize nameRows, z))
+  standing-standing : (v : ℕ) → standingAt (storeStanding nums i v) r ≡ cond (eqb r i) v (standingAt nums r)
+  unfolding storeStanding
+  standing-standing v = row-if nameRows i (ltb i nameRows) refl _ nums (standingColumn .base) r v h (λ k. simp (cell numsSize nameRows, z))
 
   pub number-number : (v : ℕ) → numberAt (storeNumber nums i v) r ≡ cond (eqb r i) v (numberAt nums r)
   unfolding storeNumber
@@ -87,9 +86,9 @@ module _ (nums : List ℕ) (z : length nums ≡ numsSize) (i p n r : ℕ) (o : p
   both-rows : ltb i nameRows && ltb p nameRows ≡ ltb i nameRows
   both-rows = rw (lt-ltb p nameRows o) (and-true (ltb i nameRows))
 
-  holder-mark : markAt (storeHolder nums i p n) r ≡ cond (eqb r i) (p + 2) (markAt nums r)
+  holder-standing : standingAt (storeHolder nums i p n) r ≡ cond (eqb r i) (p + 2) (standingAt nums r)
   unfolding storeHolder
-  holder-mark = row-if nameRows i (ltb i nameRows && ltb p nameRows) both-rows _ nums (markColumn .base) r (p + 2) h (λ k. simp (cell numsSize nameRows, length-set, z))
+  holder-standing = row-if nameRows i (ltb i nameRows && ltb p nameRows) both-rows _ nums (standingColumn .base) r (p + 2) h (λ k. simp (cell numsSize nameRows, length-set, z))
 
   holder-number : numberAt (storeHolder nums i p n) r ≡ cond (eqb r i) n (numberAt nums r)
   unfolding storeHolder
@@ -100,14 +99,14 @@ module _ (nums : List ℕ) (i j : ℕ) where
   unfolding storeRow
   row-beside kind n out = kept-if (ltb i nameRows) _ nums j (λ t. let h = ltb-true i nameRows t in simp (beside kindColumn numberedColumn nameRows))
 
-  mark-beside : (v : ℕ) → Outside markColumn markColumn j → getD (storeMark nums i v) j 0 ≡ getD nums j 0
-  unfolding storeMark
-  mark-beside v out = kept-if (ltb i nameRows) _ nums j (λ t. let h = ltb-true i nameRows t in simp (beside markColumn markColumn nameRows))
+  standing-beside : (v : ℕ) → Outside standingColumn standingColumn j → getD (storeStanding nums i v) j 0 ≡ getD nums j 0
+  unfolding storeStanding
+  standing-beside v out = kept-if (ltb i nameRows) _ nums j (λ t. let h = ltb-true i nameRows t in simp (beside standingColumn standingColumn nameRows))
 
-  holder-beside : (p n : ℕ) → Outside markColumn numberColumn j → getD (storeHolder nums i p n) j 0 ≡ getD nums j 0
+  holder-beside : (p n : ℕ) → Outside standingColumn numberColumn j → getD (storeHolder nums i p n) j 0 ≡ getD nums j 0
   unfolding storeHolder
   holder-beside p n out =
-      kept-if (ltb i nameRows && ltb p nameRows) _ nums j (λ t. let h = ltb-true i nameRows (both (ltb i nameRows) _ t .0) in simp (beside markColumn numberColumn nameRows))
+      kept-if (ltb i nameRows && ltb p nameRows) _ nums j (λ t. let h = ltb-true i nameRows (both (ltb i nameRows) _ t .0) in simp (beside standingColumn numberColumn nameRows))
 
   number-beside : (v : ℕ) → Outside numberColumn numberedColumn j → getD (storeNumber nums i v) j 0 ≡ getD nums j 0
   unfolding storeNumber
@@ -139,10 +138,10 @@ module _ (nums : List ℕ) (z : length nums ≡ numsSize) (i owner q : ℕ) (o :
 -- ---- the rows of new names
 
 -- the row r is that of the line's new core, or of its new target
-abbrev pub isNewCore : List ℕ → Sight → ℕ → Bool
+abbrev pub isNewCore : List ℕ → LookedUp → ℕ → Bool
 isNewCore nums s r = eqb (newCore s) 1 && eqb r (nameCount nums)
 
-abbrev pub isNewTarget : List ℕ → Sight → ℕ → ℕ → Bool
+abbrev pub isNewTarget : List ℕ → LookedUp → ℕ → ℕ → Bool
 isNewTarget nums s kind r = eqb (newName s kind) 1 && eqb r (targetRow nums s)
 
 -- what a new row has in the column from d on, by its kind and length
@@ -150,7 +149,7 @@ abbrev pub Fills : ℕ → (ℕ → ℕ → ℕ) → Type 0
 Fills d value = (l : List ℕ) → length l ≡ numsSize → (i r : ℕ) → r < nameRows → (kind n : ℕ) →
     getD (storeRow l i kind n) (d + r) 0 ≡ cond (eqb r i) (value kind n) (getD l (d + r) 0)
 
-module _ (nums : List ℕ) (z : length nums ≡ numsSize) (s : Sight) (kind n m : ℕ) where
+module _ (nums : List ℕ) (z : length nums ≡ numsSize) (s : LookedUp) (kind n m : ℕ) where
   pub rows-stored : (d : ℕ) (value : ℕ → ℕ → ℕ) → Fills d value → (r : ℕ) → r < nameRows →
       getD (withRows nums s kind n m) (d + r) 0
       ≡ cond (isNewTarget nums s kind r) (value kind m) (cond (isNewCore nums s r) (value core n) (getD nums (d + r) 0))
@@ -186,89 +185,89 @@ abbrev pub Counts : ℕ → (ℕ → ℕ) → Type 0
 Counts d value = (l : List ℕ) → length l ≡ numsSize → (i r : ℕ) → r < nameRows → (c : ℕ) →
     getD (storeNumber l i c) (d + r) 0 ≡ cond (eqb r i) (value c) (getD l (d + r) 0)
 
-module _ (nums : List ℕ) (z : length nums ≡ numsSize) (i j t : ℕ) (w : Happening) where
+module _ (nums : List ℕ) (z : length nums ≡ numsSize) (i j t kind word n c : ℕ) where
   -- after the instance, and then the number, of a process or runnable
   abbrev one : List ℕ
-  one = cond (hasInstances (w .kind)) (storeInstance nums j i (w .number) t) nums
+  one = cond (hasInstances kind) (storeInstance nums j i n t) nums
 
   abbrev two : List ℕ
-  two = cond (activates (w .kind) (w .word)) (storeNumber one i (w .number)) one
+  two = cond (activates kind word) (storeNumber one i n) one
 
   one-size : length one ≡ numsSize
-  one-size = length-if (hasInstances (w .kind)) _ nums (length-storeInstance nums j i (w .number) t) ∙ z
+  one-size = length-if (hasInstances kind) _ nums (length-storeInstance nums j i n t) ∙ z
 
   one-beside : (x : ℕ) → Outside ownerColumn stateColumn x → getD one x 0 ≡ getD nums x 0
-  one-beside x out = kept-if (hasInstances (w .kind)) _ nums x (λ e. instance-beside nums j x i (w .number) t out)
+  one-beside x out = kept-if (hasInstances kind) _ nums x (λ e. instance-beside nums j x i n t out)
 
   two-beside : (x : ℕ) → Outside numberColumn numberedColumn x → getD two x 0 ≡ getD one x 0
-  two-beside x out = kept-if (activates (w .kind) (w .word)) _ one x (λ e. number-beside one i x (w .number) out)
+  two-beside x out = kept-if (activates kind word) _ one x (λ e. number-beside one i x n out)
 
-  pub target-beside : (x : ℕ) → Outside markColumn stateColumn x → getD (withTarget nums i j t w) x 0 ≡ getD nums x 0
+  pub target-beside : (x : ℕ) → Outside standingColumn stateColumn x → getD (withTarget nums i j t kind word n c) x 0 ≡ getD nums x 0
   unfolding withTarget
   target-beside x out =
-      entry-if (eqb (w .kind) semaphore) (storeNumber (storeMark nums i t) i (w .count)) two x
-      (λ e. number-beside (storeMark nums i t) i x (w .count) (λ l u. out (omega arith) (omega arith)) ∙ mark-beside nums i x t (λ l u. out (omega arith) (omega arith)))
+      entry-if (eqb kind semaphore) (storeNumber (storeStanding nums i t) i c) two x
+      (λ e. number-beside (storeStanding nums i t) i x c (λ l u. out (omega arith) (omega arith)) ∙ standing-beside nums i x t (λ l u. out (omega arith) (omega arith)))
       (λ e. two-beside x (λ l u. out (omega arith) (omega arith)) ∙ one-beside x (λ l u. out (omega arith) (omega arith)))
 
-  pub target-mark : (r : ℕ) → r < nameRows → markAt (withTarget nums i j t w) r ≡ cond (eqb (w .kind) semaphore && eqb r i) t (markAt nums r)
+  pub target-standing : (r : ℕ) → r < nameRows → standingAt (withTarget nums i j t kind word n c) r ≡ cond (eqb kind semaphore && eqb r i) t (standingAt nums r)
   unfolding withTarget
-  target-mark r h =
-      entry-if (eqb (w .kind) semaphore) (storeNumber (storeMark nums i t) i (w .count)) two (markColumn .base + r)
-      (λ e. rw e (number-beside (storeMark nums i t) i (markColumn .base + r) (w .count) (λ l u. omega arith) ∙ mark-mark nums z i r h t))
-      (λ e. rw e (two-beside (markColumn .base + r) (λ l u. omega arith) ∙ one-beside (markColumn .base + r) (λ l u. omega arith)))
+  target-standing r h =
+      entry-if (eqb kind semaphore) (storeNumber (storeStanding nums i t) i c) two (standingColumn .base + r)
+      (λ e. rw e (number-beside (storeStanding nums i t) i (standingColumn .base + r) c (λ l u. omega arith) ∙ standing-standing nums z i r h t))
+      (λ e. rw e (two-beside (standingColumn .base + r) (λ l u. omega arith) ∙ one-beside (standingColumn .base + r) (λ l u. omega arith)))
 
   pub target-number : (d : ℕ) (value : ℕ → ℕ) → Counts d value → numberColumn .base ≤ d → d ≤ numberedColumn .base → (r : ℕ) → r < nameRows →
-      getD (withTarget nums i j t w) (d + r) 0
-      ≡ cond (eqb (w .kind) semaphore && eqb r i) (value (w .count)) (cond (activates (w .kind) (w .word) && eqb r i) (value (w .number)) (getD nums (d + r) 0))
+      getD (withTarget nums i j t kind word n c) (d + r) 0
+      ≡ cond (eqb kind semaphore && eqb r i) (value c) (cond (activates kind word && eqb r i) (value n) (getD nums (d + r) 0))
   unfolding withTarget
   target-number d value f lo hi r h =
-      entry-if (eqb (w .kind) semaphore) (storeNumber (storeMark nums i t) i (w .count)) two (d + r)
-      (λ e. rw (e, no-activation (w .kind) (w .word) e)
-      (f (storeMark nums i t) (length-storeMark nums i t ∙ z) i r h (w .count)
-      ∙ ap (cond (eqb r i) (value (w .count))) (mark-beside nums i (d + r) t (λ l u. omega arith))))
+      entry-if (eqb kind semaphore) (storeNumber (storeStanding nums i t) i c) two (d + r)
+      (λ e. rw (e, no-activation kind word e)
+      (f (storeStanding nums i t) (length-storeStanding nums i t ∙ z) i r h c
+      ∙ ap (cond (eqb r i) (value c)) (standing-beside nums i (d + r) t (λ l u. omega arith))))
       (λ e. rw e
-      (made (activates (w .kind) (w .word)) (eqb r i) _ one (d + r) (value (w .number)) (λ y. f one one-size i r h (w .number))
-      ∙ ap (cond (activates (w .kind) (w .word) && eqb r i) (value (w .number))) (one-beside (d + r) (λ l u. omega arith))))
+      (made (activates kind word) (eqb r i) _ one (d + r) (value n) (λ y. f one one-size i r h n)
+      ∙ ap (cond (activates kind word && eqb r i) (value n)) (one-beside (d + r) (λ l u. omega arith))))
 
   pub target-instance : (d q v : ℕ) → ownerColumn .base ≤ d →
-      (hasInstances (w .kind) ≡ true → getD (storeInstance nums j i (w .number) t) (d + q) 0 ≡ cond (eqb q j) v (getD nums (d + q) 0)) →
-      getD (withTarget nums i j t w) (d + q) 0 ≡ cond (hasInstances (w .kind) && eqb q j) v (getD nums (d + q) 0)
+      (hasInstances kind ≡ true → getD (storeInstance nums j i n t) (d + q) 0 ≡ cond (eqb q j) v (getD nums (d + q) 0)) →
+      getD (withTarget nums i j t kind word n c) (d + q) 0 ≡ cond (hasInstances kind && eqb q j) v (getD nums (d + q) 0)
   unfolding withTarget
   target-instance d q v lo f =
-      entry-if (eqb (w .kind) semaphore) (storeNumber (storeMark nums i t) i (w .count)) two (d + q)
-      (λ e. rw (no-instances (w .kind) e)
-      (number-beside (storeMark nums i t) i (d + q) (w .count) (λ l u. omega arith) ∙ mark-beside nums i (d + q) t (λ l u. omega arith)))
-      (λ e. two-beside (d + q) (λ l u. omega arith) ∙ made (hasInstances (w .kind)) (eqb q j) _ nums (d + q) v f)
+      entry-if (eqb kind semaphore) (storeNumber (storeStanding nums i t) i c) two (d + q)
+      (λ e. rw (no-instances kind e)
+      (number-beside (storeStanding nums i t) i (d + q) c (λ l u. omega arith) ∙ standing-beside nums i (d + q) t (λ l u. omega arith)))
+      (λ e. two-beside (d + q) (λ l u. omega arith) ∙ made (hasInstances kind) (eqb q j) _ nums (d + q) v f)
 
 -- ---- the state of the core, and the number of its holder
 
 module _ (nums : List ℕ) (class i p n : ℕ) where
-  pub core-beside : (x : ℕ) → Outside markColumn numberColumn x → getD (withCore nums class i p n) x 0 ≡ getD nums x 0
+  pub core-beside : (x : ℕ) → Outside standingColumn numberColumn x → getD (withCore nums class i p n) x 0 ≡ getD nums x 0
   unfolding withCore
   core-beside x out =
       entry-if (eqb class 0) nums _ x (λ e. refl)
-      (λ e. entry-if (eqb class 2) (storeMark nums i 1) (storeHolder nums i p n) x
-      (λ f. mark-beside nums i x 1 (λ l u. out (omega arith) (omega arith)))
+      (λ e. entry-if (eqb class 2) (storeStanding nums i 1) (storeHolder nums i p n) x
+      (λ f. standing-beside nums i x 1 (λ l u. out (omega arith) (omega arith)))
       (λ f. holder-beside nums i x p n out))
 
   module _ (z : length nums ≡ numsSize) (k : eqb class 0 ≡ false → p < nameRows) (r : ℕ) (h : r < nameRows) where
     -- a column of which the stores to the core's row are known
     core-column : (d idle held : ℕ) →
-        (getD (storeMark nums i 1) (d + r) 0 ≡ cond (eqb r i) idle (getD nums (d + r) 0)) →
+        (getD (storeStanding nums i 1) (d + r) 0 ≡ cond (eqb r i) idle (getD nums (d + r) 0)) →
         (p < nameRows → getD (storeHolder nums i p n) (d + r) 0 ≡ cond (eqb r i) held (getD nums (d + r) 0)) →
         getD (withCore nums class i p n) (d + r) 0 ≡ cond (not (eqb class 0) && eqb r i) (cond (eqb class 2) idle held) (getD nums (d + r) 0)
     unfolding withCore
     core-column d idle held f g =
         entry-if (eqb class 0) nums _ (d + r) (λ e. rw e)
-        (λ e. rw e (entry-if (eqb class 2) (storeMark nums i 1) (storeHolder nums i p n) (d + r) (λ t. rw t f) (λ t. rw t (g (k e)))))
+        (λ e. rw e (entry-if (eqb class 2) (storeStanding nums i 1) (storeHolder nums i p n) (d + r) (λ t. rw t f) (λ t. rw t (g (k e)))))
 
-    pub core-mark : markAt (withCore nums class i p n) r ≡ cond (not (eqb class 0) && eqb r i) (cond (eqb class 2) 1 (p + 2)) (markAt nums r)
-    core-mark = core-column (markColumn .base) 1 (p + 2) (mark-mark nums z i r h 1) (λ o. holder-mark nums z i p n r o h)
+    pub core-standing : standingAt (withCore nums class i p n) r ≡ cond (not (eqb class 0) && eqb r i) (cond (eqb class 2) 1 (p + 2)) (standingAt nums r)
+    core-standing = core-column (standingColumn .base) 1 (p + 2) (standing-standing nums z i r h 1) (λ o. holder-standing nums z i p n r o h)
 
     pub core-number : numberAt (withCore nums class i p n) r ≡ cond (not (eqb class 0) && eqb r i) (cond (eqb class 2) (numberAt nums r) n) (numberAt nums r)
     core-number =
         core-column (numberColumn .base) (numberAt nums r) n
-        (mark-beside nums i (numberColumn .base + r) 1 (λ l u. omega arith) ∙ either-way (eqb r i))
+        (standing-beside nums i (numberColumn .base + r) 1 (λ l u. omega arith) ∙ either-way (eqb r i))
         (λ o. holder-number nums z i p n r o h)
       where
         either-way : (b : Bool) → numberAt nums r ≡ cond b (numberAt nums r) (numberAt nums r)
@@ -281,14 +280,14 @@ below : (l : List ℕ) (k j v : ℕ) → ltb k (kindColumn .base) ≡ true → k
 below l k j v p h = other l k j v (λ e. omega (arith, ltb-true k (kindColumn .base) p))
 
 module _ (nums : List ℕ) (a b d : ℕ) where
-  pub heads-beside : (j : ℕ) → kindColumn .base ≤ j → getD (withHeads nums a b d) j 0 ≡ getD nums j 0
-  unfolding withHeads
-  heads-beside j h = simp below
+  pub counts-beside : (j : ℕ) → kindColumn .base ≤ j → getD (withCounts nums a b d) j 0 ≡ getD nums j 0
+  unfolding withCounts
+  counts-beside j h = simp below
 
-  pub heads-stored : length nums ≡ numsSize → (j : ℕ) → getD (withHeads nums a b d) j 0 ≡
+  pub counts-stored : length nums ≡ numsSize → (j : ℕ) → getD (withCounts nums a b d) j 0 ≡
       cond (eqb instancesIndex j) ((instanceCount nums + d) % 2 ^ 32)
       (cond (eqb coresIndex j) ((coreCount nums + b) % 2 ^ 32)
       (cond (eqb namesIndex j) ((nameCount nums + a) % 2 ^ 32)
       (cond (eqb startedIndex j) 1 (cond (eqb linesIndex j) ((lineCount nums + 1) % 2 ^ 32) (getD nums j 0)))))
-  unfolding withHeads
-  heads-stored z j = simp (single numsSize, length-set, z)
+  unfolding withCounts
+  counts-stored z j = simp (single numsSize, length-set, z)

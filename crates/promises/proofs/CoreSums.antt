@@ -69,8 +69,8 @@ absent-ticks (e ∷ h) a n q v z =
 
 -- what a new core's ticks are before the event
 unknown-all : (h : List Event) (t : Tables) → Shown h t → (e : Event) → unknownBefore (t .ticks) (t .nums) (e .time) ≡ span (e ∷ h)
-unknown-all [] t s e = rw (s .head .started) (omega arith)
-unknown-all (d ∷ h) t s e = rw (s .head .started, s .head .first)
+unknown-all [] t s e = rw (s .singles .started) (omega arith)
+unknown-all (d ∷ h) t s e = rw (s .singles .started, s .singles .first)
 
 module _ (h : List Event) (a : Accepted h) (t : Tables) (s : Shown h t) (e : Event) (f : Passed h e) (m : Met e) where
   abbrev Next : List ℕ → Type 0

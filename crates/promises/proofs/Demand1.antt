@@ -15,7 +15,7 @@ use Rattle.rules.specs.Event.{Event}
 use Rattle.tables.specs.Fresh.{cleared, clearedOf}
 use Rattle.tables.proofs.Zeros.{clear-kept}
 use Rattle.decide.specs.Decide.{planAnswer, decided}
-use Rattle.judge.specs.Feed.{Tables, allLined, fedLine, fedChunk, verdictOf, judgedTrace}
+use Rattle.judge.specs.Feed.{Tables, judgedLines, fedLine, fedChunk, verdictOf, judgedTrace}
 use Rattle.sheet.specs.Sheet.{sheetWritten, printedAnswer}
 use Rattle.run.specs.Report.{reportWritten}
 use Rattle.promises.specs.Answers.{readAnswers, writeAnswers, decideAnswers, freshAnswers, feedAnswers, judgeAnswers, printAnswers, writeNothing}
@@ -40,7 +40,7 @@ pub record Demand1 : Type 0 where
   -- any bytes as a chunk
   pub chunk-gives : (t : Tables) (chunk : List ℕ) → member (fedChunk t chunk .fed .answer) feedAnswers ≡ true
   pub chunk-spares : (t : Tables) (chunk : List ℕ) → member (fedChunk t chunk .fed .answer) writeNothing ≡ false →
-      (fedChunk t chunk .left ≡ allLined t (wholeLines chunk)) × StopsAfter t (wholeLines chunk)
+      (fedChunk t chunk .left ≡ judgedLines t (wholeLines chunk)) × StopsAfter t (wholeLines chunk)
   pub chunk-idle : (t : Tables) (chunk : List ℕ) → member (fedChunk t chunk .fed .answer) writeNothing ≡ true → fedChunk t chunk .left ≡ t
   -- any bytes as a trace
   pub judge-gives : (t : Tables) (trace : List ℕ) → member (judgedTrace t trace .judged .number) judgeAnswers ≡ true

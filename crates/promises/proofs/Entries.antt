@@ -8,174 +8,174 @@ use native.Mathlib.Omega.{arith}
 use lib.Dec.{eqb}
 use lib.ListN.{length, getD}
 use Rattle.rules.specs.Words.{core, semaphore}
+use Rattle.rules.specs.Event.{Event}
 use Rattle.rules.specs.History.{hasInstances, activates}
 use Rattle.tables.specs.Entry.{verdictIndex, verdictLineIndex, linesIndex, scaleIndex, creatorIndex, dateIndex, startedIndex, namesIndex, coresIndex, instancesIndex}
-use Rattle.tables.specs.Entry.{nameRows, instanceRows, kindColumn, lengthColumn, markColumn, numberColumn, numberedColumn, ownerColumn, instanceColumn, stateColumn}
+use Rattle.tables.specs.Entry.{nameRows, instanceRows, kindColumn, lengthColumn, standingColumn, numberColumn, numberedColumn, ownerColumn, instanceColumn, stateColumn}
 use Rattle.tables.specs.Entry.{numsSize, verdictNumber, verdictLine, lineCount, scaleEntry, creatorEntry, dateEntry, startedEntry, nameCount, coreCount, instanceCount}
-use Rattle.tables.specs.Entry.{kindAt, lengthAt, markAt, numberAt, numberedAt, ownerAt, instanceAt, stateAt}
+use Rattle.tables.specs.Entry.{kindAt, lengthAt, standingAt, numberAt, numberedAt, ownerAt, instanceAt, stateAt}
 use Rattle.tables.proofs.Stores.{Outside}
-use Rattle.decide.specs.declared.happening.Happening.{Happening}
-use Rattle.decide.specs.declared.sight.Sight.{Sight}
+use Rattle.decide.specs.declared.look.LookedUp.{LookedUp}
 use Rattle.decide.specs.Known.{newCore, newName, newInstance}
 use Rattle.store.specs.Store.{coreRow, targetRow, instanceRow, storeInstance, withRows, withTarget, withCore, takenNums}
 use Rattle.store.proofs.Stores.{length-withRows, length-withTarget, length-withCore}
-use Rattle.promises.proofs.Columns.{isNewCore, isNewTarget, Fills, Counts, row-kind, row-length, row-mark, row-number, row-numbered, number-number, number-numbered}
-use Rattle.promises.proofs.Columns.{instance-owner, instance-number, instance-state, rows-stored, rows-beside, target-beside, target-mark, target-number, target-instance}
-use Rattle.promises.proofs.Columns.{core-beside, core-mark, core-number, heads-beside, heads-stored}
+use Rattle.promises.proofs.Columns.{isNewCore, isNewTarget, Fills, Counts, row-kind, row-length, row-standing, row-number, row-numbered, number-number, number-numbered}
+use Rattle.promises.proofs.Columns.{instance-owner, instance-number, instance-state, rows-stored, rows-beside, target-beside, target-standing, target-number, target-instance}
+use Rattle.promises.proofs.Columns.{core-beside, core-standing, core-number, counts-beside, counts-stored}
 
 -- ---- all the stores
 
 -- a state, a number: of a row that is not new the old one, of a new one none
-abbrev pub orNone : List ℕ → Sight → ℕ → ℕ → ℕ → ℕ
+abbrev pub orNone : List ℕ → LookedUp → ℕ → ℕ → ℕ → ℕ
 orNone nums s kind r v = cond (isNewTarget nums s kind r) 0 (cond (isNewCore nums s r) 0 v)
 
 -- the row q is that of the line's instance
-abbrev pub isInstance : List ℕ → Sight → ℕ → ℕ → Bool
+abbrev pub isInstance : List ℕ → LookedUp → ℕ → ℕ → Bool
 isInstance nums s kind q = hasInstances kind && eqb q (instanceRow nums s)
 
-module _ (nums : List ℕ) (z : length nums ≡ numsSize) (s : Sight) (t : ℕ) (w : Happening) (n m : ℕ) where
+module _ (nums : List ℕ) (z : length nums ≡ numsSize) (s : LookedUp) (t : ℕ) (e : Event) where
   -- after the new rows, after the target, after the core
   abbrev filled : List ℕ
-  filled = withRows nums s (w .kind) n m
+  filled = withRows nums s (e .kind) (length (e .source)) (length (e .target))
 
   abbrev aimed : List ℕ
-  aimed = withTarget filled (targetRow nums s) (instanceRow nums s) t w
+  aimed = withTarget filled (targetRow nums s) (instanceRow nums s) t (e .kind) (e .word) (e .targetInstance) (e .count)
 
   abbrev cored : List ℕ
-  cored = withCore aimed (s .class) (coreRow nums s) (targetRow nums s) (w .number)
+  cored = withCore aimed (s .class) (coreRow nums s) (targetRow nums s) (e .targetInstance)
 
   filled-size : length filled ≡ numsSize
-  filled-size = length-withRows nums s (w .kind) n m ∙ z
+  filled-size = length-withRows nums s (e .kind) (length (e .source)) (length (e .target)) ∙ z
 
   aimed-size : length aimed ≡ numsSize
-  aimed-size = length-withTarget filled (targetRow nums s) (instanceRow nums s) t w ∙ filled-size
+  aimed-size = length-withTarget filled (targetRow nums s) (instanceRow nums s) t (e .kind) (e .word) (e .targetInstance) (e .count) ∙ filled-size
 
   cored-size : length cored ≡ numsSize
-  cored-size = length-withCore aimed (s .class) (coreRow nums s) (targetRow nums s) (w .number) ∙ aimed-size
+  cored-size = length-withCore aimed (s .class) (coreRow nums s) (targetRow nums s) (e .targetInstance) ∙ aimed-size
 
   -- a column is not reached by the stores after its own
-  from-cored : (j : ℕ) → kindColumn .base ≤ j → getD (takenNums nums s t w n m) j 0 ≡ getD cored j 0
+  from-cored : (j : ℕ) → kindColumn .base ≤ j → getD (takenNums nums s t e) j 0 ≡ getD cored j 0
   unfolding takenNums
-  from-cored j h = heads-beside cored _ _ _ j h
+  from-cored j h = counts-beside cored _ _ _ j h
 
-  from-aimed : (j : ℕ) → kindColumn .base ≤ j → Outside markColumn numberColumn j → getD (takenNums nums s t w n m) j 0 ≡ getD aimed j 0
-  from-aimed j h out = from-cored j h ∙ core-beside aimed (s .class) (coreRow nums s) (targetRow nums s) (w .number) j out
+  from-aimed : (j : ℕ) → kindColumn .base ≤ j → Outside standingColumn numberColumn j → getD (takenNums nums s t e) j 0 ≡ getD aimed j 0
+  from-aimed j h out = from-cored j h ∙ core-beside aimed (s .class) (coreRow nums s) (targetRow nums s) (e .targetInstance) j out
 
-  from-filled : (j : ℕ) → kindColumn .base ≤ j → j < markColumn .base → getD (takenNums nums s t w n m) j 0 ≡ getD filled j 0
+  from-filled : (j : ℕ) → kindColumn .base ≤ j → j < standingColumn .base → getD (takenNums nums s t e) j 0 ≡ getD filled j 0
   from-filled j h k =
       from-aimed j h (λ l u. omega arith)
-      ∙ target-beside filled filled-size (targetRow nums s) (instanceRow nums s) t w j (λ l u. omega arith)
+      ∙ target-beside filled filled-size (targetRow nums s) (instanceRow nums s) t (e .kind) (e .word) (e .targetInstance) (e .count) j (λ l u. omega arith)
 
   -- ---- by name
 
   pub kind-taken : (r : ℕ) → r < nameRows →
-      kindAt (takenNums nums s t w n m) r ≡ cond (isNewTarget nums s (w .kind) r) (w .kind) (cond (isNewCore nums s r) core (kindAt nums r))
-  kind-taken r h = from-filled (kindColumn .base + r) (omega arith) (omega arith) ∙ rows-stored nums z s (w .kind) n m (kindColumn .base) (λ k c. k) row-kind r h
+      kindAt (takenNums nums s t e) r ≡ cond (isNewTarget nums s (e .kind) r) (e .kind) (cond (isNewCore nums s r) core (kindAt nums r))
+  kind-taken r h = from-filled (kindColumn .base + r) (omega arith) (omega arith) ∙ rows-stored nums z s (e .kind) (length (e .source)) (length (e .target)) (kindColumn .base) (λ k c. k) row-kind r h
 
   pub length-taken : (r : ℕ) → r < nameRows →
-      lengthAt (takenNums nums s t w n m) r ≡ cond (isNewTarget nums s (w .kind) r) (m % 2 ^ 32) (cond (isNewCore nums s r) (n % 2 ^ 32) (lengthAt nums r))
-  length-taken r h = from-filled (lengthColumn .base + r) (omega arith) (omega arith) ∙ rows-stored nums z s (w .kind) n m (lengthColumn .base) (λ k c. c % 2 ^ 32) row-length r h
+      lengthAt (takenNums nums s t e) r ≡ cond (isNewTarget nums s (e .kind) r) (length (e .target) % 2 ^ 32) (cond (isNewCore nums s r) (length (e .source) % 2 ^ 32) (lengthAt nums r))
+  length-taken r h = from-filled (lengthColumn .base + r) (omega arith) (omega arith) ∙ rows-stored nums z s (e .kind) (length (e .source)) (length (e .target)) (lengthColumn .base) (λ k c. c % 2 ^ 32) row-length r h
 
-  pub mark-taken : (eqb (s .class) 0 ≡ false → targetRow nums s < nameRows) → (r : ℕ) → r < nameRows →
-      markAt (takenNums nums s t w n m) r
+  pub standing-taken : (eqb (s .class) 0 ≡ false → targetRow nums s < nameRows) → (r : ℕ) → r < nameRows →
+      standingAt (takenNums nums s t e) r
       ≡ cond (not (eqb (s .class) 0) && eqb r (coreRow nums s)) (cond (eqb (s .class) 2) 1 (targetRow nums s + 2))
-      (cond (eqb (w .kind) semaphore && eqb r (targetRow nums s)) t (orNone nums s (w .kind) r (markAt nums r)))
-  mark-taken k r h =
-      from-cored (markColumn .base + r) (omega arith)
-      ∙ core-mark aimed (s .class) (coreRow nums s) (targetRow nums s) (w .number) aimed-size k r h
-      ∙ rw (target-mark filled filled-size (targetRow nums s) (instanceRow nums s) t w r h, rows-stored nums z s (w .kind) n m (markColumn .base) (λ k c. 0) row-mark r h)
+      (cond (eqb (e .kind) semaphore && eqb r (targetRow nums s)) t (orNone nums s (e .kind) r (standingAt nums r)))
+  standing-taken k r h =
+      from-cored (standingColumn .base + r) (omega arith)
+      ∙ core-standing aimed (s .class) (coreRow nums s) (targetRow nums s) (e .targetInstance) aimed-size k r h
+      ∙ rw (target-standing filled filled-size (targetRow nums s) (instanceRow nums s) t (e .kind) (e .word) (e .targetInstance) (e .count) r h, rows-stored nums z s (e .kind) (length (e .source)) (length (e .target)) (standingColumn .base) (λ k c. 0) row-standing r h)
 
   -- the count or number that the target is given, and otherwise the old entry
   abbrev given : ℕ → ℕ → ℕ → ℕ → ℕ
   given r count number old =
-      cond (eqb (w .kind) semaphore && eqb r (targetRow nums s)) count
-      (cond (activates (w .kind) (w .word) && eqb r (targetRow nums s)) number (orNone nums s (w .kind) r old))
+      cond (eqb (e .kind) semaphore && eqb r (targetRow nums s)) count
+      (cond (activates (e .kind) (e .word) && eqb r (targetRow nums s)) number (orNone nums s (e .kind) r old))
 
   number-column : (d : ℕ) (value : ℕ → ℕ) → Fills d (λ k c. 0) → Counts d value → numberColumn .base ≤ d → d ≤ numberedColumn .base → (r : ℕ) → r < nameRows →
-      getD aimed (d + r) 0 ≡ given r (value (w .count)) (value (w .number)) (getD nums (d + r) 0)
+      getD aimed (d + r) 0 ≡ given r (value (e .count)) (value (e .targetInstance)) (getD nums (d + r) 0)
   number-column d value f c lo hi r h =
-      target-number filled filled-size (targetRow nums s) (instanceRow nums s) t w d value c lo hi r h
-      ∙ rw (rows-stored nums z s (w .kind) n m d (λ k c. 0) f r h)
+      target-number filled filled-size (targetRow nums s) (instanceRow nums s) t (e .kind) (e .word) (e .targetInstance) (e .count) d value c lo hi r h
+      ∙ rw (rows-stored nums z s (e .kind) (length (e .source)) (length (e .target)) d (λ k c. 0) f r h)
 
   pub number-taken : (eqb (s .class) 0 ≡ false → targetRow nums s < nameRows) → (r : ℕ) → r < nameRows →
-      let old = given r (w .count) (w .number) (numberAt nums r) in
-      numberAt (takenNums nums s t w n m) r ≡ cond (not (eqb (s .class) 0) && eqb r (coreRow nums s)) (cond (eqb (s .class) 2) old (w .number)) old
+      let old = given r (e .count) (e .targetInstance) (numberAt nums r) in
+      numberAt (takenNums nums s t e) r ≡ cond (not (eqb (s .class) 0) && eqb r (coreRow nums s)) (cond (eqb (s .class) 2) old (e .targetInstance)) old
   number-taken k r h =
       from-cored (numberColumn .base + r) (omega arith)
-      ∙ core-number aimed (s .class) (coreRow nums s) (targetRow nums s) (w .number) aimed-size k r h
+      ∙ core-number aimed (s .class) (coreRow nums s) (targetRow nums s) (e .targetInstance) aimed-size k r h
       ∙ rw (number-column (numberColumn .base) (λ c. c) row-number number-number (omega arith) (omega arith) r h)
 
-  pub numbered-taken : (r : ℕ) → r < nameRows → numberedAt (takenNums nums s t w n m) r ≡ given r 1 1 (numberedAt nums r)
+  pub numbered-taken : (r : ℕ) → r < nameRows → numberedAt (takenNums nums s t e) r ≡ given r 1 1 (numberedAt nums r)
   numbered-taken r h =
       from-aimed (numberedColumn .base + r) (omega arith) (λ l u. omega arith)
       ∙ number-column (numberedColumn .base) (λ c. 1) row-numbered number-numbered (omega arith) (omega arith) r h
 
   -- ---- by instance
 
-  module _ (k : hasInstances (w .kind) ≡ true → targetRow nums s < nameRows) (q : ℕ) (h : q < instanceRows) where
+  module _ (k : hasInstances (e .kind) ≡ true → targetRow nums s < nameRows) (q : ℕ) (h : q < instanceRows) where
     instance-column : (d v : ℕ) → ownerColumn .base ≤ d →
         ((l : List ℕ) → length l ≡ numsSize → targetRow nums s < nameRows →
-        getD (storeInstance l (instanceRow nums s) (targetRow nums s) (w .number) t) (d + q) 0 ≡ cond (eqb q (instanceRow nums s)) v (getD l (d + q) 0)) →
-        getD (takenNums nums s t w n m) (d + q) 0 ≡ cond (isInstance nums s (w .kind) q) v (getD nums (d + q) 0)
+        getD (storeInstance l (instanceRow nums s) (targetRow nums s) (e .targetInstance) t) (d + q) 0 ≡ cond (eqb q (instanceRow nums s)) v (getD l (d + q) 0)) →
+        getD (takenNums nums s t e) (d + q) 0 ≡ cond (isInstance nums s (e .kind) q) v (getD nums (d + q) 0)
     instance-column d v lo f =
         from-aimed (d + q) (omega arith) (λ l u. omega arith)
-        ∙ target-instance filled filled-size (targetRow nums s) (instanceRow nums s) t w d q v lo (λ e. f filled filled-size (k e))
-        ∙ rw (rows-beside nums z s (w .kind) n m (d + q) (λ l u. omega arith))
+        ∙ target-instance filled filled-size (targetRow nums s) (instanceRow nums s) t (e .kind) (e .word) (e .targetInstance) (e .count) d q v lo (λ e. f filled filled-size (k e))
+        ∙ rw (rows-beside nums z s (e .kind) (length (e .source)) (length (e .target)) (d + q) (λ l u. omega arith))
 
-    pub owner-taken : ownerAt (takenNums nums s t w n m) q ≡ cond (isInstance nums s (w .kind) q) (targetRow nums s) (ownerAt nums q)
-    owner-taken = instance-column (ownerColumn .base) (targetRow nums s) (omega arith) (λ l y o. instance-owner l y (instanceRow nums s) (targetRow nums s) q o h (w .number) t)
+    pub owner-taken : ownerAt (takenNums nums s t e) q ≡ cond (isInstance nums s (e .kind) q) (targetRow nums s) (ownerAt nums q)
+    owner-taken = instance-column (ownerColumn .base) (targetRow nums s) (omega arith) (λ l y o. instance-owner l y (instanceRow nums s) (targetRow nums s) q o h (e .targetInstance) t)
 
-    pub instance-taken : instanceAt (takenNums nums s t w n m) q ≡ cond (isInstance nums s (w .kind) q) (w .number) (instanceAt nums q)
-    instance-taken = instance-column (instanceColumn .base) (w .number) (omega arith) (λ l y o. instance-number l y (instanceRow nums s) (targetRow nums s) q o h (w .number) t)
+    pub instance-taken : instanceAt (takenNums nums s t e) q ≡ cond (isInstance nums s (e .kind) q) (e .targetInstance) (instanceAt nums q)
+    instance-taken = instance-column (instanceColumn .base) (e .targetInstance) (omega arith) (λ l y o. instance-number l y (instanceRow nums s) (targetRow nums s) q o h (e .targetInstance) t)
 
-    pub state-taken : stateAt (takenNums nums s t w n m) q ≡ cond (isInstance nums s (w .kind) q) t (stateAt nums q)
-    state-taken = instance-column (stateColumn .base) t (omega arith) (λ l y o. instance-state l y (instanceRow nums s) (targetRow nums s) q o h (w .number) t)
+    pub state-taken : stateAt (takenNums nums s t e) q ≡ cond (isInstance nums s (e .kind) q) t (stateAt nums q)
+    state-taken = instance-column (stateColumn .base) t (omega arith) (λ l y o. instance-state l y (instanceRow nums s) (targetRow nums s) q o h (e .targetInstance) t)
 
   -- ---- single entries
 
-  cored-head : (j : ℕ) → j < kindColumn .base → getD cored j 0 ≡ getD nums j 0
-  cored-head j h =
-      core-beside aimed (s .class) (coreRow nums s) (targetRow nums s) (w .number) j (λ l u. omega arith)
-      ∙ target-beside filled filled-size (targetRow nums s) (instanceRow nums s) t w j (λ l u. omega arith)
-      ∙ rows-beside nums z s (w .kind) n m j (λ l u. omega arith)
+  cored-single : (j : ℕ) → j < kindColumn .base → getD cored j 0 ≡ getD nums j 0
+  cored-single j h =
+      core-beside aimed (s .class) (coreRow nums s) (targetRow nums s) (e .targetInstance) j (λ l u. omega arith)
+      ∙ target-beside filled filled-size (targetRow nums s) (instanceRow nums s) t (e .kind) (e .word) (e .targetInstance) (e .count) j (λ l u. omega arith)
+      ∙ rows-beside nums z s (e .kind) (length (e .source)) (length (e .target)) j (λ l u. omega arith)
 
-  pub lines-taken : lineCount (takenNums nums s t w n m) ≡ (lineCount nums + 1) % 2 ^ 32
+  pub lines-taken : lineCount (takenNums nums s t e) ≡ (lineCount nums + 1) % 2 ^ 32
   unfolding takenNums
-  lines-taken = heads-stored cored _ _ _ cored-size linesIndex ∙ rw (cored-head linesIndex (omega arith))
+  lines-taken = counts-stored cored _ _ _ cored-size linesIndex ∙ rw (cored-single linesIndex (omega arith))
 
-  pub started-taken : startedEntry (takenNums nums s t w n m) ≡ 1
+  pub started-taken : startedEntry (takenNums nums s t e) ≡ 1
   unfolding takenNums
-  started-taken = heads-stored cored _ _ _ cored-size startedIndex
+  started-taken = counts-stored cored _ _ _ cored-size startedIndex
 
-  pub names-taken : nameCount (takenNums nums s t w n m) ≡ (nameCount nums + (newCore s + newName s (w .kind))) % 2 ^ 32
+  pub names-taken : nameCount (takenNums nums s t e) ≡ (nameCount nums + (newCore s + newName s (e .kind))) % 2 ^ 32
   unfolding takenNums
-  names-taken = heads-stored cored _ _ _ cored-size namesIndex ∙ rw (cored-head namesIndex (omega arith))
+  names-taken = counts-stored cored _ _ _ cored-size namesIndex ∙ rw (cored-single namesIndex (omega arith))
 
-  pub cores-taken : coreCount (takenNums nums s t w n m) ≡ (coreCount nums + newCore s) % 2 ^ 32
+  pub cores-taken : coreCount (takenNums nums s t e) ≡ (coreCount nums + newCore s) % 2 ^ 32
   unfolding takenNums
-  cores-taken = heads-stored cored _ _ _ cored-size coresIndex ∙ rw (cored-head coresIndex (omega arith))
+  cores-taken = counts-stored cored _ _ _ cored-size coresIndex ∙ rw (cored-single coresIndex (omega arith))
 
-  pub instances-taken : instanceCount (takenNums nums s t w n m) ≡ (instanceCount nums + newInstance s (w .kind)) % 2 ^ 32
+  pub instances-taken : instanceCount (takenNums nums s t e) ≡ (instanceCount nums + newInstance s (e .kind)) % 2 ^ 32
   unfolding takenNums
-  instances-taken = heads-stored cored _ _ _ cored-size instancesIndex ∙ rw (cored-head instancesIndex (omega arith))
+  instances-taken = counts-stored cored _ _ _ cored-size instancesIndex ∙ rw (cored-single instancesIndex (omega arith))
 
   -- the remembered verdict, the scale and the two parameters: an event line does not touch them
-  pub verdict-number-kept : verdictNumber (takenNums nums s t w n m) ≡ verdictNumber nums
+  pub verdict-number-kept : verdictNumber (takenNums nums s t e) ≡ verdictNumber nums
   unfolding takenNums
-  verdict-number-kept = heads-stored cored _ _ _ cored-size verdictIndex ∙ cored-head verdictIndex (omega arith)
+  verdict-number-kept = counts-stored cored _ _ _ cored-size verdictIndex ∙ cored-single verdictIndex (omega arith)
 
-  pub verdict-line-kept : verdictLine (takenNums nums s t w n m) ≡ verdictLine nums
+  pub verdict-line-kept : verdictLine (takenNums nums s t e) ≡ verdictLine nums
   unfolding takenNums
-  verdict-line-kept = heads-stored cored _ _ _ cored-size verdictLineIndex ∙ cored-head verdictLineIndex (omega arith)
+  verdict-line-kept = counts-stored cored _ _ _ cored-size verdictLineIndex ∙ cored-single verdictLineIndex (omega arith)
 
-  pub scale-kept : scaleEntry (takenNums nums s t w n m) ≡ scaleEntry nums
+  pub scale-kept : scaleEntry (takenNums nums s t e) ≡ scaleEntry nums
   unfolding takenNums
-  scale-kept = heads-stored cored _ _ _ cored-size scaleIndex ∙ cored-head scaleIndex (omega arith)
+  scale-kept = counts-stored cored _ _ _ cored-size scaleIndex ∙ cored-single scaleIndex (omega arith)
 
-  pub creator-kept : creatorEntry (takenNums nums s t w n m) ≡ creatorEntry nums
+  pub creator-kept : creatorEntry (takenNums nums s t e) ≡ creatorEntry nums
   unfolding takenNums
-  creator-kept = heads-stored cored _ _ _ cored-size creatorIndex ∙ cored-head creatorIndex (omega arith)
+  creator-kept = counts-stored cored _ _ _ cored-size creatorIndex ∙ cored-single creatorIndex (omega arith)
 
-  pub date-kept : dateEntry (takenNums nums s t w n m) ≡ dateEntry nums
+  pub date-kept : dateEntry (takenNums nums s t e) ≡ dateEntry nums
   unfolding takenNums
-  date-kept = heads-stored cored _ _ _ cored-size dateIndex ∙ cored-head dateIndex (omega arith)
+  date-kept = counts-stored cored _ _ _ cored-size dateIndex ∙ cored-single dateIndex (omega arith)

@@ -24,11 +24,11 @@ use Rattle.rules.proofs.Tests.{clash}
 use Rattle.rules.proofs.Tracked.{named-kind}
 use Rattle.rules.proofs.Totals.{core-total}
 use Rattle.rules.proofs.Charges.{charge-at-most}
-use Rattle.tables.specs.Entry.{kindAt, markAt, heldAt, unknownAt}
+use Rattle.tables.specs.Entry.{kindAt, standingAt, heldAt, unknownAt}
 use Rattle.judge.specs.Feed.{Tables}
-use Rattle.sheet.specs.Figure.{openAt, heldIn, idleIn, holds, chargeTo, chargeIn}
+use Rattle.sheet.specs.Figure.{openAt, heldIn, idleIn, holdsCore, chargeTo, chargeIn}
 use Rattle.promises.specs.Places.{place, rowOf}
-use Rattle.promises.specs.Shown.{Shown, CoreTicks, coreMark, openTicks, openCharge}
+use Rattle.promises.specs.Shown.{Shown, CoreTicks, coreStanding, openTicks, openCharge}
 use Rattle.promises.proofs.Places.{place-one, Distinct, at-place}
 use Rattle.promises.proofs.Grown.{AllMet, names-distinct, core-unknown}
 use Rattle.promises.proofs.Bounds.{span-most}
@@ -64,15 +64,15 @@ module _ {A : Type 0} (eq : A → A → Bool) (eq-true : (x y : A) → eq x y �
 
 -- ---- what the state of a core says in the tables
 
-idle-mark : (h : List Event) (c : Core) → oneIf (eqb (coreMark h c) 1) ≡ isIdle c
-idle-mark h unknown = refl
-idle-mark h idle = refl
-idle-mark h (held x) = rw (ne-eqb (rowOf h (x .name) + 2) 1 (λ q. omega arith))
+idle-standing : (h : List Event) (c : Core) → oneIf (eqb (coreStanding h c) 1) ≡ isIdle c
+idle-standing h unknown = refl
+idle-standing h idle = refl
+idle-standing h (held x) = rw (ne-eqb (rowOf h (x .name) + 2) 1 (λ q. omega arith))
 
-held-mark : (h : List Event) (c : Core) → oneIf (not (ltb (coreMark h c) 2)) ≡ isHeld c
-held-mark h unknown = refl
-held-mark h idle = refl
-held-mark h (held x) = rw (le-ltb (rowOf h (x .name) + 2) 2 (omega arith))
+held-standing : (h : List Event) (c : Core) → oneIf (not (ltb (coreStanding h c) 2)) ≡ isHeld c
+held-standing h unknown = refl
+held-standing h idle = refl
+held-standing h (held x) = rw (le-ltb (rowOf h (x .name) + 2) 2 (omega arith))
 
 module _ (h : List Event) (a : Accepted h) (t : Tables) (s : Shown h t) (p : List ℕ) (listed : any (sameBytes p) (names h) ≡ true) where
   -- two states name one row exactly if it is of one name
@@ -86,20 +86,20 @@ module _ (h : List Event) (a : Accepted h) (t : Tables) (s : Shown h t) (p : Lis
           clash _ (eq-same p n (place-one sameBytes same-eq same-refl p n (names h) listed q (omega arith))) r)
 
   -- the state of a core names the row of its holder's name
-  holder-mark : (c : Core) → ((x : Instance) → c ≡ held x → any (sameBytes (x .name)) (names h) ≡ true) → oneIf (eqb (coreMark h c) (rowOf h p + 2)) ≡ isHeldBy p c
-  holder-mark unknown l = rw (ne-eqb 0 (rowOf h p + 2) (λ q. omega arith))
-  holder-mark idle l = rw (ne-eqb 1 (rowOf h p + 2) (λ q. omega arith))
-  holder-mark (held x) l = rw (own-row (x .name) (l x refl))
+  holder-standing : (c : Core) → ((x : Instance) → c ≡ held x → any (sameBytes (x .name)) (names h) ≡ true) → oneIf (eqb (coreStanding h c) (rowOf h p + 2)) ≡ isHeldBy p c
+  holder-standing unknown l = rw (ne-eqb 0 (rowOf h p + 2) (λ q. omega arith))
+  holder-standing idle l = rw (ne-eqb 1 (rowOf h p + 2) (λ q. omega arith))
+  holder-standing (held x) l = rw (own-row (x .name) (l x refl))
 
-  holds-shown : (c : List ℕ) → any (sameBytes c) (names h) ≡ true → oneIf (holds (t .nums) (rowOf h p) (rowOf h c)) ≡ isHeldBy p (coreAt c h)
-  unfolding holds
+  holds-shown : (c : List ℕ) → any (sameBytes c) (names h) ≡ true → oneIf (holdsCore (t .nums) (rowOf h p) (rowOf h c)) ≡ isHeldBy p (coreAt c h)
+  unfolding holdsCore
   holds-shown c q = by-kind (eqb (kindAt (t .nums) (rowOf h c)) core) refl
     where
       m : ℕ
-      m = markAt (t .nums) (rowOf h c)
+      m = standingAt (t .nums) (rowOf h c)
 
       by-kind : (b : Bool) → eqb (kindAt (t .nums) (rowOf h c)) core ≡ b → oneIf (b && eqb m (rowOf h p + 2)) ≡ isHeldBy p (coreAt c h)
-      by-kind true k = rw (s .each-name c q .mark .of-core k) (holder-mark (coreAt c h) (holder-named h a c))
+      by-kind true k = rw (s .each-name c q .standing .of-core k) (holder-standing (coreAt c h) (holder-named h a c))
       by-kind false k =
           sym (ap (isHeldBy p) (core-unknown c h a (λ z. eqb-false _ core k (let y : kindAt (t .nums) (rowOf h c) ≡ core = cc (z, s .each-name c q .kind) in y))))
 
@@ -121,15 +121,15 @@ module _ (h : List Event) (a : Accepted h) (met : AllMet h) (t : Tables) (s : Sh
     stored : CoreTicks h (t .ticks) (rowOf h c) c
     stored = s .each-ticks c listed .of-core k
 
-    mark : markAt (t .nums) (rowOf h c) ≡ coreMark h (coreAt c h)
-    mark = let r = s .each-name c listed in r .mark .of-core (eq-eqb _ core (let z : kindAt (t .nums) (rowOf h c) ≡ core = cc (k, r .kind) in z))
+    standing : standingAt (t .nums) (rowOf h c) ≡ coreStanding h (coreAt c h)
+    standing = let r = s .each-name c listed in r .standing .of-core (eq-eqb _ core (let z : kindAt (t .nums) (rowOf h c) ≡ core = cc (k, r .kind) in z))
 
     pub held-shown : heldIn (t .nums) (t .ticks) (rowOf h c) ≡ heldTicks c h
     unfolding heldIn openAt
     held-shown =
-        rw mark
-        (turned (ltb (coreMark h (coreAt c h)) 2) _ _
-        ∙ sum-shown (not (ltb (coreMark h (coreAt c h)) 2)) _ _ _ _ (held-mark h (coreAt c h)) (stored .held-ticks) (omega (arith, core-total h a c)))
+        rw standing
+        (turned (ltb (coreStanding h (coreAt c h)) 2) _ _
+        ∙ sum-shown (not (ltb (coreStanding h (coreAt c h)) 2)) _ _ _ _ (held-standing h (coreAt c h)) (stored .held-ticks) (omega (arith, core-total h a c)))
       where
         turned : (b : Bool) (x y : ℕ) → cond b x y ≡ cond (not b) y x
         turned true x y = refl
@@ -138,7 +138,7 @@ module _ (h : List Event) (a : Accepted h) (met : AllMet h) (t : Tables) (s : Sh
     pub idle-shown : idleIn (t .nums) (t .ticks) (rowOf h c) ≡ idleTicks c h
     unfolding idleIn openAt
     idle-shown =
-        rw mark (sum-shown (eqb (coreMark h (coreAt c h)) 1) _ _ _ _ (idle-mark h (coreAt c h)) (stored .idle-ticks) (omega (arith, core-total h a c)))
+        rw standing (sum-shown (eqb (coreStanding h (coreAt c h)) 1) _ _ _ _ (idle-standing h (coreAt c h)) (stored .idle-ticks) (omega (arith, core-total h a c)))
 
     pub unknown-shown : unknownAt (t .ticks) (rowOf h c) ≡ unknownTicks c h
     unknown-shown = stored .unknown-ticks
@@ -146,7 +146,7 @@ module _ (h : List Event) (a : Accepted h) (met : AllMet h) (t : Tables) (s : Sh
   pub charge-shown : (p : List ℕ) (k : ℕ) → kindOf p h ≡ some k → isProcess k ≡ true → chargeIn (t .nums) (t .ticks) (rowOf h p) ≡ charge p h
   unfolding chargeIn chargeTo openAt isProcess
   charge-shown p k q r =
-      rw (s .head .names-counted)
+      rw (s .singles .names-counted)
       (by-rows sameBytes same-eq same-refl (names h) (names-distinct h) P (λ l. omega arith) step (omega (arith, stored-charge, charge-at-most h a p)) ∙ stored-charge)
     where
       listed-p : any (sameBytes p) (names h) ≡ true
@@ -167,5 +167,5 @@ module _ (h : List Event) (a : Accepted h) (met : AllMet h) (t : Tables) (s : Sh
 
       step : (c : List ℕ) → any (sameBytes c) (names h) ≡ true → (cs : List (List ℕ)) → P (suc (rowOf h c)) cs → P (rowOf h c) (c ∷ cs)
       step c l cs i b =
-          let one : upTo (suc (rowOf h c)) ≡ upTo (rowOf h c) + F c = sum-shown (holds (t .nums) (rowOf h p) (rowOf h c)) _ _ _ _ (holds-shown h a t s p listed-p c l) refl (omega arith) in
+          let one : upTo (suc (rowOf h c)) ≡ upTo (rowOf h c) + F c = sum-shown (holdsCore (t .nums) (rowOf h p) (rowOf h c)) _ _ _ _ (holds-shown h a t s p listed-p c l) refl (omega arith) in
           i (omega arith) ∙ omega arith

@@ -18,7 +18,7 @@ fresh-shown = record {
   names-size = length-replicate {A = ℕ} namesSize 0;
   nums-size = length-replicate {A = ℕ} numsSize 0;
   ticks-size = length-replicate {A = ℕ} ticksSize 0;
-  head = record { started = refl; names-counted = refl; cores-counted = refl; instances-counted = refl; first = refl; last = refl };
+  singles = record { started = refl; names-counted = refl; cores-counted = refl; instances-counted = refl; first = refl; last = refl };
   each-name = λ n m. absurd (clash _ m refl);
   instance-rows = record { each = λ x m. absurd (clash _ m refl); owned = λ j b. absurd (omega (arith, b)); kept = λ i j b d o n. absurd (omega (arith, b)) };
   each-ticks = λ n m. absurd (clash _ m refl);

@@ -21,14 +21,14 @@ use Rattle.tables.specs.declared.find.Found.the-variants.{At, Nothing}
 use Rattle.decide.specs.Known.{another, isHolder, coreIn}
 use Rattle.decide.proofs.Plans.{another-differs}
 use Rattle.promises.specs.Places.{seek, rowOf}
-use Rattle.promises.specs.Shown.{coreMark}
+use Rattle.promises.specs.Shown.{coreStanding}
 use Rattle.promises.proofs.Places.{one-row}
 use Rattle.promises.proofs.Told.{Only}
 use Rattle.promises.proofs.Turns.{holder-kind, holder-named}
 
 -- two states name one row exactly if the rows are one
-marks-alike : (i j : ℕ) → eqb (i + 2) (j + 2) ≡ eqb i j
-marks-alike i j = by-test (eqb i j) refl
+standings-alike : (i j : ℕ) → eqb (i + 2) (j + 2) ≡ eqb i j
+standings-alike i j = by-test (eqb i j) refl
   where
     by-test : (b : Bool) → eqb i j ≡ b → eqb (i + 2) (j + 2) ≡ b
     by-test true q = eq-eqb _ _ (ap (λ (k : ℕ). k + 2) (eqb-true i j q))
@@ -57,14 +57,14 @@ module _ (h : List Event) (a : Accepted h) (x : Instance) (only : Only (kindOf (
       by-row : (b : Bool) → any (sameBytes (x .name)) (names h) ≡ b →
           isHolder (rowOf h (y .name) + 2) (y .number) (cond b (At (rowOf h (x .name))) Nothing) (x .number) ≡ sameInstance y x
       by-row true q =
-          rw (marks-alike (rowOf h (y .name)) (rowOf h (x .name)), one-row sameBytes same-eq same-refl (y .name) (x .name) (names h) listed q)
+          rw (standings-alike (rowOf h (y .name)) (rowOf h (x .name)), one-row sameBytes same-eq same-refl (y .name) (x .name) (names h) listed q)
           (by-name (sameBytes (y .name) (x .name)) refl)
       by-row false q =
           sym (is-false _ (λ r. clash _ (subst (λ (z : Instance). any (sameBytes (z .name)) (names h) ≡ true) (instance-true y x r) listed) q))
 
   -- whom a core serves
   pub serves-shown : (c : List ℕ) (number : ℕ) → ((y : Instance) → coreAt c h ≡ held y → number ≡ y .number) → (taking new : Bool) →
-      serves (coreIn (coreMark h (coreAt c h)) number (seek (sameBytes (x .name)) (names h)) x) taking new x ≡ serves (coreAt c h) taking new x
+      serves (coreIn (coreStanding h (coreAt c h)) number (seek (sameBytes (x .name)) (names h)) x) taking new x ≡ serves (coreAt c h) taking new x
   unfolding coreIn
   serves-shown c number told taking new = by-core (coreAt c h) refl
     where
@@ -73,7 +73,7 @@ module _ (h : List Event) (a : Accepted h) (x : Instance) (only : Only (kindOf (
       by-same false = rw (another-differs x)
 
       by-core : (k : Core) → coreAt c h ≡ k →
-          serves (coreIn (coreMark h k) number (seek (sameBytes (x .name)) (names h)) x) taking new x ≡ serves k taking new x
+          serves (coreIn (coreStanding h k) number (seek (sameBytes (x .name)) (names h)) x) taking new x ≡ serves k taking new x
       by-core unknown p = refl
       by-core idle p = refl
       by-core (held y) p =

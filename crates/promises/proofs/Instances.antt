@@ -6,7 +6,6 @@ use mathlib.Core.List.{List, _∷_}
 use Prim.Native.Nat.{ℕ, _+_, _<_}
 use native.Mathlib.Omega.{arith}
 use lib.Dec.{eqb}
-use lib.ListN.{length}
 use borrow.Author.Tests.{eq-eqb, eqb-true, not-true}
 use Rattle.text.proofs.Bools.{is-false}
 use Rattle.rules.specs.Lists.{any, oneIf}
@@ -21,46 +20,40 @@ use Rattle.rules.proofs.Tracked.{target-kind, kind-stays, named-kind}
 use Rattle.tables.specs.declared.find.Found.{Found}
 use Rattle.tables.specs.declared.find.Found.the-variants.{At, Nothing}
 use Rattle.tables.specs.Entry.{instanceRows, nameRows, instanceCount, ownerAt, instanceAt, stateAt}
-use Rattle.decide.specs.declared.happening.Happening.{Happening}
-use Rattle.decide.specs.Happening.{asEvent}
 use Rattle.decide.proofs.Plans.{own-number}
-use Rattle.store.specs.Store.{rowOr, targetRow, instanceRow}
+use Rattle.store.specs.Store.{rowOr, targetRow, instanceRow, takenTables}
 use Rattle.judge.specs.Feed.{Tables}
 use Rattle.promises.specs.Places.{rowOf}
 use Rattle.promises.specs.Shown.{InstanceShown, InstancesShown, Shown}
-use Rattle.promises.specs.Taken.{sightIn, InstanceFound, takenBy}
+use Rattle.promises.specs.Taken.{lookedUpIn, InstanceFound}
 use Rattle.promises.proofs.Grown.{newInstance, instances-tracked, instances-length, InstanceFrom, instance-from, instance-stays, instance-listed, row-stays}
 use Rattle.promises.proofs.Grown.{instance-kind, one-instance, AllMet}
 use Rattle.promises.proofs.Grown.InstanceFrom.{before, as-new}
-use Rattle.promises.proofs.Lookups.{sight-instance, target-row}
+use Rattle.promises.proofs.Lookups.{looked-up-instance, target-row}
 use Rattle.promises.proofs.Entries.{isInstance, owner-taken, instance-taken, state-taken}
 use Rattle.promises.proofs.Rows.{room, target-bound}
-use Rattle.promises.proofs.Sizes.{head-next}
+use Rattle.promises.proofs.Sizes.{singles-next}
 
-module _ (h : List Event) (a : Accepted h) (met : AllMet h) (t : Tables) (s : Shown h t) (w : Happening) (source target : List ℕ)
-    (f : Passed h (asEvent w source target)) (state : ℕ)
-    (l : opened state ≡ stateOf (instanceOf (asEvent w source target)) (asEvent w source target ∷ h)) where
-  abbrev e : Event
-  e = asEvent w source target
-
+module _ (h : List Event) (a : Accepted h) (met : AllMet h) (t : Tables) (s : Shown h t) (e : Event) (f : Passed h e) (state : ℕ)
+    (l : opened state ≡ stateOf (instanceOf e) (e ∷ h)) where
   abbrev after : Tables
-  after = takenBy t (sightIn h t e) state w source target
+  after = takenTables t (lookedUpIn h t e) state e
 
   -- the row to which the line stores its instance
   abbrev row : ℕ
-  row = instanceRow (t .nums) (sightIn h t e)
+  row = instanceRow (t .nums) (lookedUpIn h t e)
 
   abbrev isOwn : ℕ → Bool
-  isOwn j = isInstance (t .nums) (sightIn h t e) (w .kind) j
+  isOwn j = isInstance (t .nums) (lookedUpIn h t e) (e .kind) j
 
   -- it showed the instance before, or it is the next one
   data OwnRow (r : ℕ) : Type 0 where
     there : any (sameInstance (instanceOf e)) (instances h) ≡ true → InstanceShown h (t .nums) r (instanceOf e) → OwnRow r
     next : any (sameInstance (instanceOf e)) (instances h) ≡ false → r ≡ instanceCount (t .nums) → OwnRow r
 
-  own-row : hasInstances (w .kind) ≡ true → OwnRow row
+  own-row : hasInstances (e .kind) ≡ true → OwnRow row
   unfolding instanceRow
-  own-row i = by-found ((sightIn h t e) .instance) (sight-instance h a met t s e (f .kinds) i)
+  own-row i = by-found ((lookedUpIn h t e) .instance) (looked-up-instance h a met t s e (f .kinds) i)
     where
       by-found : (r : Found) → InstanceFound h (t .nums) (instanceOf e) r → OwnRow (rowOr r (instanceCount (t .nums)))
       by-found (At j) p = there (p .0) (p .1)
@@ -69,12 +62,12 @@ module _ (h : List Event) (a : Accepted h) (met : AllMet h) (t : Tables) (s : Sh
   -- ---- how many rows there are
 
   counted : instanceCount (after .nums) ≡ instanceCount (t .nums) + oneIf (newInstance h e)
-  counted = omega (arith, head-next h t s w source target state a met f .instances-counted, instances-length h e, s .head .instances-counted)
+  counted = omega (arith, singles-next h t s e state a met f .instances-counted, instances-length h e, s .singles .instances-counted)
 
   small : (j : ℕ) → j < instanceCount (after .nums) → j < instanceRows
-  small j b = omega (arith, head-next h t s w source target state a met f .instances-counted, room h e f .instances-fit)
+  small j b = omega (arith, singles-next h t s e state a met f .instances-counted, room h e f .instances-fit)
 
-  own-below : hasInstances (w .kind) ≡ true → row < instanceCount (after .nums)
+  own-below : hasInstances (e .kind) ≡ true → row < instanceCount (after .nums)
   own-below i = by-row (own-row i)
     where
       by-row : OwnRow row → row < instanceCount (after .nums)
@@ -86,37 +79,37 @@ module _ (h : List Event) (a : Accepted h) (met : AllMet h) (t : Tables) (s : Sh
   old-below j b o = by-new (newInstance h e) refl
     where
       by-row : newInstance h e ≡ true → (r : ℕ) → OwnRow r → (j ≡ r → ⊥) → j < instanceCount (t .nums)
-      by-row n r (there q p) d = absurd (clash _ q (not-true _ (both (hasInstances (w .kind)) _ n .1)))
+      by-row n r (there q p) d = absurd (clash _ q (not-true _ (both (hasInstances (e .kind)) _ n .1)))
       by-row n r (next p q) d = let c : j ≡ instanceCount (t .nums) → ⊥ = λ z. d (z ∙ sym q) in omega (arith, counted, ap oneIf n)
 
       by-new : (n : Bool) → newInstance h e ≡ n → j < instanceCount (t .nums)
       by-new true n =
-          let i = both (hasInstances (w .kind)) _ n .0 in
-          by-row n row (own-row i) (λ z. clash _ (and-true (hasInstances (w .kind)) (eqb j row) i (eq-eqb j row z)) o)
+          let i = both (hasInstances (e .kind)) _ n .0 in
+          by-row n row (own-row i) (λ z. clash _ (and-true (hasInstances (e .kind)) (eqb j row) i (eq-eqb j row z)) o)
       by-new false n = omega (arith, counted, ap oneIf n)
 
   -- ---- what each row shows
 
   module _ (j : ℕ) (b : j < instanceCount (after .nums)) where
-    bound : hasInstances (w .kind) ≡ true → targetRow (t .nums) (sightIn h t e) < nameRows
-    bound i = target-bound h t s w source target f state (instances-tracked (w .kind) i)
+    bound : hasInstances (e .kind) ≡ true → targetRow (t .nums) (lookedUpIn h t e) < nameRows
+    bound i = target-bound h t s e f state (instances-tracked (e .kind) i)
 
-    owner-at : ownerAt (after .nums) j ≡ cond (isOwn j) (targetRow (t .nums) (sightIn h t e)) (ownerAt (t .nums) j)
-    owner-at = owner-taken (t .nums) (s .nums-size) (sightIn h t e) state w (length source) (length target) bound j (small j b)
+    owner-at : ownerAt (after .nums) j ≡ cond (isOwn j) (targetRow (t .nums) (lookedUpIn h t e)) (ownerAt (t .nums) j)
+    owner-at = owner-taken (t .nums) (s .nums-size) (lookedUpIn h t e) state e bound j (small j b)
 
-    number-at : instanceAt (after .nums) j ≡ cond (isOwn j) (w .number) (instanceAt (t .nums) j)
-    number-at = instance-taken (t .nums) (s .nums-size) (sightIn h t e) state w (length source) (length target) bound j (small j b)
+    number-at : instanceAt (after .nums) j ≡ cond (isOwn j) (e .targetInstance) (instanceAt (t .nums) j)
+    number-at = instance-taken (t .nums) (s .nums-size) (lookedUpIn h t e) state e bound j (small j b)
 
     state-at : stateAt (after .nums) j ≡ cond (isOwn j) state (stateAt (t .nums) j)
-    state-at = state-taken (t .nums) (s .nums-size) (sightIn h t e) state w (length source) (length target) bound j (small j b)
+    state-at = state-taken (t .nums) (s .nums-size) (lookedUpIn h t e) state e bound j (small j b)
 
-  own-shown : hasInstances (w .kind) ≡ true → InstanceShown (e ∷ h) (after .nums) row (instanceOf e)
+  own-shown : hasInstances (e .kind) ≡ true → InstanceShown (e ∷ h) (after .nums) row (instanceOf e)
   own-shown i =
       let b = own-below i in
-      let o : isOwn row ≡ true = and-true (hasInstances (w .kind)) (eqb row row) i (eq-eqb row row refl) in
+      let o : isOwn row ≡ true = and-true (hasInstances (e .kind)) (eqb row row) i (eq-eqb row row refl) in
       record {
         below = b;
-        owner = owner-at row b ∙ rw o (target-row h t s e (f .kinds) (instances-tracked (w .kind) i));
+        owner = owner-at row b ∙ rw o (target-row h t s e (f .kinds) (instances-tracked (e .kind) i));
         number = number-at row b ∙ rw o (sym (own-number e i));
         state = ap opened (state-at row b) ∙ rw o l;
       }
@@ -133,12 +126,12 @@ module _ (h : List Event) (a : Accepted h) (met : AllMet h) (t : Tables) (s : Sh
       apart : sameInstance x (instanceOf e) ≡ false
       apart = is-false _ (λ u. by-same (instance-true x (instanceOf e) u))
         where
-          by-row : hasInstances (w .kind) ≡ true → x ≡ instanceOf e → OwnRow row → ⊥
+          by-row : hasInstances (e .kind) ≡ true → x ≡ instanceOf e → OwnRow row → ⊥
           by-row i z (there c r) =
               let k = s .instance-rows .kept j row (p .below) (r .below)
               (p .owner ∙ ap (λ (y : Instance). rowOf h (y .name)) z ∙ sym (r .owner))
               (p .number ∙ ap (λ (y : Instance). y .number) z ∙ sym (r .number)) in
-              clash _ (and-true (hasInstances (w .kind)) (eqb j row) i (eq-eqb j row k)) o
+              clash _ (and-true (hasInstances (e .kind)) (eqb j row) i (eq-eqb j row k)) o
           by-row i z (next c r) = clash _ (subst (λ (y : Instance). any (sameInstance y) (instances h) ≡ true) z q) c
 
           by-same : x ≡ instanceOf e → ⊥
@@ -159,7 +152,7 @@ module _ (h : List Event) (a : Accepted h) (met : AllMet h) (t : Tables) (s : Sh
   -- a row that shows another instance is not the line's own
   module _ (x : Instance) (p : any (sameInstance x) (instances h) ≡ true) (d : sameInstance x (instanceOf e) ≡ false)
       (j : ℕ) (r : InstanceShown h (t .nums) j x) where
-    not-row : hasInstances (w .kind) ≡ true → j ≡ row → OwnRow row → ⊥
+    not-row : hasInstances (e .kind) ≡ true → j ≡ row → OwnRow row → ⊥
     not-row i z (there c y) =
         let k = one-instance h x (instanceOf e) (instance-kind h a x p .1) (instance-kind h a (instanceOf e) c .1)
         (sym (r .owner) ∙ ap (ownerAt (t .nums)) z ∙ y .owner)
@@ -168,12 +161,12 @@ module _ (h : List Event) (a : Accepted h) (met : AllMet h) (t : Tables) (s : Sh
     not-row i z (next c y) = omega (arith, r .below)
 
     not-own : isOwn j ≡ false
-    not-own = is-false _ (λ u. let c = both (hasInstances (w .kind)) (eqb j row) u in not-row (c .0) (eqb-true j row (c .1)) (own-row (c .0)))
+    not-own = is-false _ (λ u. let c = both (hasInstances (e .kind)) (eqb j row) u in not-row (c .0) (eqb-true j row (c .1)) (own-row (c .0)))
 
   each-next : (x : Instance) → any (sameInstance x) (instances (e ∷ h)) ≡ true → (j : ℕ) × InstanceShown (e ∷ h) (after .nums) j x
   each-next x q = by-origin (instance-from h e x q)
     where
-      own : hasInstances (w .kind) ≡ true → x ≡ instanceOf e → (j : ℕ) × InstanceShown (e ∷ h) (after .nums) j x
+      own : hasInstances (e .kind) ≡ true → x ≡ instanceOf e → (j : ℕ) × InstanceShown (e ∷ h) (after .nums) j x
       own i z = (row, subst (InstanceShown (e ∷ h) (after .nums) row) (sym z) (own-shown i))
 
       by-same : (p : any (sameInstance x) (instances h) ≡ true) (b : Bool) → sameInstance x (instanceOf e) ≡ b → (j : ℕ) × InstanceShown (e ∷ h) (after .nums) j x
@@ -186,21 +179,21 @@ module _ (h : List Event) (a : Accepted h) (met : AllMet h) (t : Tables) (s : Sh
           (r .0, other-shown (r .0) c (not-own x p u (r .0) (r .1)) x p (r .1))
 
       by-origin : InstanceFrom h e x → (j : ℕ) × InstanceShown (e ∷ h) (after .nums) j x
-      by-origin (as-new u z) = own (both (hasInstances (w .kind)) _ u .0) z
+      by-origin (as-new u z) = own (both (hasInstances (e .kind)) _ u .0) z
       by-origin (before p) = by-same p (sameInstance x (instanceOf e)) refl
 
   -- ---- each row is an instance's, and no two are alike
 
   -- a row is the line's own, or it was there and keeps its instance
   data RowNext (j : ℕ) : Type 0 where
-    own : hasInstances (w .kind) ≡ true → j ≡ row → RowNext j
+    own : hasInstances (e .kind) ≡ true → j ≡ row → RowNext j
     other : isOwn j ≡ false → (x : Instance) → any (sameInstance x) (instances h) ≡ true → InstanceShown h (t .nums) j x → RowNext j
 
   row-next : (j : ℕ) → j < instanceCount (after .nums) → RowNext j
   row-next j b = by-test (isOwn j) refl
     where
       by-test : (o : Bool) → isOwn j ≡ o → RowNext j
-      by-test true o = let c = both (hasInstances (w .kind)) (eqb j row) o in own (c .0) (eqb-true j row (c .1))
+      by-test true o = let c = both (hasInstances (e .kind)) (eqb j row) o in own (c .0) (eqb-true j row (c .1))
       by-test false o = let r = s .instance-rows .owned j (old-below j b o) in other o (r .0) (r .1) (r .2)
 
   owned-next : (j : ℕ) → j < instanceCount (after .nums) →
@@ -212,7 +205,7 @@ module _ (h : List Event) (a : Accepted h) (met : AllMet h) (t : Tables) (s : Sh
       by-row (other o x q p) = (x, instance-stays h e x q, other-shown j b o x q p)
 
   -- no other row has the name and number of the line's instance
-  own-alone : hasInstances (w .kind) ≡ true → (j : ℕ) → j < instanceCount (after .nums) → isOwn j ≡ false →
+  own-alone : hasInstances (e .kind) ≡ true → (j : ℕ) → j < instanceCount (after .nums) → isOwn j ≡ false →
       (x : Instance) → any (sameInstance x) (instances h) ≡ true → InstanceShown h (t .nums) j x →
       ownerAt (after .nums) j ≡ ownerAt (after .nums) row → instanceAt (after .nums) j ≡ instanceAt (after .nums) row → ⊥
   own-alone i j b o x q p c d =
@@ -220,7 +213,7 @@ module _ (h : List Event) (a : Accepted h) (met : AllMet h) (t : Tables) (s : Sh
       let y = other-shown j b o x q p in
       let z = one-instance (e ∷ h) x (instanceOf e)
       (kind-stays h e (f .kinds) (x .name) (x .kind) (instance-kind h a x q .1))
-      (target-kind h e (instances-tracked (w .kind) i))
+      (target-kind h e (instances-tracked (e .kind) i))
       (sym (y .owner) ∙ c ∙ r .owner) (sym (y .number) ∙ d ∙ r .number) in
       clash _ (subst (λ (y : Instance). sameInstance x y ≡ true) z (instance-refl x)) (apart j b o x q p)
 

@@ -14,8 +14,8 @@ use Rattle.rules.specs.Trace.{takenLines, refusalOn, verdictOn, Sound}
 use Rattle.rules.proofs.Traces.{nothing-kept, number-sound, Names, verdict-names-first, taken-sound}
 use Rattle.tables.specs.Sized.{isSized}
 use Rattle.tables.specs.Range.{tableAnswer}
-use Rattle.judge.specs.Feed.{Tables, After, lined, fedLine, allLined, fedChunk, verdictIn, verdictOf, freshTables, judgedTrace}
-use Rattle.judge.proofs.Feeds.{allLined-append}
+use Rattle.judge.specs.Feed.{Tables, After, judgedLine, fedLine, judgedLines, fedChunk, verdictIn, verdictOf, freshTables, judgedTrace}
+use Rattle.judge.proofs.Feeds.{judgedLines-append}
 use Rattle.promises.specs.Fed.{allFed, chunksFed, joined, AtLineEnds}
 use Rattle.promises.proofs.Traces.{Followed, followed}
 use Rattle.promises.proofs.Limits.{refusal-small, shows-valid}
@@ -24,7 +24,7 @@ use Rattle.promises.proofs.Verdicts.{Tells, now-tells}
 
 -- the tables after lines from a fresh start
 abbrev pub after-lines : List (List ℕ) → Tables
-after-lines ls = allLined freshTables ls
+after-lines ls = judgedLines freshTables ls
 
 -- ---- 2: what the tables show
 
@@ -65,25 +65,25 @@ module _ (t : Tables) (fits : isSized (length (t .names)) (length (t .nums)) (le
 -- ---- 5: however the lines come
 
 -- line by line, the tables tested at each
-fed-lined : (t : Tables) (l : List ℕ) → tableAnswer (t .names) (t .nums) (t .ticks) ≡ 0 → fedLine t l ≡ lined t l
+fed-judged : (t : Tables) (l : List ℕ) → tableAnswer (t .names) (t .nums) (t .ticks) ≡ 0 → fedLine t l ≡ judgedLine t l
 unfolding fedLine
-fed-lined t l q = rw q
+fed-judged t l q = rw q
 
 from-fed : (ls ks : List (List ℕ)) → allFed (after-lines ks) ls ≡ after-lines (ks ++ ls)
-unfolding allFed allLined
+unfolding allFed judgedLines
 from-fed [] ks = ap after-lines (sym (append-nil ks))
 from-fed (l ∷ ls) ks =
-    ap (λ (x : After). allFed (x .left) ls) (fed-lined (after-lines ks) l (never-16 ks))
-    ∙ ap (λ (u : Tables). allFed u ls) (sym (allLined-append freshTables ks (l ∷ [])))
+    ap (λ (x : After). allFed (x .left) ls) (fed-judged (after-lines ks) l (never-16 ks))
+    ∙ ap (λ (u : Tables). allFed u ls) (sym (judgedLines-append freshTables ks (l ∷ [])))
     ∙ from-fed ls (ks ++ (l ∷ []))
     ∙ ap after-lines (append-assoc ks (l ∷ []) ls)
 
 pub line-by-line : (ls : List (List ℕ)) → allFed freshTables ls ≡ after-lines ls
-unfolding allLined
+unfolding judgedLines
 line-by-line ls = from-fed ls []
 
 -- chunk by chunk
-fed-chunk : (t : Tables) (c : List ℕ) → tableAnswer (t .names) (t .nums) (t .ticks) ≡ 0 → fedChunk t c .left ≡ allLined t (wholeLines c)
+fed-chunk : (t : Tables) (c : List ℕ) → tableAnswer (t .names) (t .nums) (t .ticks) ≡ 0 → fedChunk t c .left ≡ judgedLines t (wholeLines c)
 unfolding fedChunk
 fed-chunk t c q = rw q
 
@@ -95,12 +95,12 @@ from-chunks : (cs ks : List (List ℕ)) → AtLineEnds cs → chunksFed (after-l
 unfolding chunksFed
 from-chunks [] ks a = ap after-lines (sym (append-nil ks) ∙ ap (λ (ls : List (List ℕ)). ks ++ ls) (sym nothing-whole))
 from-chunks (c ∷ cs) ks a =
-    ap (λ (u : Tables). chunksFed u cs) (fed-chunk (after-lines ks) c (never-16 ks) ∙ sym (allLined-append freshTables ks (wholeLines c)))
+    ap (λ (u : Tables). chunksFed u cs) (fed-chunk (after-lines ks) c (never-16 ks) ∙ sym (judgedLines-append freshTables ks (wholeLines c)))
     ∙ from-chunks cs (ks ++ wholeLines c) (a .1)
     ∙ ap after-lines (append-assoc ks (wholeLines c) (wholeLines (joined cs)) ∙ ap (λ (ls : List (List ℕ)). ks ++ ls) (sym (whole-anew c (joined cs) (a .0))))
 
 pub chunk-by-chunk : (cs : List (List ℕ)) → AtLineEnds cs → chunksFed freshTables cs ≡ after-lines (wholeLines (joined cs))
-unfolding allLined
+unfolding judgedLines
 chunk-by-chunk cs a = from-chunks cs [] a
 
 -- and the whole trace at once: the same tables, and the verdict that is then asked for

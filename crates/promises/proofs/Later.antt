@@ -25,16 +25,16 @@ use Rattle.rules.proofs.Steps.{step-state}
 use Rattle.tables.specs.declared.find.Found.{Found}
 use Rattle.tables.specs.declared.find.Found.the-variants.{Nothing}
 use Rattle.tables.specs.Entry.{stateColumn}
-use Rattle.decide.specs.Known.{markIn, numberIn, entryOf, stateIn, numberKnown, coreIn, knownBy}
+use Rattle.decide.specs.Known.{standingIn, numberIn, entryOf, stateIn, numberKnown, coreIn, knownBy}
 use Rattle.decide.specs.Decide.{enters}
 use Rattle.judge.specs.Feed.{Tables}
 use Rattle.rules.proofs.Tracked.{process-tracked, target-is, source-is}
 use Rattle.promises.specs.Places.{seek}
 use Rattle.promises.specs.Shown.{Shown, theSemaphore, numberOf}
-use Rattle.promises.specs.Taken.{sightIn}
+use Rattle.promises.specs.Taken.{lookedUpIn}
 use Rattle.promises.proofs.Grown.{AllMet, instances-range, instances-tracked}
 use Rattle.promises.proofs.Untold.{semaphore-tracked, activates-instances}
-use Rattle.promises.proofs.Lookups.{sight-instance}
+use Rattle.promises.proofs.Lookups.{looked-up-instance}
 use Rattle.promises.proofs.Told.{all-worded, Only, core-told, holder-told, semaphore-told, number-told, state-told}
 use Rattle.promises.proofs.Holders.{serves-shown}
 
@@ -56,22 +56,22 @@ stateless (w ∷ ws) = stateless ws
 -- ---- the rows that an event asks for
 
 module _ (h : List Event) (t : Tables) (e : Event) where
-  pub source-asked : onCore e ≡ true → sightIn h t e .source ≡ seek (sameBytes (e .source)) (names h)
-  unfolding sightIn
+  pub source-asked : onCore e ≡ true → lookedUpIn h t e .source ≡ seek (sameBytes (e .source)) (names h)
+  unfolding lookedUpIn
   source-asked o = rw (class-on e ∙ o)
 
-  pub target-asked : isTracked (e .kind) ≡ true → sightIn h t e .target ≡ seek (sameBytes (e .target)) (names h)
-  unfolding sightIn
+  pub target-asked : isTracked (e .kind) ≡ true → lookedUpIn h t e .target ≡ seek (sameBytes (e .target)) (names h)
+  unfolding lookedUpIn
   target-asked q = rw q
 
-  instance-unasked : hasInstances (e .kind) ≡ false → sightIn h t e .instance ≡ Nothing
-  unfolding sightIn
+  instance-unasked : hasInstances (e .kind) ≡ false → lookedUpIn h t e .instance ≡ Nothing
+  unfolding lookedUpIn
   instance-unasked q = rw q
 
 module _ (h : List Event) (a : Accepted h) (met : AllMet h) (t : Tables) (s : Shown h t) (e : Event) (f : secondKind (look h e) e ≡ false) where
   -- ---- 11
 
-  state-shown : opened (stateIn (t .nums) (sightIn h t e) (e .kind)) ≡ stateOf (instanceOf e) h
+  state-shown : opened (stateIn (t .nums) (lookedUpIn h t e) (e .kind)) ≡ stateOf (instanceOf e) h
   unfolding stateIn entryOf
   state-shown = by-kind (eqb (e .kind) semaphore) refl (hasInstances (e .kind)) refl
     where
@@ -79,48 +79,48 @@ module _ (h : List Event) (a : Accepted h) (met : AllMet h) (t : Tables) (s : Sh
       the-semaphore q = rw (q, eqb-true (e .kind) semaphore q)
 
       by-kind : (b : Bool) → eqb (e .kind) semaphore ≡ b → (i : Bool) → hasInstances (e .kind) ≡ i →
-          opened (cond b (markIn (t .nums) (sightIn h t e .target)) (entryOf stateColumn (t .nums) (sightIn h t e .instance))) ≡ stateOf (instanceOf e) h
+          opened (cond b (standingIn (t .nums) (lookedUpIn h t e .target)) (entryOf stateColumn (t .nums) (lookedUpIn h t e .instance))) ≡ stateOf (instanceOf e) h
       by-kind true q i r =
           let k = semaphore-tracked (e .kind) q in
-          ap (λ (x : Found). opened (markIn (t .nums) x)) (target-asked h t e k)
+          ap (λ (x : Found). opened (standingIn (t .nums) x)) (target-asked h t e k)
           ∙ semaphore-told h a t s (e .target) (subst (Only (kindOf (e .target) h)) (eqb-true (e .kind) semaphore q) (target-is h e f k))
           ∙ ap (λ (x : Instance). stateOf x h) (the-semaphore q)
-      by-kind false q true r = state-told h a t s (all-worded h met) (instanceOf e) r (sightIn h t e .instance) (sight-instance h a met t s e f r)
+      by-kind false q true r = state-told h a t s (all-worded h met) (instanceOf e) r (lookedUpIn h t e .instance) (looked-up-instance h a met t s e f r)
       by-kind false q false r = rw (instance-unasked h t e r, chartless (e .kind) q r) (sym (stateless (wordsOf (instanceOf e) h)))
 
-  pub chart-agrees : offChart (knownBy (t .nums) (t .ticks) (sightIn h t e) e) e ≡ offChart (look h e) e
+  pub chart-agrees : offChart (knownBy (t .nums) (t .ticks) (lookedUpIn h t e) e) e ≡ offChart (look h e) e
   unfolding offChart knownBy
   chart-agrees = rw state-shown
 
-  pub enters-shown : offChart (look h e) e ≡ false → opened (enters (t .nums) (sightIn h t e) e) ≡ stateOf (instanceOf e) (e ∷ h)
+  pub enters-shown : offChart (look h e) e ≡ false → opened (enters (t .nums) (lookedUpIn h t e) e) ≡ stateOf (instanceOf e) (e ∷ h)
   unfolding enters offChart moveBy
   enters-shown c =
-      step-state h e (stateIn (t .nums) (sightIn h t e) (e .kind)) (leadsTo (stepFor (chartOf (e .kind)) (e .word)) (stateIn (t .nums) (sightIn h t e) (e .kind))) state-shown
+      step-state h e (stateIn (t .nums) (lookedUpIn h t e) (e .kind)) (leadsTo (stepFor (chartOf (e .kind)) (e .word)) (stateIn (t .nums) (lookedUpIn h t e) (e .kind))) state-shown
       (rw (state-shown, not-false (allowed (chartOf (e .kind)) (e .word) (stateOf (instanceOf e) h)) c))
 
   -- ---- 12 and 14
 
-  number-shown : isTracked (e .kind) ≡ true → numberKnown (t .nums) (sightIn h t e .target) ≡ numberOf h (e .target) (e .kind)
+  number-shown : isTracked (e .kind) ≡ true → numberKnown (t .nums) (lookedUpIn h t e .target) ≡ numberOf h (e .target) (e .kind)
   number-shown k = ap (numberKnown (t .nums)) (target-asked h t e k) ∙ number-told h a t s (e .target) (e .kind) (target-is h e f k)
 
-  pub number-agrees : notNext (knownBy (t .nums) (t .ticks) (sightIn h t e) e) e ≡ notNext (look h e) e
+  pub number-agrees : notNext (knownBy (t .nums) (t .ticks) (lookedUpIn h t e) e) e ≡ notNext (look h e) e
   unfolding notNext knownBy
   number-agrees = by-test (activates (e .kind) (e .word)) refl
     where
       by-test : (b : Bool) → activates (e .kind) (e .word) ≡ b →
-          b && not (isNext (numberKnown (t .nums) (sightIn h t e .target)) (e .targetInstance)) ≡ b && not (isNext (lastNumber (e .kind) (e .target) h) (e .targetInstance))
+          b && not (isNext (numberKnown (t .nums) (lookedUpIn h t e .target)) (e .targetInstance)) ≡ b && not (isNext (lastNumber (e .kind) (e .target) h) (e .targetInstance))
       by-test true q =
           let k = activates-instances (e .kind) (e .word) q in
           let r = number-shown (instances-tracked (e .kind) k) in
           ap (λ (o : Option ℕ). not (isNext o (e .targetInstance))) (rw (no-semaphore (e .kind) k) at r)
       by-test false q = refl
 
-  pub count-agrees : countBroken (knownBy (t .nums) (t .ticks) (sightIn h t e) e) e ≡ countBroken (look h e) e
+  pub count-agrees : countBroken (knownBy (t .nums) (t .ticks) (lookedUpIn h t e) e) e ≡ countBroken (look h e) e
   unfolding countBroken knownBy
   count-agrees = by-test (eqb (e .kind) semaphore) refl
     where
       by-test : (b : Bool) → eqb (e .kind) semaphore ≡ b →
-          b && not (countFollows (numberKnown (t .nums) (sightIn h t e .target)) (e .word) (e .count) && countAllowed (e .word) (e .count))
+          b && not (countFollows (numberKnown (t .nums) (lookedUpIn h t e .target)) (e .word) (e .count) && countAllowed (e .word) (e .count))
           ≡ b && not (countFollows (lastCount (e .target) h) (e .word) (e .count) && countAllowed (e .word) (e .count))
       by-test true q =
           let r = number-shown (semaphore-tracked (e .kind) q) in
@@ -129,7 +129,7 @@ module _ (h : List Event) (a : Accepted h) (met : AllMet h) (t : Tables) (s : Sh
 
   -- ---- 13
 
-  pub core-agrees : coreBroken (knownBy (t .nums) (t .ticks) (sightIn h t e) e) e ≡ coreBroken (look h e) e
+  pub core-agrees : coreBroken (knownBy (t .nums) (t .ticks) (lookedUpIn h t e) e) e ≡ coreBroken (look h e) e
   unfolding coreBroken knownBy
   core-agrees = by-test (onCore e) refl
     where
@@ -137,8 +137,8 @@ module _ (h : List Event) (a : Accepted h) (met : AllMet h) (t : Tables) (s : Sh
       x = instanceOf e
 
       by-test : (b : Bool) → onCore e ≡ b →
-          b && not (serves (coreIn (markIn (t .nums) (sightIn h t e .source)) (numberIn (t .nums) (sightIn h t e .source)) (sightIn h t e .target) x) (takes (e .word))
-          (unseen (opened (stateIn (t .nums) (sightIn h t e) (e .kind)))) x)
+          b && not (serves (coreIn (standingIn (t .nums) (lookedUpIn h t e .source)) (numberIn (t .nums) (lookedUpIn h t e .source)) (lookedUpIn h t e .target) x) (takes (e .word))
+          (unseen (opened (stateIn (t .nums) (lookedUpIn h t e) (e .kind)))) x)
           ≡ b && not (serves (coreAt (e .source) h) (takes (e .word)) (unseen (stateOf x h)) x)
       by-test true o =
           let k = process-tracked (e .kind) (on-process e o) in

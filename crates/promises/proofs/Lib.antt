@@ -25,7 +25,7 @@ pub mod CoreSums
 pub mod ChargeSums
 pub mod Sums
 pub mod Sizes
-pub mod Heads
+pub mod Singles
 pub mod Lines
 pub mod Events
 pub mod Traces

@@ -28,10 +28,10 @@ use Rattle.rules.proofs.Told.{Told, testsOf, toldBy, told-right}
 use Rattle.rules.proofs.Places.{place-none, by-reading-right, nextPlace, place-next}
 use Rattle.tables.specs.Entry.{numsSize, verdictNumber, verdictLine, lineCount, creatorEntry, dateEntry}
 use Rattle.tables.proofs.Stores.{same, other}
-use Rattle.judge.specs.Feed.{Tables, tables, After, after, placeIn, remembered, counted, eventLined, readLined, placedLine, lined}
+use Rattle.judge.specs.Feed.{Tables, tables, After, after, placeIn, remembered, counted, judgedEvent, judgedReading, judgedInPlace, judgedLine}
 use Rattle.judge.proofs.Feeds.{length-counted, length-entry}
 use Rattle.promises.specs.Shown.{Shown, Shows}
-use Rattle.promises.proofs.Heads.{AgreeFrom, shown-later}
+use Rattle.promises.proofs.Singles.{AgreeFrom, shown-later}
 
 -- ---- a line in its place
 
@@ -240,7 +240,7 @@ module _ (h : List (List ℕ)) (t : Tables) (s : Shows h t) (l : List ℕ) (q : 
             let f = o .level-kept n in
             record {
               place =
-                  rw (o .line-counted n, one-line-more h t s l q, f 3 (omega arith) (λ w. omega arith), f 4 (omega arith) (λ w. omega arith), f 5 (omega arith) (λ w. omega arith), o .shown n .head .started)
+                  rw (o .line-counted n, one-line-more h t s l q, f 3 (omega arith) (λ w. omega arith), f 4 (omega arith) (λ w. omega arith), f 5 (omega arith) (λ w. omega arith), o .shown n .singles .started)
                   (ap (λ (p : Place). nextPlace p (EventLine e count)) (s .place) ∙ sym (place-next h l q ∙ ap (nextPlace (placeOf h)) r));
               creator = rw (f 4 (omega arith) (λ w. omega arith)) (s .creator);
               date = rw (f 5 (omega arith) (λ w. omega arith)) (s .date);
@@ -251,22 +251,22 @@ module _ (h : List (List ℕ)) (t : Tables) (s : Shows h t) (l : List ℕ) (q : 
       }
 
   -- by its reading
-  read-outcome : ((e : ReadEvent) (count : ℕ) → readLine l ≡ EventLine e count → EventOutcome (eventsOf h) t (eventFrom e (fieldOf l 2) (fieldOf l 5) count) (eventLined t l e count)) →
-      (r : Reading) → readLine l ≡ r → LineOutcome h t l (readLined r t l)
+  read-outcome : ((e : ReadEvent) (count : ℕ) → readLine l ≡ EventLine e count → EventOutcome (eventsOf h) t (eventFrom e (fieldOf l 2) (fieldOf l 5) count) (judgedEvent t l e count)) →
+      (r : Reading) → readLine l ≡ r → LineOutcome h t l (judgedReading r t l)
   read-outcome o Version e = counted-outcome Version e refl refl
   read-outcome o Comment e = counted-outcome Comment e refl refl
   read-outcome o (TimeScale c) e = scale-outcome c e
   read-outcome o Creator e = creator-outcome e
   read-outcome o CreationDate e = date-outcome e
-  read-outcome o (EventLine d count) e = event-outcome d count e (eventLined t l d count) (o d count e)
+  read-outcome o (EventLine d count) e = event-outcome d count e (judgedEvent t l d count) (o d count e)
   read-outcome o (Refused n) e = absurd (not-refused (placeOf h) l q n e)
 
 -- ---- any line
 
 module _ (h : List (List ℕ)) (t : Tables) (s : Shows h t) (l : List ℕ)
-    (o : (e : ReadEvent) (count : ℕ) → readLine l ≡ EventLine e count → EventOutcome (eventsOf h) t (eventFrom e (fieldOf l 2) (fieldOf l 5) count) (eventLined t l e count)) where
-  placed-outcome : (n : ℕ) → answerInPlace (placeOf h) l ≡ n → LineOutcome h t l (placedLine n t l)
-  unfolding placedLine answerAt
+    (o : (e : ReadEvent) (count : ℕ) → readLine l ≡ EventLine e count → EventOutcome (eventsOf h) t (eventFrom e (fieldOf l 2) (fieldOf l 5) count) (judgedEvent t l e count)) where
+  placed-outcome : (n : ℕ) → answerInPlace (placeOf h) l ≡ n → LineOutcome h t l (judgedInPlace n t l)
+  unfolding judgedInPlace answerAt
   placed-outcome zero q = read-outcome h t s l q o (readLine l) refl
   placed-outcome (suc n) q =
       let a : answerAt h l ≡ suc n = rw q in
@@ -277,8 +277,8 @@ module _ (h : List (List ℕ)) (t : Tables) (s : Shows h t) (l : List ℕ)
         remembers = λ k. rw a;
       }
 
-  pub line-outcome : verdictNumber (t .nums) ≡ 0 → LineOutcome h t l (lined t l)
-  unfolding lined
+  pub line-outcome : verdictNumber (t .nums) ≡ 0 → LineOutcome h t l (judgedLine t l)
+  unfolding judgedLine
   line-outcome v =
       let p : answerByReading (placeIn (t .nums)) (readLine l) ≡ answerInPlace (placeOf h) l = ap (λ (x : Place). answerByReading x (readLine l)) (s .place) ∙ by-reading-right (placeOf h) l in
       rw (eq-eqb (verdictNumber (t .nums)) 0 v, p) (placed-outcome (answerInPlace (placeOf h) l) refl)

@@ -26,14 +26,14 @@ use Rattle.tables.specs.declared.find.Found.the-variants.{At, Nothing}
 use Rattle.tables.specs.Entry.{instanceRows, nameRows, nameCount, instanceCount, nameAt}
 use Rattle.tables.specs.Find.{firstFrom, lastBelow, rowIs, findName, instanceIs, findInstance}
 use Rattle.tables.proofs.Found.{first-at, first-none, last-at, last-none, name-found, instance-found, row-name, name-row, instance-means}
-use Rattle.decide.specs.Sight.{lookIf, instanceIn, sightOf}
-use Rattle.decide.specs.Known.{oneNew, newCore, newName, newInstance as newRow}
+use Rattle.decide.specs.LookedUp.{lookIf, instanceIn, lookedUp}
+use Rattle.decide.specs.Known.{rowsAdded, newCore, newName, newInstance as newRow}
 use Rattle.decide.proofs.Plans.{own-number}
 use Rattle.store.specs.Store.{rowOr, coreRow, targetRow}
 use Rattle.judge.specs.Feed.{Tables}
 use Rattle.promises.specs.Places.{place, seek, rowOf}
 use Rattle.promises.specs.Shown.{InstanceShown, Shown}
-use Rattle.promises.specs.Taken.{sightIn, InstanceFound}
+use Rattle.promises.specs.Taken.{lookedUpIn, InstanceFound}
 use Rattle.promises.proofs.Places.{place-bound}
 use Rattle.promises.proofs.Grown.{newSource, newTarget, newInstance, instances-tracked, name-kind, row-stays, source-row-new, target-row-new, name-at, instance-kind, one-instance, AllMet, name-size}
 
@@ -71,7 +71,7 @@ module _ (h : List Event) (a : Accepted h) (m : AllMet h) (t : Tables) (s : Show
   pub found-name : (n : List ℕ) → findName (t .names) (t .nums) n ≡ seek (sameBytes n) (names h)
   found-name n =
       name-found (t .names) (t .nums) n (s .names-size) (s .nums-size)
-      ∙ ap (firstFrom (rowIs (t .names) (t .nums) n) 0) (s .head .names-counted)
+      ∙ ap (firstFrom (rowIs (t .names) (t .nums) n) 0) (s .singles .names-counted)
       ∙ first-sought (rowIs (t .names) (t .nums) n) (sameBytes n) (names h) told there
     where
       told : (i : ℕ) → i < length (names h) → rowIs (t .names) (t .nums) n i ≡ true → (any (sameBytes n) (names h) ≡ true) × (rowOf h n ≡ i)
@@ -103,19 +103,19 @@ module _ (h : List Event) (a : Accepted h) (m : AllMet h) (t : Tables) (s : Show
       by-found Nothing p =
           is-false _ (λ b.
           let r = s .instance-rows .each x b in
-          let small : r .0 < instanceRows = omega (arith, r .1 .below, s .head .instances-counted, all-fit h a .instances-fit) in
+          let small : r .0 < instanceRows = omega (arith, r .1 .below, s .singles .instances-counted, all-fit h a .instances-fit) in
           clash _ (instance-means (t .nums) (rowOf h (x .name)) (x .number) (r .0) .shows (small, (r .1 .number, r .1 .owner)))
           (last-none is (instanceCount (t .nums)) p (r .0) (r .1 .below)))
 
   -- ---- what an event line finds
 
-  pub sight-source : (e : Event) → (sightOf (t .names) (t .nums) e) .source ≡ (sightIn h t e) .source
-  unfolding sightOf sightIn
-  sight-source e = ap (lookIf (not (eqb (coreClass (e .kind) (e .word)) 0))) (found-name (e .source))
+  pub looked-up-source : (e : Event) → (lookedUp (t .names) (t .nums) e) .source ≡ (lookedUpIn h t e) .source
+  unfolding lookedUp lookedUpIn
+  looked-up-source e = ap (lookIf (not (eqb (coreClass (e .kind) (e .word)) 0))) (found-name (e .source))
 
-  pub sight-target : (e : Event) → (sightOf (t .names) (t .nums) e) .target ≡ (sightIn h t e) .target
-  unfolding sightOf sightIn
-  sight-target e = ap (lookIf (isTracked (e .kind))) (found-name (e .target))
+  pub looked-up-target : (e : Event) → (lookedUp (t .names) (t .nums) e) .target ≡ (lookedUpIn h t e) .target
+  unfolding lookedUp lookedUpIn
+  looked-up-target e = ap (lookIf (isTracked (e .kind))) (found-name (e .target))
 
   -- a name that the list lacks has no instance
   no-instance : (x : Instance) → any (sameBytes (x .name)) (names h) ≡ false → any (sameInstance x) (instances h) ≡ false
@@ -126,9 +126,9 @@ module _ (h : List Event) (a : Accepted h) (m : AllMet h) (t : Tables) (s : Show
       by-test false b = refl
 
   -- the instance is looked up by the row of its name, and its name has one kind
-  pub sight-instance : (e : Event) → secondKind (look h e) e ≡ false → hasInstances (e .kind) ≡ true → InstanceFound h (t .nums) (instanceOf e) ((sightIn h t e) .instance)
-  unfolding seek sightIn
-  sight-instance e k i = rw (i, instances-tracked (e .kind) i) (by-test (any (sameBytes (e .target)) (names h)) refl)
+  pub looked-up-instance : (e : Event) → secondKind (look h e) e ≡ false → hasInstances (e .kind) ≡ true → InstanceFound h (t .nums) (instanceOf e) ((lookedUpIn h t e) .instance)
+  unfolding seek lookedUpIn
+  looked-up-instance e k i = rw (i, instances-tracked (e .kind) i) (by-test (any (sameBytes (e .target)) (names h)) refl)
     where
       by-test : (b : Bool) → any (sameBytes (e .target)) (names h) ≡ b →
           InstanceFound h (t .nums) (instanceOf e) (instanceIn (t .nums) true (cond b (At (rowOf h (e .target))) Nothing) (e .targetInstance))
@@ -139,26 +139,26 @@ module _ (h : List Event) (a : Accepted h) (m : AllMet h) (t : Tables) (s : Show
           (subst (λ (n : ℕ). InstanceFound h (t .nums) (instanceOf e) (findInstance (t .nums) (rowOf h (e .target)) n)) (own-number e i) (found-instance (instanceOf e) o))
       by-test false q = no-instance (instanceOf e) q
 
-  pub sight-shown : (e : Event) → sightOf (t .names) (t .nums) e ≡ sightIn h t e
-  unfolding sightOf sightIn
-  sight-shown e = λ i. record {
+  pub looked-up-shown : (e : Event) → lookedUp (t .names) (t .nums) e ≡ lookedUpIn h t e
+  unfolding lookedUp lookedUpIn
+  looked-up-shown e = λ i. record {
     class = coreClass (e .kind) (e .word);
-    source = sight-source e i;
-    target = sight-target e i;
-    instance = ap (λ (f : Found). instanceIn (t .nums) (hasInstances (e .kind)) f (e .targetInstance)) (sight-target e) i;
+    source = looked-up-source e i;
+    target = looked-up-target e i;
+    instance = ap (λ (f : Found). instanceIn (t .nums) (hasInstances (e .kind)) f (e .targetInstance)) (looked-up-target e) i;
   }
 
   -- a row more is needed exactly for an instance that is new
-  pub new-instance : (e : Event) → secondKind (look h e) e ≡ false → newRow (sightIn h t e) (e .kind) ≡ oneIf (newInstance h e)
+  pub new-instance : (e : Event) → secondKind (look h e) e ≡ false → newRow (lookedUpIn h t e) (e .kind) ≡ oneIf (newInstance h e)
   new-instance e k = by-test (hasInstances (e .kind)) refl
     where
-      by-found : (r : Found) → InstanceFound h (t .nums) (instanceOf e) r → oneNew true r ≡ oneIf (not (any (sameInstance (instanceOf e)) (instances h)))
+      by-found : (r : Found) → InstanceFound h (t .nums) (instanceOf e) r → rowsAdded true r ≡ oneIf (not (any (sameInstance (instanceOf e)) (instances h)))
       by-found (At j) p = rw (p .0)
       by-found Nothing p = rw p
 
       by-test : (b : Bool) → hasInstances (e .kind) ≡ b →
-          oneNew b ((sightIn h t e) .instance) ≡ oneIf (b && not (any (sameInstance (instanceOf e)) (instances h)))
-      by-test true i = by-found ((sightIn h t e) .instance) (sight-instance e k i)
+          rowsAdded b ((lookedUpIn h t e) .instance) ≡ oneIf (b && not (any (sameInstance (instanceOf e)) (instances h)))
+      by-test true i = by-found ((lookedUpIn h t e) .instance) (looked-up-instance e k i)
       by-test false i = refl
 
 -- ---- the rows of a line that is taken
@@ -173,37 +173,37 @@ module _ {A : Type 0} (g : A → Bool) (xs : List A) where
       by-test true f o = sym (f refl)
       by-test false f o = sym (o refl)
 
-  sought-new : (b : Bool) → oneNew b (lookIf b (seek g xs)) ≡ oneIf (b && not (any g xs))
+  sought-new : (b : Bool) → rowsAdded b (lookIf b (seek g xs)) ≡ oneIf (b && not (any g xs))
   unfolding seek
   sought-new false = refl
   sought-new true = by-test (any g xs)
     where
-      by-test : (c : Bool) → oneNew true (cond c (At (place g xs)) Nothing) ≡ oneIf (not c)
+      by-test : (c : Bool) → rowsAdded true (cond c (At (place g xs)) Nothing) ≡ oneIf (not c)
       by-test true = refl
       by-test false = refl
 
 module _ (h : List Event) (t : Tables) (e : Event) where
-  pub new-core : newCore (sightIn h t e) ≡ oneIf (newSource h e)
-  unfolding sightIn
+  pub new-core : newCore (lookedUpIn h t e) ≡ oneIf (newSource h e)
+  unfolding lookedUpIn
   new-core =
       sought-new (sameBytes (e .source)) (names h) (not (eqb (coreClass (e .kind) (e .word)) 0))
       ∙ ap (λ (b : Bool). oneIf (b && not (any (sameBytes (e .source)) (names h)))) (class-on e)
 
-  pub new-name : newName (sightIn h t e) (e .kind) ≡ oneIf (newTarget h e)
-  unfolding sightIn
+  pub new-name : newName (lookedUpIn h t e) (e .kind) ≡ oneIf (newTarget h e)
+  unfolding lookedUpIn
   new-name = sought-new (sameBytes (e .target)) (names h) (isTracked (e .kind))
 
 module _ (h : List Event) (t : Tables) (s : Shown h t) (e : Event) (k : secondKind (look h e) e ≡ false) where
-  pub core-row : onCore e ≡ true → coreRow (t .nums) (sightIn h t e) ≡ rowOf (e ∷ h) (e .source)
-  unfolding coreRow sightIn
+  pub core-row : onCore e ≡ true → coreRow (t .nums) (lookedUpIn h t e) ≡ rowOf (e ∷ h) (e .source)
+  unfolding coreRow lookedUpIn
   core-row o =
       rw (class-on e, o)
       (sought-row (sameBytes (e .source)) (names h) (nameCount (t .nums)) (rowOf (e ∷ h) (e .source)) (row-stays h e k (e .source))
-      (λ q. source-row-new h e k (rw (o, q)) ∙ sym (s .head .names-counted)))
+      (λ q. source-row-new h e k (rw (o, q)) ∙ sym (s .singles .names-counted)))
 
-  pub target-row : isTracked (e .kind) ≡ true → targetRow (t .nums) (sightIn h t e) ≡ rowOf (e ∷ h) (e .target)
-  unfolding targetRow sightIn
+  pub target-row : isTracked (e .kind) ≡ true → targetRow (t .nums) (lookedUpIn h t e) ≡ rowOf (e ∷ h) (e .target)
+  unfolding targetRow lookedUpIn
   target-row i =
       rw (new-core h t e, i)
       (sought-row (sameBytes (e .target)) (names h) (nameCount (t .nums) + oneIf (newSource h e)) (rowOf (e ∷ h) (e .target)) (row-stays h e k (e .target))
-      (λ q. target-row-new h e k (rw (i, q)) ∙ ap (λ (n : ℕ). n + oneIf (newSource h e)) (sym (s .head .names-counted))))
+      (λ q. target-row-new h e k (rw (i, q)) ∙ ap (λ (n : ℕ). n + oneIf (newSource h e)) (sym (s .singles .names-counted))))

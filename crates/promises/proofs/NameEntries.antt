@@ -18,10 +18,8 @@ use Rattle.rules.specs.History.{isTracked}
 use Rattle.tables.specs.declared.find.Found.{Found}
 use Rattle.tables.specs.declared.find.Found.the-variants.{At, Nothing}
 use Rattle.tables.specs.Entry.{nameRows, nameRoom, namesSize, numsSize, nameCount, lengthAt, nameAt}
-use Rattle.decide.specs.declared.happening.Happening.{Happening}
-use Rattle.decide.specs.declared.sight.Sight.{Sight}
-use Rattle.decide.specs.Happening.{asEvent}
-use Rattle.decide.specs.Known.{oneNew, newCore, newName}
+use Rattle.decide.specs.declared.look.LookedUp.{LookedUp}
+use Rattle.decide.specs.Known.{rowsAdded, newCore, newName}
 use Rattle.store.specs.Store.{rowOr, targetRow, storeName, takenNames, takenNums}
 use Rattle.store.proofs.Stores.{length-storeName}
 use Rattle.promises.proofs.Columns.{length-if, isNewCore, isNewTarget}
@@ -73,73 +71,74 @@ module _ (names : List ℕ) (i : ℕ) (name : List ℕ) (f : length name ≤ nam
   name-if false r k h e = refl
 
 -- the new core's row is not the new target's
-new-apart : (nums : List ℕ) (s : Sight) (k : ℕ) → newCore s ≡ 1 → isNewTarget nums s k (nameCount nums) ≡ false
+new-apart : (nums : List ℕ) (s : LookedUp) (k : ℕ) → newCore s ≡ 1 → isNewTarget nums s k (nameCount nums) ≡ false
 unfolding targetRow
 new-apart nums s k e = rw e (by-target (isTracked k) (s .target))
   where
-    by-target : (b : Bool) (f : Found) → eqb (oneNew b f) 1 && eqb (nameCount nums) (rowOr f (nameCount nums + 1)) ≡ false
+    by-target : (b : Bool) (f : Found) → eqb (rowsAdded b f) 1 && eqb (nameCount nums) (rowOr f (nameCount nums + 1)) ≡ false
     by-target false f = refl
     by-target true (At i) = refl
     by-target true Nothing = ne-eqb (nameCount nums) (nameCount nums + 1) (λ q. omega arith)
 
-module _ (names nums : List ℕ) (s : Sight) (e : Event) (f : length (e .source) ≤ nameRoom) (g : length (e .target) ≤ nameRoom) where
+module _ (names nums : List ℕ) (s : LookedUp) (e : Event) (f : length (e .source) ≤ nameRoom) (g : length (e .target) ≤ nameRoom) where
   abbrev cores-named : List ℕ
   cores-named = cond (eqb (newCore s) 1) (storeName names (nameCount nums) (e .source)) names
 
-  bytes-beside : (r k : ℕ) → k ≤ nameRoom → isNewTarget nums s (e .kind) r ≡ false → take k (drop (nameRoom * r) (takenNames names nums s e)) ≡ take k (drop (nameRoom * r) cores-named)
+  -- the names after it
+  abbrev next : List ℕ
+  next = takenNames names nums s (e .kind) (e .source) (e .target)
+
+  bytes-beside : (r k : ℕ) → k ≤ nameRoom → isNewTarget nums s (e .kind) r ≡ false → take k (drop (nameRoom * r) next) ≡ take k (drop (nameRoom * r) cores-named)
   unfolding takenNames
   bytes-beside r k h p = name-if cores-named (targetRow nums s) (e .target) g (eqb (newName s (e .kind)) 1) r k h p
 
   bytes-kept : (r k : ℕ) → k ≤ nameRoom → isNewTarget nums s (e .kind) r ≡ false → isNewCore nums s r ≡ false →
-      take k (drop (nameRoom * r) (takenNames names nums s e)) ≡ take k (drop (nameRoom * r) names)
+      take k (drop (nameRoom * r) next) ≡ take k (drop (nameRoom * r) names)
   bytes-kept r k h p q = bytes-beside r k h p ∙ name-if names (nameCount nums) (e .source) f (eqb (newCore s) 1) r k h q
 
   module _ (z : length names ≡ namesSize) where
-    bytes-core : newCore s ≡ 1 → nameCount nums < nameRows → take (length (e .source)) (drop (nameRoom * nameCount nums) (takenNames names nums s e)) ≡ e .source
+    bytes-core : newCore s ≡ 1 → nameCount nums < nameRows → take (length (e .source)) (drop (nameRoom * nameCount nums) next) ≡ e .source
     bytes-core p h =
         bytes-beside (nameCount nums) (length (e .source)) f (new-apart nums s (e .kind) p)
         ∙ rw p (name-own names (nameCount nums) (e .source) f z h)
 
-    bytes-target : newName s (e .kind) ≡ 1 → targetRow nums s < nameRows → take (length (e .target)) (drop (nameRoom * targetRow nums s) (takenNames names nums s e)) ≡ e .target
+    bytes-target : newName s (e .kind) ≡ 1 → targetRow nums s < nameRows → take (length (e .target)) (drop (nameRoom * targetRow nums s) next) ≡ e .target
     unfolding takenNames
     bytes-target p h =
         rw p (name-own cores-named (targetRow nums s) (e .target) g (length-if (eqb (newCore s) 1) _ names (length-storeName names (nameCount nums) (e .source)) ∙ z) h)
 
 -- ---- the name in a row, and its length
 
-module _ (names nums : List ℕ) (y : length names ≡ namesSize) (z : length nums ≡ numsSize) (s : Sight) (t : ℕ) (w : Happening)
-    (source target : List ℕ) (f : length source ≤ nameRoom) (g : length target ≤ nameRoom) where
-  abbrev e : Event
-  e = asEvent w source target
-
+module _ (names nums : List ℕ) (y : length names ≡ namesSize) (z : length nums ≡ numsSize) (s : LookedUp) (t : ℕ) (e : Event)
+    (f : length (e .source) ≤ nameRoom) (g : length (e .target) ≤ nameRoom) where
   -- the name n is in the row r after the line
   abbrev pub NameNext : ℕ → List ℕ → Type 0
   NameNext r n =
-      (nameAt (takenNames names nums s e) (takenNums nums s t w (length source) (length target)) r ≡ n)
-      × (lengthAt (takenNums nums s t w (length source) (length target)) r ≡ length n)
+      (nameAt (next names nums s e f g) (takenNums nums s t e) r ≡ n)
+      × (lengthAt (takenNums nums s t e) r ≡ length n)
 
   -- the bytes and the length make the name
-  named : (r : ℕ) (n : List ℕ) → lengthAt (takenNums nums s t w (length source) (length target)) r ≡ length n →
-      take (length n) (drop (nameRoom * r) (takenNames names nums s e)) ≡ n → NameNext r n
+  named : (r : ℕ) (n : List ℕ) → lengthAt (takenNums nums s t e) r ≡ length n →
+      take (length n) (drop (nameRoom * r) (next names nums s e f g)) ≡ n → NameNext r n
   named r n k b = (rw k b, k)
 
   -- a row that is not new keeps its name
-  pub name-kept : (r : ℕ) (n : List ℕ) → r < nameRows → isNewTarget nums s (w .kind) r ≡ false → isNewCore nums s r ≡ false →
+  pub name-kept : (r : ℕ) (n : List ℕ) → r < nameRows → isNewTarget nums s (e .kind) r ≡ false → isNewCore nums s r ≡ false →
       length n ≤ nameRoom → nameAt names nums r ≡ n → lengthAt nums r ≡ length n → NameNext r n
   name-kept r n h p q l b k =
-      named r n (length-taken nums z s t w (length source) (length target) r h ∙ rw (p, q) k)
+      named r n (length-taken nums z s t e r h ∙ rw (p, q) k)
       (bytes-kept names nums s e f g r (length n) l p q ∙ rw k at b)
 
-  pub name-of-core : newCore s ≡ 1 → nameCount nums < nameRows → NameNext (nameCount nums) source
+  pub name-of-core : newCore s ≡ 1 → nameCount nums < nameRows → NameNext (nameCount nums) (e .source)
   name-of-core p h =
-      named (nameCount nums) source
-      (length-taken nums z s t w (length source) (length target) (nameCount nums) h
-      ∙ rw (new-apart nums s (w .kind) p, p, eq-eqb (nameCount nums) (nameCount nums) refl) (omega arith))
+      named (nameCount nums) (e .source)
+      (length-taken nums z s t e (nameCount nums) h
+      ∙ rw (new-apart nums s (e .kind) p, p, eq-eqb (nameCount nums) (nameCount nums) refl) (omega arith))
       (bytes-core names nums s e f g y p h)
 
-  pub name-of-target : newName s (w .kind) ≡ 1 → targetRow nums s < nameRows → NameNext (targetRow nums s) target
+  pub name-of-target : newName s (e .kind) ≡ 1 → targetRow nums s < nameRows → NameNext (targetRow nums s) (e .target)
   name-of-target p h =
-      named (targetRow nums s) target
-      (length-taken nums z s t w (length source) (length target) (targetRow nums s) h
+      named (targetRow nums s) (e .target)
+      (length-taken nums z s t e (targetRow nums s) h
       ∙ rw (p, eq-eqb (targetRow nums s) (targetRow nums s) refl) (omega arith))
       (bytes-target names nums s e f g y p h)

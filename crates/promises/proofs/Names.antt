@@ -24,65 +24,59 @@ use Rattle.rules.proofs.Changes.{state-other, core-other, core-own}
 use Rattle.rules.proofs.Answers.{Passed}
 use Rattle.rules.proofs.Tracked.{target-kind, two-names, source-kind, kind-stays, named-kind}
 use Rattle.rules.proofs.Meets.{Met}
-use Rattle.tables.specs.Entry.{nameRows, nameRoom, nameCount, nameAt, lengthAt, kindAt, markAt, numberAt, numberedAt}
-use Rattle.decide.specs.declared.happening.Happening.{Happening}
-use Rattle.decide.specs.Happening.{asEvent}
+use Rattle.tables.specs.Entry.{nameRows, nameRoom, nameCount, nameAt, lengthAt, kindAt, standingAt, numberAt, numberedAt}
 use Rattle.decide.proofs.Plans.{own-number, on-instances}
-use Rattle.store.specs.Store.{targetRow}
+use Rattle.store.specs.Store.{targetRow, takenTables}
 use Rattle.judge.specs.Feed.{Tables}
 use Rattle.promises.specs.Places.{rowOf}
-use Rattle.promises.specs.Shown.{coreMark, theSemaphore, MarkShown, numberOf, NameShown, Shown}
-use Rattle.promises.specs.Taken.{sightIn, takenBy}
+use Rattle.promises.specs.Shown.{coreStanding, theSemaphore, StandingShown, numberOf, NameShown, Shown}
+use Rattle.promises.specs.Taken.{lookedUpIn}
 use Rattle.promises.proofs.Grown.{newTarget, instances-tracked, tracked-range, NameFrom, name-from, row-stays, source-row-new, AllMet, name-size}
 use Rattle.promises.proofs.Grown.NameFrom.{before, as-source, as-target}
 use Rattle.promises.proofs.Lookups.{new-core, new-name, target-row}
 use Rattle.promises.proofs.Untold.{semaphore-tracked, activates-instances}
 use Rattle.promises.proofs.NameEntries.{name-kept, name-of-core, name-of-target}
-use Rattle.promises.proofs.Rows.{row-bound, at-new-core, at-new-target, orOld, kind-at, mark-at, number-at, numbered-at}
+use Rattle.promises.proofs.Rows.{row-bound, at-new-core, at-new-target, orOld, kind-at, standing-at, number-at, numbered-at}
 use Rattle.promises.proofs.Untold.{core-unnumbered}
 use Rattle.promises.proofs.Turns.{held-core, holder-named}
 use Rattle.promises.proofs.Rows.{orGiven}
 use Rattle.promises.proofs.Ages.{not-new, old-same, new-source, new-target, Age, age, shownNumber, given-shown, unnumbered-any, none-shown, one-at-most, none-told, number-grows}
 use Rattle.promises.proofs.Ages.Age.{old, new}
 
-module _ (h : List Event) (a : Accepted h) (m : AllMet h) (t : Tables) (s : Shown h t) (w : Happening) (source target : List ℕ)
-    (f : Passed h (asEvent w source target)) (o : Met (asEvent w source target)) (state : ℕ)
-    (l : opened state ≡ stateOf (instanceOf (asEvent w source target)) (asEvent w source target ∷ h)) where
-  abbrev e : Event
-  e = asEvent w source target
-
+module _ (h : List Event) (a : Accepted h) (m : AllMet h) (t : Tables) (s : Shown h t) (e : Event) (f : Passed h e) (o : Met e) (state : ℕ)
+    (l : opened state ≡ stateOf (instanceOf e) (e ∷ h)) where
   abbrev after : Tables
-  after = takenBy t (sightIn h t e) state w source target
+  after = takenTables t (lookedUpIn h t e) state e
 
   module _ (n : List ℕ) (q : any (sameBytes n) (names (e ∷ h)) ≡ true) where
     abbrev row : ℕ
     row = rowOf (e ∷ h) n
 
     kind-next : kindOf n (e ∷ h) ≡ some (kindAt (after .nums) row)
-    kind-next = by-origin (name-from h e n q) ∙ ap some (sym (kind-at h t s w source target f state n q))
+    kind-next = by-origin (name-from h e n q) ∙ ap some (sym (kind-at h t s e f state n q))
       where
-        by-origin : NameFrom h e n → kindOf n (e ∷ h) ≡ some (orOld h e n (w .kind) core (kindAt (t .nums) row))
+        by-origin : NameFrom h e n → kindOf n (e ∷ h) ≡ some (orOld h e n (e .kind) core (kindAt (t .nums) row))
         by-origin (before p) =
             kind-stays h e (f .kinds) n _ (s .each-name n p .kind)
-            ∙ ap some (ap (kindAt (t .nums)) (sym (row-stays h e (f .kinds) n p)) ∙ sym (old-same h e n p (w .kind) core _))
+            ∙ ap some (ap (kindAt (t .nums)) (sym (row-stays h e (f .kinds) n p)) ∙ sym (old-same h e n p (e .kind) core _))
         by-origin (as-source u p) =
             let c = both (onCore e) _ u .0 in
-            rw p (source-kind h e (f .kinds) c) ∙ ap some (sym (new-source h e n (two-names h e (f .kinds) c) u p (w .kind) core _))
+            rw p (source-kind h e (f .kinds) c) ∙ ap some (sym (new-source h e n (two-names h e (f .kinds) c) u p (e .kind) core _))
         by-origin (as-target u p) =
-            rw p (target-kind h e (both (isTracked (w .kind)) _ u .0)) ∙ ap some (sym (new-target h e n u p (w .kind) core _))
+            rw p (target-kind h e (both (isTracked (e .kind)) _ u .0)) ∙ ap some (sym (new-target h e n u p (e .kind) core _))
 
     kind-old : any (sameBytes n) (names h) ≡ true → kindAt (after .nums) row ≡ kindAt (t .nums) (rowOf h n)
-    kind-old p = kind-at h t s w source target f state n q ∙ old-same h e n p (w .kind) core _ ∙ ap (kindAt (t .nums)) (row-stays h e (f .kinds) n p)
+    kind-old p = kind-at h t s e f state n q ∙ old-same h e n p (e .kind) core _ ∙ ap (kindAt (t .nums)) (row-stays h e (f .kinds) n p)
 
-    target-kinded : isTracked (w .kind) ≡ true → sameBytes n target ≡ true → kindAt (after .nums) row ≡ w .kind
+    target-kinded : isTracked (e .kind) ≡ true → sameBytes n (e .target) ≡ true → kindAt (after .nums) row ≡ e .kind
     target-kinded i x =
-        let z : some (kindAt (after .nums) row) ≡ some (w .kind) = sym kind-next ∙ rw (same-eq n target x) (target-kind h e i) in
+        let z : some (kindAt (after .nums) row) ≡ some (e .kind) = sym kind-next ∙ rw (same-eq n (e .target) x) (target-kind h e i) in
         cc
 
     source-kinded : on n e ≡ true → kindAt (after .nums) row ≡ core
     source-kinded x =
-        let p = both (onCore e) (sameBytes n source) x in
-        let z : some (kindAt (after .nums) row) ≡ some core = sym kind-next ∙ rw (same-eq n source (p .1)) (source-kind h e (f .kinds) (p .0)) in
+        let p = both (onCore e) (sameBytes n (e .source)) x in
+        let z : some (kindAt (after .nums) row) ≡ some core = sym kind-next ∙ rw (same-eq n (e .source) (p .1)) (source-kind h e (f .kinds) (p .0)) in
         cc
 
     -- ---- its name
@@ -93,32 +87,32 @@ module _ (h : List Event) (a : Accepted h) (m : AllMet h) (t : Tables) (s : Show
         inside : row < nameRows
         inside = row-bound h t s e f n q
 
-        source-size : length source ≤ nameRoom
-        source-size = name-length source (o .source-name) .1
+        source-size : length (e .source) ≤ nameRoom
+        source-size = name-length (e .source) (o .source-name) .1
 
-        target-size : length target ≤ nameRoom
-        target-size = name-length target (o .target-name) .1
+        target-size : length (e .target) ≤ nameRoom
+        target-size = name-length (e .target) (o .target-name) .1
 
         by-origin : NameFrom h e n → (nameAt (after .names) (after .nums) row ≡ n) × (lengthAt (after .nums) row ≡ length n)
         by-origin (before p) =
             let stays = row-stays h e (f .kinds) n p in
             let shown = s .each-name n p in
-            name-kept (t .names) (t .nums) (s .names-size) (s .nums-size) (sightIn h t e) state w source target source-size target-size row n inside
-            (at-new-target h t s e f n q ∙ not-new h e n p (isTracked (w .kind)) target)
-            (at-new-core h t s e f n q ∙ not-new h e n p (onCore e) source)
+            name-kept (t .names) (t .nums) (s .names-size) (s .nums-size) (lookedUpIn h t e) state e source-size target-size row n inside
+            (at-new-target h t s e f n q ∙ not-new h e n p (isTracked (e .kind)) (e .target))
+            (at-new-core h t s e f n q ∙ not-new h e n p (onCore e) (e .source))
             (name-size h m n p .1)
             (rw stays (shown .name))
             (rw stays (shown .size))
         by-origin (as-source u p) =
-            let at : row ≡ nameCount (t .nums) = ap (rowOf (e ∷ h)) p ∙ source-row-new h e (f .kinds) u ∙ sym (s .head .names-counted) in
+            let at : row ≡ nameCount (t .nums) = ap (rowOf (e ∷ h)) p ∙ source-row-new h e (f .kinds) u ∙ sym (s .singles .names-counted) in
             rw (at, p)
-            (name-of-core (t .names) (t .nums) (s .names-size) (s .nums-size) (sightIn h t e) state w source target source-size target-size
+            (name-of-core (t .names) (t .nums) (s .names-size) (s .nums-size) (lookedUpIn h t e) state e source-size target-size
             (new-core h t e ∙ ap oneIf u)
             (rw (← at) inside))
         by-origin (as-target u p) =
-            let at : row ≡ targetRow (t .nums) (sightIn h t e) = ap (rowOf (e ∷ h)) p ∙ sym (target-row h t s e (f .kinds) (both (isTracked (w .kind)) _ u .0)) in
+            let at : row ≡ targetRow (t .nums) (lookedUpIn h t e) = ap (rowOf (e ∷ h)) p ∙ sym (target-row h t s e (f .kinds) (both (isTracked (e .kind)) _ u .0)) in
             rw (at, p)
-            (name-of-target (t .names) (t .nums) (s .names-size) (s .nums-size) (sightIn h t e) state w source target source-size target-size
+            (name-of-target (t .names) (t .nums) (s .names-size) (s .nums-size) (lookedUpIn h t e) state e source-size target-size
             (new-name h t e ∙ ap oneIf u)
             (rw (← at) inside))
 
@@ -127,20 +121,20 @@ module _ (h : List Event) (a : Accepted h) (m : AllMet h) (t : Tables) (s : Show
     -- a core is given none
     core-given : kindAt (after .nums) row ≡ core → (u v last : ℕ) → orGiven e n u v last ≡ last
     core-given k u v last =
-        rw (no-target (eqb (w .kind) semaphore) (semaphore-tracked (w .kind)), no-target (activates (w .kind) (w .word)) (λ y. instances-tracked (w .kind) (activates-instances (w .kind) (w .word) y)))
+        rw (no-target (eqb (e .kind) semaphore) (semaphore-tracked (e .kind)), no-target (activates (e .kind) (e .word)) (λ y. instances-tracked (e .kind) (activates-instances (e .kind) (e .word) y)))
       where
-        no-target : (b : Bool) → (b ≡ true → isTracked (w .kind) ≡ true) → b && sameBytes n target ≡ false
+        no-target : (b : Bool) → (b ≡ true → isTracked (e .kind) ≡ true) → b && sameBytes n (e .target) ≡ false
         no-target b i =
             is-false _ (λ y.
-            let p = both b (sameBytes n target) y in
-            let r = tracked-range (w .kind) (i (p .0)) in
-            let z : w .kind ≡ core = sym (target-kinded (i (p .0)) (p .1)) ∙ k in
+            let p = both b (sameBytes n (e .target)) y in
+            let r = tracked-range (e .kind) (i (p .0)) in
+            let z : e .kind ≡ core = sym (target-kinded (i (p .0)) (p .1)) ∙ k in
             omega arith)
 
     -- and has none, also where this line is its own
     core-unnumbered-next : on n e ≡ true → numberedAt (after .nums) row ≡ 0
     core-unnumbered-next x =
-        numbered-at h t s w source target f state n q
+        numbered-at h t s e f state n q
         ∙ core-given (source-kinded x) 1 1 _
         ∙ by-age (age h e n (two-names h e (f .kinds)) (name-from h e n q))
       where
@@ -154,15 +148,15 @@ module _ (h : List Event) (a : Accepted h) (m : AllMet h) (t : Tables) (s : Show
 
     number-next : shownNumber (numberedAt (after .nums) row) (numberAt (after .nums) row) ≡ numberOf (e ∷ h) n (kindAt (after .nums) row)
     number-next =
-        rw (number-at h t s w source target f state n q)
-        (unnumbered-any (on n e) (gives (w .word)) (numberedAt (after .nums) row) (w .number)
-        (orGiven e n (w .count) (w .number) (orOld h e n 0 0 (numberAt (t .nums) row)))
+        rw (number-at h t s e f state n q)
+        (unnumbered-any (on n e) (gives (e .word)) (numberedAt (after .nums) row) (e .targetInstance)
+        (orGiven e n (e .count) (e .targetInstance) (orOld h e n 0 0 (numberAt (t .nums) row)))
         core-unnumbered-next
-        ∙ rw (numbered-at h t s w source target f state n q)
-        (given-shown (eqb (w .kind) semaphore && sameBytes n target) (activates (w .kind) (w .word) && sameBytes n target) (w .count) (w .number) _ _
+        ∙ rw (numbered-at h t s e f state n q)
+        (given-shown (eqb (e .kind) semaphore && sameBytes n (e .target)) (activates (e .kind) (e .word) && sameBytes n (e .target)) (e .count) (e .targetInstance) _ _
         ∙ ap
-        (λ (r : Option ℕ). cond (eqb (w .kind) semaphore && sameBytes n target) (some (w .count))
-        (cond (activates (w .kind) (w .word) && sameBytes n target) (some (w .number)) r))
+        (λ (r : Option ℕ). cond (eqb (e .kind) semaphore && sameBytes n (e .target)) (some (e .count))
+        (cond (activates (e .kind) (e .word) && sameBytes n (e .target)) (some (e .targetInstance)) r))
         (by-age (age h e n (two-names h e (f .kinds)) (name-from h e n q)))
         ∙ sym (number-grows h e n (kindAt (after .nums) row) target-kinded)))
       where
@@ -175,8 +169,8 @@ module _ (h : List Event) (a : Accepted h) (m : AllMet h) (t : Tables) (s : Show
 
     numbered-next : numberedAt (after .nums) row ≤ 1
     numbered-next =
-        rw (numbered-at h t s w source target f state n q)
-        (one-at-most (eqb (w .kind) semaphore && sameBytes n target) (activates (w .kind) (w .word) && sameBytes n target) _
+        rw (numbered-at h t s e f state n q)
+        (one-at-most (eqb (e .kind) semaphore && sameBytes n (e .target)) (activates (e .kind) (e .word) && sameBytes n (e .target)) _
         (by-age (age h e n (two-names h e (f .kinds)) (name-from h e n q))))
       where
         by-age : Age h e n → orOld h e n 0 0 (numberedAt (t .nums) row) ≤ 1
@@ -186,48 +180,48 @@ module _ (h : List Event) (a : Accepted h) (m : AllMet h) (t : Tables) (s : Show
     -- ---- its state
 
     -- a holder's name keeps its row
-    core-mark-stays : (c : Core) → coreAt n h ≡ c → coreMark h c ≡ coreMark (e ∷ h) c
-    core-mark-stays unknown p = refl
-    core-mark-stays idle p = refl
-    core-mark-stays (held x) p = rw (row-stays h e (f .kinds) (x .name) (holder-named h a n x p))
+    core-standing-stays : (c : Core) → coreAt n h ≡ c → coreStanding h c ≡ coreStanding (e ∷ h) c
+    core-standing-stays unknown p = refl
+    core-standing-stays idle p = refl
+    core-standing-stays (held x) p = rw (row-stays h e (f .kinds) (x .name) (holder-named h a n x p))
 
     -- the event is one on the core
-    mark-of-core : on n e ≡ true → MarkShown (e ∷ h) n (kindAt (after .nums) row) (cond (gives (w .word)) 1 (rowOf (e ∷ h) target + 2))
-    mark-of-core x =
-        let p = both (onCore e) (sameBytes n source) x in
+    standing-of-core : on n e ≡ true → StandingShown (e ∷ h) n (kindAt (after .nums) row) (cond (gives (e .word)) 1 (rowOf (e ∷ h) (e .target) + 2))
+    standing-of-core x =
+        let p = both (onCore e) (sameBytes n (e .source)) x in
         let k = source-kinded x in
-        let z : coreAt n (e ∷ h) ≡ becomes (gives (w .word)) (instanceOf e) = rw (same-eq n source (p .1)) (core-own e h (p .0)) in
+        let z : coreAt n (e ∷ h) ≡ becomes (gives (e .word)) (instanceOf e) = rw (same-eq n (e .source) (p .1)) (core-own e h (p .0)) in
         record {
-          of-core = λ c. by-word (gives (w .word)) ∙ ap (coreMark (e ∷ h)) (sym z);
+          of-core = λ c. by-word (gives (e .word)) ∙ ap (coreStanding (e ∷ h)) (sym z);
           of-semaphore = λ c. absurd (omega (arith, eqb-true (kindAt (after .nums) row) semaphore c));
           of-other = λ c d. absurd (clash _ (eq-eqb (kindAt (after .nums) row) core k) c);
         }
       where
-        by-word : (g : Bool) → cond g 1 (rowOf (e ∷ h) target + 2) ≡ coreMark (e ∷ h) (becomes g (instanceOf e))
+        by-word : (g : Bool) → cond g 1 (rowOf (e ∷ h) (e .target) + 2) ≡ coreStanding (e ∷ h) (becomes g (instanceOf e))
         by-word true = refl
         by-word false = refl
 
     -- the event is one of the semaphore
-    mark-of-semaphore : eqb (w .kind) semaphore && sameBytes n target ≡ true → MarkShown (e ∷ h) n (kindAt (after .nums) row) state
-    mark-of-semaphore y =
-        let p = both (eqb (w .kind) semaphore) (sameBytes n target) y in
-        let k : kindAt (after .nums) row ≡ semaphore = target-kinded (semaphore-tracked (w .kind) (p .0)) (p .1) ∙ eqb-true (w .kind) semaphore (p .0) in
+    standing-of-semaphore : eqb (e .kind) semaphore && sameBytes n (e .target) ≡ true → StandingShown (e ∷ h) n (kindAt (after .nums) row) state
+    standing-of-semaphore y =
+        let p = both (eqb (e .kind) semaphore) (sameBytes n (e .target)) y in
+        let k : kindAt (after .nums) row ≡ semaphore = target-kinded (semaphore-tracked (e .kind) (p .0)) (p .1) ∙ eqb-true (e .kind) semaphore (p .0) in
         record {
           of-core = λ c. absurd (omega (arith, eqb-true (kindAt (after .nums) row) core c));
           of-semaphore = λ c. l ∙ ap (λ (x : Instance). stateOf x (e ∷ h)) (own (p .0) (p .1));
           of-other = λ c d. absurd (clash _ (eq-eqb (kindAt (after .nums) row) semaphore k) d);
         }
       where
-        own : eqb (w .kind) semaphore ≡ true → sameBytes n target ≡ true → instanceOf e ≡ theSemaphore n
-        own c x = λ i. record { kind = eqb-true (w .kind) semaphore c i; name = sym (same-eq n target x) i; number = ap (λ (b : Bool). cond b 0 (w .number)) c i }
+        own : eqb (e .kind) semaphore ≡ true → sameBytes n (e .target) ≡ true → instanceOf e ≡ theSemaphore n
+        own c x = λ i. record { kind = eqb-true (e .kind) semaphore c i; name = sym (same-eq n (e .target) x) i; number = ap (λ (b : Bool). cond b 0 (e .targetInstance)) c i }
 
     -- the event is of another name
-    module _ (x : on n e ≡ false) (y : eqb (w .kind) semaphore && sameBytes n target ≡ false) where
-      mark-of-old : any (sameBytes n) (names h) ≡ true → MarkShown (e ∷ h) n (kindAt (t .nums) (rowOf h n)) (markAt (t .nums) (rowOf h n))
-      mark-of-old p =
-          let k = s .each-name n p .mark in
+    module _ (x : on n e ≡ false) (y : eqb (e .kind) semaphore && sameBytes n (e .target) ≡ false) where
+      standing-of-old : any (sameBytes n) (names h) ≡ true → StandingShown (e ∷ h) n (kindAt (t .nums) (rowOf h n)) (standingAt (t .nums) (rowOf h n))
+      standing-of-old p =
+          let k = s .each-name n p .standing in
           record {
-            of-core = λ c. k .of-core c ∙ core-mark-stays (coreAt n h) refl ∙ ap (coreMark (e ∷ h)) (sym (core-other n e h x));
+            of-core = λ c. k .of-core c ∙ core-standing-stays (coreAt n h) refl ∙ ap (coreStanding (e ∷ h)) (sym (core-other n e h x));
             of-semaphore = λ c. k .of-semaphore c ∙ sym (state-other (theSemaphore n) e h (is-false _ other));
             of-other = k .of-other;
           }
@@ -235,43 +229,43 @@ module _ (h : List Event) (a : Accepted h) (m : AllMet h) (t : Tables) (s : Show
           other : sameInstance (theSemaphore n) (instanceOf e) ≡ true → ⊥
           other b =
               let z = instance-true (theSemaphore n) (instanceOf e) b in
-              clash _ (and-true _ _ (eq-eqb (w .kind) semaphore (ap (λ (i : Instance). i .kind) (sym z))) (eq-same n target (ap (λ (i : Instance). i .name) z))) y
+              clash _ (and-true _ _ (eq-eqb (e .kind) semaphore (ap (λ (i : Instance). i .kind) (sym z))) (eq-same n (e .target) (ap (λ (i : Instance). i .name) z))) y
 
-      mark-of-new : newTarget h e ≡ true → n ≡ target → MarkShown (e ∷ h) n (kindAt (after .nums) row) 0
-      mark-of-new u p =
-          let i = both (isTracked (w .kind)) _ u .0 in
-          let k = target-kinded i (eq-same n target p) in
+      standing-of-new : newTarget h e ≡ true → n ≡ (e .target) → StandingShown (e ∷ h) n (kindAt (after .nums) row) 0
+      standing-of-new u p =
+          let i = both (isTracked (e .kind)) _ u .0 in
+          let k = target-kinded i (eq-same n (e .target) p) in
           record {
-            of-core = λ c. absurd (omega (arith, eqb-true (kindAt (after .nums) row) core c, k, tracked-range (w .kind) i));
-            of-semaphore = λ c. absurd (clash _ (and-true _ _ (ap (λ (j : ℕ). eqb j semaphore) (sym k) ∙ c) (eq-same n target p)) y);
+            of-core = λ c. absurd (omega (arith, eqb-true (kindAt (after .nums) row) core c, k, tracked-range (e .kind) i));
+            of-semaphore = λ c. absurd (clash _ (and-true _ _ (ap (λ (j : ℕ). eqb j semaphore) (sym k) ∙ c) (eq-same n (e .target) p)) y);
             of-other = λ c d. refl;
           }
 
-    mark-next : MarkShown (e ∷ h) n (kindAt (after .nums) row) (markAt (after .nums) row)
-    mark-next =
-        rw (mark-at h t s w source target f state n q)
-        (by-tests (on n e) refl (eqb (w .kind) semaphore && sameBytes n target) refl (name-from h e n q))
+    standing-next : StandingShown (e ∷ h) n (kindAt (after .nums) row) (standingAt (after .nums) row)
+    standing-next =
+        rw (standing-at h t s e f state n q)
+        (by-tests (on n e) refl (eqb (e .kind) semaphore && sameBytes n (e .target)) refl (name-from h e n q))
       where
-        by-tests : (x : Bool) → on n e ≡ x → (y : Bool) → eqb (w .kind) semaphore && sameBytes n target ≡ y → NameFrom h e n →
-            MarkShown (e ∷ h) n (kindAt (after .nums) row)
-            (cond x (cond (gives (w .word)) 1 (rowOf (e ∷ h) target + 2)) (cond y state (orOld h e n 0 0 (markAt (t .nums) row))))
-        by-tests true x y v r = mark-of-core x
-        by-tests false x true v r = mark-of-semaphore v
-        by-tests false x false v (before p) = rw (kind-old p, old-same h e n p 0 0 (markAt (t .nums) row), row-stays h e (f .kinds) n p) (mark-of-old x v p)
-        by-tests false x false v (as-source u p) = absurd (clash _ (and-true _ _ (both (onCore e) _ u .0) (eq-same n source p)) x)
-        by-tests false x false v (as-target u p) = rw (new-target h e n u p 0 0 (markAt (t .nums) row)) (mark-of-new x v u p)
+        by-tests : (x : Bool) → on n e ≡ x → (y : Bool) → eqb (e .kind) semaphore && sameBytes n (e .target) ≡ y → NameFrom h e n →
+            StandingShown (e ∷ h) n (kindAt (after .nums) row)
+            (cond x (cond (gives (e .word)) 1 (rowOf (e ∷ h) (e .target) + 2)) (cond y state (orOld h e n 0 0 (standingAt (t .nums) row))))
+        by-tests true x y v r = standing-of-core x
+        by-tests false x true v r = standing-of-semaphore v
+        by-tests false x false v (before p) = rw (kind-old p, old-same h e n p 0 0 (standingAt (t .nums) row), row-stays h e (f .kinds) n p) (standing-of-old x v p)
+        by-tests false x false v (as-source u p) = absurd (clash _ (and-true _ _ (both (onCore e) _ u .0) (eq-same n (e .source) p)) x)
+        by-tests false x false v (as-target u p) = rw (new-target h e n u p 0 0 (standingAt (t .nums) row)) (standing-of-new x v u p)
 
     -- ---- its holder
 
     holder-next : (x : Instance) → coreAt n (e ∷ h) ≡ held x → numberAt (after .nums) row ≡ x .number
-    holder-next x p = number-at h t s w source target f state n q ∙ by-test (on n e) refl (gives (w .word)) refl
+    holder-next x p = number-at h t s e f state n q ∙ by-test (on n e) refl (gives (e .word)) refl
       where
-        becoming : on n e ≡ true → coreAt n (e ∷ h) ≡ becomes (gives (w .word)) (instanceOf e)
-        becoming o = let r = both (onCore e) (sameBytes n source) o in rw (same-eq n source (r .1)) (core-own e h (r .0))
+        becoming : on n e ≡ true → coreAt n (e ∷ h) ≡ becomes (gives (e .word)) (instanceOf e)
+        becoming o = let r = both (onCore e) (sameBytes n (e .source)) o in rw (same-eq n (e .source) (r .1)) (core-own e h (r .0))
 
-        by-test : (b : Bool) → on n e ≡ b → (g : Bool) → gives (w .word) ≡ g →
-            let last = orGiven e n (w .count) (w .number) (orOld h e n 0 0 (numberAt (t .nums) row)) in
-            cond b (cond g last (w .number)) last ≡ x .number
+        by-test : (b : Bool) → on n e ≡ b → (g : Bool) → gives (e .word) ≡ g →
+            let last = orGiven e n (e .count) (e .targetInstance) (orOld h e n 0 0 (numberAt (t .nums) row)) in
+            cond b (cond g last (e .targetInstance)) last ≡ x .number
         by-test true o true g =
             let z : idle ≡ held x = ap (λ (b : Bool). becomes b (instanceOf e)) (sym g) ∙ sym (becoming o) ∙ p in
             let y : _≡_ {A = ℕ} 0 1 = cc in
@@ -279,13 +273,13 @@ module _ (h : List Event) (a : Accepted h) (m : AllMet h) (t : Tables) (s : Show
         by-test true o false g =
             let z : held (instanceOf e) ≡ held x = ap (λ (b : Bool). becomes b (instanceOf e)) (sym g) ∙ sym (becoming o) ∙ p in
             let y : instanceOf e ≡ x = cc in
-            sym (own-number e (on-instances e (both (onCore e) (sameBytes n source) o .0))) ∙ ap (λ (i : Instance). i .number) y
+            sym (own-number e (on-instances e (both (onCore e) (sameBytes n (e .source)) o .0))) ∙ ap (λ (i : Instance). i .number) y
         by-test false o g r =
             let was = sym (core-other n e h o) ∙ p in
             let c = held-core h a n x was in
             let there = named-kind h n core c _ refl in
             let k : some (kindAt (after .nums) row) ≡ some core = sym kind-next ∙ kind-stays h e (f .kinds) n core c in
-            core-given (let y : kindAt (after .nums) row ≡ core = cc in y) (w .count) (w .number) _
+            core-given (let y : kindAt (after .nums) row ≡ core = cc in y) (e .count) (e .targetInstance) _
             ∙ old-same h e n there 0 0 (numberAt (t .nums) row)
             ∙ ap (numberAt (t .nums)) (row-stays h e (f .kinds) n there)
             ∙ s .each-name n there .holder x was
@@ -296,7 +290,7 @@ module _ (h : List Event) (a : Accepted h) (m : AllMet h) (t : Tables) (s : Show
           name = named-next .0;
           size = named-next .1;
           kind = kind-next;
-          mark = mark-next;
+          standing = standing-next;
           holder = holder-next;
           numbered = numbered-next;
           number = number-next;

@@ -16,20 +16,19 @@ use Rattle.bill.specs.Scale.{scaleNumber}
 use Rattle.rules.specs.Limits.{lastRefusal}
 use Rattle.rules.specs.declared.place.Place.{Place}
 use Rattle.rules.specs.Event.{Event}
+use Rattle.rules.specs.Lines.{eventFrom}
 use Rattle.rules.specs.Trace.{placeTests, answerInPlace}
 use Rattle.rules.proofs.Places.{by-reading-right}
 use Rattle.line.proofs.Lowest.{lowest-has}
 use Rattle.rules.specs.PlaceCode.{answerByReading}
 use Rattle.tables.specs.Entry.{numsSize, verdictNumber}
 use Rattle.tables.proofs.Stores.{other}
-use Rattle.decide.specs.declared.happening.Happening.{Happening}
 use Rattle.decide.specs.declared.plan.Plan.{Plan}
 use Rattle.decide.specs.declared.plan.Plan.the-variants.{Refuse, Take}
-use Rattle.decide.specs.Happening.{happeningOf, asEvent}
 use Rattle.decide.specs.Decide.{planAnswer, planOf}
 use Rattle.decide.proofs.Decided.{plan-refuses}
-use Rattle.judge.specs.Feed.{Tables, After, after, placeIn, remembered, counted, carried, eventLined, readLined, placedLine, lined, allLined}
-use Rattle.judge.proofs.Feeds.{lined-alike}
+use Rattle.judge.specs.Feed.{Tables, After, after, placeIn, remembered, counted, carried, judgedEvent, judgedReading, judgedInPlace, judgedLine, judgedLines}
+use Rattle.judge.proofs.Feeds.{judgedLine-alike}
 use Rattle.promises.proofs.Entries.{verdict-number-kept}
 use Rattle.promises.proofs.Traces.{remembered-number}
 
@@ -66,47 +65,46 @@ module _ (t : Tables) (z : length (t .nums) ≡ numsSize) where
     stored : (i n : ℕ) → 1 ≤ i → verdictNumber (set (t .nums) i n) ≡ 0
     stored i n h = other (t .nums) i 0 n (λ q. omega arith) ∙ v
 
-    carried-numbered : (p : Plan) → planAnswer p ≤ lastRefusal → (w : Happening) (source target : List ℕ) → AnswerKept (carried p t w source target)
+    carried-numbered : (p : Plan) → planAnswer p ≤ lastRefusal → (e : Event) → AnswerKept (carried p t e)
     unfolding planAnswer
-    carried-numbered (Refuse n) m w source target = refusal-numbered n m
-    carried-numbered (Take s state) m w source target =
-        record { most = omega arith; kept = verdict-number-kept (t .nums) z s state w (length source) (length target) ∙ v }
+    carried-numbered (Refuse n) m e = refusal-numbered n m
+    carried-numbered (Take s state) m e =
+        record { most = omega arith; kept = verdict-number-kept (t .nums) z s state e ∙ v }
 
-    read-numbered : (r : Reading) (l : List ℕ) → AnswerKept (readLined r t l)
-    unfolding eventLined
+    read-numbered : (r : Reading) (l : List ℕ) → AnswerKept (judgedReading r t l)
+    unfolding judgedEvent
     read-numbered Version l = count-numbered (t .nums) v
     read-numbered Comment l = count-numbered (t .nums) v
     read-numbered (TimeScale s) l = count-numbered (set (t .nums) 3 (scaleNumber s)) (stored 3 (scaleNumber s) (omega arith))
     read-numbered Creator l = count-numbered (set (t .nums) 4 1) (stored 4 1 (omega arith))
     read-numbered CreationDate l = count-numbered (set (t .nums) 5 1) (stored 5 1 (omega arith))
     read-numbered (EventLine e count) l =
-        let w = happeningOf e count in
-        let event = asEvent w (fieldOf l 2) (fieldOf l 5) in
-        carried-numbered (planOf (t .names) (t .nums) (t .ticks) event) (plan-most (t .names) (t .nums) (t .ticks) event) w (fieldOf l 2) (fieldOf l 5)
+        let event = eventFrom e (fieldOf l 2) (fieldOf l 5) count in
+        carried-numbered (planOf (t .names) (t .nums) (t .ticks) event) (plan-most (t .names) (t .nums) (t .ticks) event) event
     read-numbered (Refused n) l = record { most = omega arith; kept = v }
 
-    placed-numbered : (n : ℕ) → n ≤ 7 → (l : List ℕ) → AnswerKept (placedLine n t l)
-    unfolding placedLine
+    placed-numbered : (n : ℕ) → n ≤ 7 → (l : List ℕ) → AnswerKept (judgedInPlace n t l)
+    unfolding judgedInPlace
     placed-numbered zero m l = read-numbered (readLine l) l
     placed-numbered (suc n) m l = refusal-numbered (suc n) (omega arith)
 
-  pub lined-numbered : verdictNumber (t .nums) ≤ lastRefusal → (l : List ℕ) → AnswerKept (lined t l)
-  unfolding lined
-  lined-numbered m l = by-verdict (eqb (verdictNumber (t .nums)) 0) refl
+  pub judged-numbered : verdictNumber (t .nums) ≤ lastRefusal → (l : List ℕ) → AnswerKept (judgedLine t l)
+  unfolding judgedLine
+  judged-numbered m l = by-verdict (eqb (verdictNumber (t .nums)) 0) refl
     where
       p : Place
       p = placeIn (t .nums)
 
       by-verdict : (b : Bool) → eqb (verdictNumber (t .nums)) 0 ≡ b →
-          AnswerKept (cond b (placedLine (answerByReading p (readLine l)) t l) (after (verdictNumber (t .nums)) (t .names) (t .nums) (t .ticks)))
+          AnswerKept (cond b (judgedInPlace (answerByReading p (readLine l)) t l) (after (verdictNumber (t .nums)) (t .names) (t .nums) (t .ticks)))
       by-verdict true q = placed-numbered (eqb-true (verdictNumber (t .nums)) 0 q) (answerByReading p (readLine l)) (by-reading-most p l) l
       by-verdict false q = record { most = m; kept = refl }
 
 -- ---- many lines
 
-pub lines-most : (t : Tables) → length (t .nums) ≡ numsSize → verdictNumber (t .nums) ≤ lastRefusal → (ls : List (List ℕ)) → verdictNumber (allLined t ls .nums) ≤ lastRefusal
-unfolding allLined
+pub lines-most : (t : Tables) → length (t .nums) ≡ numsSize → verdictNumber (t .nums) ≤ lastRefusal → (ls : List (List ℕ)) → verdictNumber (judgedLines t ls .nums) ≤ lastRefusal
+unfolding judgedLines
 lines-most t z m [] = m
 lines-most t z m (l ∷ ls) =
-    let x = lined-numbered t z m l in
-    lines-most (lined t l .left) (lined-alike t l .nums-kept ∙ z) (rw (x .kept) (x .most)) ls
+    let x = judged-numbered t z m l in
+    lines-most (judgedLine t l .left) (judgedLine-alike t l .nums-kept ∙ z) (rw (x .kept) (x .most)) ls

@@ -56,7 +56,7 @@ module _ (h : List Event) (a : Accepted h) (t : Tables) (s : Shown h t) (e : Eve
       e .time - sinceAt (t .ticks) (rowOf h n) ≡ openTicks h (t .ticks) n + gap e h
   until-event n q k =
       let time-moved = moved h a e f n q in
-      let last-before = s .head .last in
+      let last-before = s .singles .last in
       let since-before = s .each-ticks n q .of-core k .since in
       omega arith
 
@@ -65,7 +65,7 @@ module _ (h : List Event) (a : Accepted h) (t : Tables) (s : Shown h t) (e : Eve
       (openTicks (e ∷ h) (ticksAfter h t e) n ≡ openTicks h (t .ticks) n + gap e h) × (sinceAt (ticksAfter h t e) (rowOf (e ∷ h) n) ≤ lastTime (ticksAfter h t e))
   unsettled n q k r =
       let time-moved = moved h a e f n q in
-      let last-before = s .head .last in
+      let last-before = s .singles .last in
       let last-after = last-next h a t s e f in
       let since-before = s .each-ticks n q .of-core k .since in
       (omega (arith, until-event n q k), omega arith)

@@ -29,12 +29,12 @@ use Rattle.rules.proofs.Totals.{core-total}
 use Rattle.rules.proofs.Charges.{charge-at-most}
 use Rattle.rules.proofs.Alone.{alone}
 use Rattle.tables.specs.Entry.{verdictNumber, verdictLine, lineCount, scaleEntry, creatorEntry, dateEntry, nameCount}
-use Rattle.tables.specs.Entry.{kindAt, markAt, ownerAt, stateAt, heldAt, idleAt, unknownAt, sinceAt, lastTime}
-use Rattle.tables.specs.Range.{holderOk, coreOk, markOk, maxSum}
+use Rattle.tables.specs.Entry.{kindAt, standingAt, ownerAt, stateAt, heldAt, idleAt, unknownAt, sinceAt, lastTime}
+use Rattle.tables.specs.Range.{holderOk, coreOk, standingOk, maxSum}
 use Rattle.tables.proofs.Valid.{NameRow, InstanceRow, Valid}
 use Rattle.judge.specs.Feed.{Tables}
 use Rattle.promises.specs.Places.{rowOf}
-use Rattle.promises.specs.Shown.{Shown, NameShown, InstanceShown, coreMark, theSemaphore}
+use Rattle.promises.specs.Shown.{Shown, NameShown, InstanceShown, coreStanding, theSemaphore}
 use Rattle.promises.proofs.Places.{place-bound}
 use Rattle.promises.proofs.Grown.{AllMet, name-kind, name-at, instance-kind, core-known, named-well}
 use Rattle.promises.proofs.Told.{all-worded}
@@ -48,9 +48,9 @@ module _ (h : List Event) (a : Accepted h) (met : AllMet h) (t : Tables) (s : Sh
   name-of : (n : List ℕ) (k : ℕ) → kindOf n h ≡ some k → (rowOf h n < nameCount (t .nums)) × (kindAt (t .nums) (rowOf h n) ≡ k)
   name-of n k q =
       let listed = named-kind h n k q _ refl in
-      (omega (arith, s .head .names-counted, place-bound (sameBytes n) (names h) listed), let r = s .each-name n listed .kind in cc)
+      (omega (arith, s .singles .names-counted, place-bound (sameBytes n) (names h) listed), let r = s .each-name n listed .kind in cc)
 
-  core-ok : (n : List ℕ) (c : Core) → coreAt n h ≡ c → (c ≡ unknown → ⊥) → coreOk (t .nums) (coreMark h c) ≡ true
+  core-ok : (n : List ℕ) (c : Core) → coreAt n h ≡ c → (c ≡ unknown → ⊥) → coreOk (t .nums) (coreStanding h c) ≡ true
   unfolding coreOk holderOk
   core-ok n unknown p k = absurd (k refl)
   core-ok n idle p k = refl
@@ -59,9 +59,9 @@ module _ (h : List Event) (a : Accepted h) (met : AllMet h) (t : Tables) (s : Sh
       let row : (rowOf h (x .name) + 2) - 2 ≡ rowOf h (x .name) = omega arith in
       rw (le-ltb (rowOf h (x .name) + 2) 2 (omega arith), row, lt-ltb _ _ (o .0), o .1, alone h a .holder-occupies n x p .0)
 
-  mark-ok : (n : List ℕ) → any (sameBytes n) (names h) ≡ true → markOk (t .nums) (kindAt (t .nums) (rowOf h n)) (markAt (t .nums) (rowOf h n)) ≡ true
-  unfolding markOk
-  mark-ok n q = by-kind (eqb k core) refl (eqb k semaphore) refl
+  standing-ok : (n : List ℕ) → any (sameBytes n) (names h) ≡ true → standingOk (t .nums) (kindAt (t .nums) (rowOf h n)) (standingAt (t .nums) (rowOf h n)) ≡ true
+  unfolding standingOk
+  standing-ok n q = by-kind (eqb k core) refl (eqb k semaphore) refl
     where
       r : NameShown h (t .names) (t .nums) (rowOf h n) n
       r = s .each-name n q
@@ -70,13 +70,13 @@ module _ (h : List Event) (a : Accepted h) (met : AllMet h) (t : Tables) (s : Sh
       k = kindAt (t .nums) (rowOf h n)
 
       m : ℕ
-      m = markAt (t .nums) (rowOf h n)
+      m = standingAt (t .nums) (rowOf h n)
 
       by-kind : (b : Bool) → eqb k core ≡ b → (d : Bool) → eqb k semaphore ≡ d →
           cond b (coreOk (t .nums) m) (cond d (eqb m 0 || isStateOf (chartOf semaphore) m) (eqb m 0)) ≡ true
-      by-kind true p d u = rw (r .mark .of-core p) (core-ok n (coreAt n h) refl (core-known n h (r .kind ∙ ap some (eqb-true k core p))))
-      by-kind false p true u = stored-state (chartOf semaphore) (wordsOf (theSemaphore n) h) m (r .mark .of-semaphore u)
-      by-kind false p false u = eq-eqb m 0 (r .mark .of-other p u)
+      by-kind true p d u = rw (r .standing .of-core p) (core-ok n (coreAt n h) refl (core-known n h (r .kind ∙ ap some (eqb-true k core p))))
+      by-kind false p true u = stored-state (chartOf semaphore) (wordsOf (theSemaphore n) h) m (r .standing .of-semaphore u)
+      by-kind false p false u = eq-eqb m 0 (r .standing .of-other p u)
 
   -- ---- the ticks of a name
 
@@ -128,7 +128,7 @@ module _ (h : List Event) (a : Accepted h) (met : AllMet h) (t : Tables) (s : Sh
         kind-some = omega (arith, z, k .2);
         kind-known = omega (arith, z, k .3);
         numbered = r .numbered;
-        mark = mark-ok n q;
+        standing = standing-ok n q;
         length-some = omega (arith, r .size, l .0);
         length-most = omega (arith, r .size, l .1);
         named = rw (r .name) (named-well h met n q);
@@ -161,7 +161,7 @@ module _ (h : List Event) (a : Accepted h) (met : AllMet h) (t : Tables) (s : Sh
       creatorEntry (t .nums) ≤ 1 → dateEntry (t .nums) ≤ 1 → Valid (t .names) (t .nums) (t .ticks)
   in-range v l c sc cr d =
       let fit = all-fit h a in
-      let counts = s .head in
+      let counts = s .singles in
       record {
         sizes = record { names-size = s .names-size; nums-size = s .nums-size; ticks-size = s .ticks-size };
         verdict = v;

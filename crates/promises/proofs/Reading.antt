@@ -25,8 +25,8 @@ use Rattle.rules.specs.Lists.{ifZero}
 use Rattle.rules.specs.Trace.{tooMuch, placeTests, answerInPlace, answerAt, refusalOn}
 use Rattle.rules.specs.Text.{traceText}
 use Rattle.tables.specs.Entry.{verdictNumber}
-use Rattle.judge.specs.Feed.{Tables, After, placedLine, lined, allLined, fedLine, fedChunk, freshTables}
-use Rattle.judge.proofs.Feeds.{allLined-append, lined-fed, lined-chunk}
+use Rattle.judge.specs.Feed.{Tables, After, judgedInPlace, judgedLine, judgedLines, fedLine, fedChunk, freshTables}
+use Rattle.judge.proofs.Feeds.{judgedLines-append, judged-fed, judged-chunk}
 use Rattle.rules.specs.First.{firstRefusal}
 use Rattle.promises.specs.Fed.{joined}
 use Rattle.promises.proofs.Traces.{further}
@@ -41,9 +41,9 @@ use Rattle.promises.proofs.Printed.{printed, after-text, written-text}
 
 -- they are in range, so the line is judged
 fed-one : (ks : List (List ℕ)) (l : List ℕ) → fedLine (after-lines ks) l .left ≡ after-lines (ks ++ l ∷ [])
-unfolding allLined
+unfolding judgedLines
 fed-one ks l =
-    ap (λ (x : After). x .left) (sym (lined-fed (after-lines ks) l (sym (never-16 ks)) refl refl)) ∙ sym (allLined-append freshTables ks (l ∷ []))
+    ap (λ (x : After). x .left) (sym (judged-fed (after-lines ks) l (sym (never-16 ks)) refl refl)) ∙ sym (judgedLines-append freshTables ks (l ∷ []))
 
 -- what is carried over is a line at the end of input, and nothing is none
 last-fed : (ks : List (List ℕ)) (rest : List ℕ) → lastTaken (after-lines ks) rest (length rest) ≡ after-lines (ks ++ lastLine rest)
@@ -59,8 +59,8 @@ whole s = after-lines (wholeLines s)
 chunk-fed : (s r : List ℕ) →
     record { fed = record { answer = verdictNumber (whole (s ++ r) .nums); used = usedUp (restOf s ++ r) }; left = whole (s ++ r) } ≡ fedChunk (whole s) (restOf s ++ r)
 chunk-fed s r =
-    lined-chunk (whole s) (restOf s ++ r) (sym (never-16 (wholeLines s))) refl refl
-    (ap after-lines (whole-halves s r) ∙ allLined-append freshTables (wholeLines s) (wholeLines (restOf s ++ r)))
+    judged-chunk (whole s) (restOf s ++ r) (sym (never-16 (wholeLines s))) refl refl
+    (ap after-lines (whole-halves s r) ∙ judgedLines-append freshTables (wholeLines s) (wholeLines (restOf s ++ r)))
 
 -- ---- a line of more than 1,023 bytes
 
@@ -84,20 +84,20 @@ long-read : (l : List ℕ) → 1023 < length l → readLine l ≡ Refused 1
 unfolding readLine
 long-read l z = rw (lt-ltb 1023 (length l) z)
 
-long-lined : (t : Tables) (l m : List ℕ) → 1023 < length l → 1023 < length m → lined t l ≡ lined t m
-unfolding lined placedLine
-long-lined t l m p q = rw (long-read l p, long-read m q)
+long-judged : (t : Tables) (l m : List ℕ) → 1023 < length l → 1023 < length m → judgedLine t l ≡ judgedLine t m
+unfolding judgedLine judgedInPlace
+long-judged t l m p q = rw (long-read l p, long-read m q)
 
 -- and what follows it changes nothing
 long-settles : (ks ls : List (List ℕ)) (l m : List ℕ) → 1023 < length l → 1023 < length m → after-lines (ks ++ m ∷ []) ≡ after-lines (ks ++ l ∷ ls)
-unfolding allLined
+unfolding judgedLines
 long-settles ks ls l m p q =
     let u = after-lines (ks ++ m ∷ []) in
     let number : verdictNumber (u .nums) ≡ refusalOn [] (ks ++ m ∷ []) .0 = ap (λ (v : ℕ × ℕ). v .0) (shows-taken (ks ++ m ∷ []) .remembers) in
     sym
-    (allLined-append freshTables ks (l ∷ ls)
-    ∙ ap (λ (x : After). allLined (x .left) ls) (long-lined (after-lines ks) l m p q)
-    ∙ ap (λ (t : Tables). allLined t ls) (sym (allLined-append freshTables ks (m ∷ [])))
+    (judgedLines-append freshTables ks (l ∷ ls)
+    ∙ ap (λ (x : After). judgedLines (x .left) ls) (long-judged (after-lines ks) l m p q)
+    ∙ ap (λ (t : Tables). judgedLines t ls) (sym (judgedLines-append freshTables ks (m ∷ [])))
     ∙ further u (λ e. long-among ks [] m q (sym number ∙ e)) ls)
 
 -- ---- a rest of more than 1,024 bytes
@@ -155,7 +155,7 @@ module _ (s : List ℕ) where
   refused-stops : (verdictNumber (whole s .nums) ≡ 0 → ⊥) → Stopped (whole s) s
   refused-stops v more =
       let ls = linesOf (restOf s ++ more) in
-      sym (further (whole s) v ls) ∙ sym (allLined-append freshTables (wholeLines s) ls) ∙ ap after-lines (sym (lines-halves s more))
+      sym (further (whole s) v ls) ∙ sym (judgedLines-append freshTables (wholeLines s) ls) ∙ ap after-lines (sym (lines-halves s more))
 
   -- the rest is too long, and so is the line that begins with it
   long-stops : 1024 < length (restOf s) → Stopped (fedLine (whole s) (restOf s) .left) s
@@ -186,7 +186,7 @@ from-here (r ∷ rs) s z =
 
 -- any reads, of any sizes
 pub read-on : (rs : List (List ℕ)) → Right (readOn freshTables [] rs) (joined rs)
-unfolding wholeLines restOf ended unended pieces allLined
+unfolding wholeLines restOf ended unended pieces judgedLines
 read-on rs = from-here rs [] (omega arith)
 
 -- ---- the end of input

@@ -14,21 +14,20 @@ use Rattle.fields.specs.Part.{fieldOf}
 use Rattle.line.specs.Reading.{readLine}
 use Rattle.bill.specs.declared.verdict.Verdict.{Verdict}
 use Rattle.rules.specs.Limits.{lastRefusal}
+use Rattle.rules.specs.Event.{Event}
+use Rattle.rules.specs.Lines.{eventFrom}
 use Rattle.rules.specs.Lists.{ifZero}
 use Rattle.rules.specs.PlaceCode.{answerByReading}
 use Rattle.tables.specs.Entry.{numsSize, verdictNumber}
 use Rattle.tables.specs.Range.{tableAnswer}
-use Rattle.tables.specs.Fresh.{Cleared, clearedOf}
-use Rattle.decide.specs.declared.happening.Happening.{Happening}
 use Rattle.decide.specs.declared.plan.Plan.{Plan}
 use Rattle.decide.specs.declared.plan.Plan.the-variants.{Refuse, Take}
-use Rattle.decide.specs.Happening.{happeningOf, asEvent}
 use Rattle.decide.specs.Decide.{planOf}
-use Rattle.judge.specs.Feed.{Tables, tables, After, after, placeIn, remembered, carried, eventLined, readLined, placedLine, lined, allLined, fedLine, AfterChunk, fedChunk, verdict, verdictOf, AfterTrace, judgedTrace}
-use Rattle.judge.proofs.Feeds.{lined-alike, verdict-again}
-use Rattle.promises.proofs.Heads.{AgreeFrom}
+use Rattle.judge.specs.Feed.{Tables, tables, After, after, placeIn, remembered, carried, judgedEvent, judgedReading, judgedInPlace, judgedLine, judgedLines, fedLine, AfterChunk, fedChunk, verdict, verdictOf, AfterTrace, judgedTrace}
+use Rattle.judge.proofs.Feeds.{judgedLine-alike, verdict-again}
+use Rattle.promises.proofs.Singles.{AgreeFrom}
 use Rattle.promises.proofs.Traces.{remembered-later, further}
-use Rattle.promises.proofs.Numbers.{lined-numbered}
+use Rattle.promises.proofs.Numbers.{judged-numbered}
 
 -- ---- 3: a refused line
 
@@ -49,33 +48,33 @@ abbrev pub Spares : Tables → After → Type 0
 Spares t x = (x .answer ≡ 0 → ⊥) → OnlyVerdict t (x .left)
 
 module _ (t : Tables) where
-  carried-spares : (p : Plan) (w : Happening) (source target : List ℕ) → Spares t (carried p t w source target)
-  carried-spares (Refuse n) w source target n' = verdict-stored t n
-  carried-spares (Take s state) w source target n' = absurd (n' refl)
+  carried-spares : (p : Plan) (e : Event) → Spares t (carried p t e)
+  carried-spares (Refuse n) e n' = verdict-stored t n
+  carried-spares (Take s state) e n' = absurd (n' refl)
 
-  read-spares : (r : Reading) (l : List ℕ) → Spares t (readLined r t l)
-  unfolding eventLined
+  read-spares : (r : Reading) (l : List ℕ) → Spares t (judgedReading r t l)
+  unfolding judgedEvent
   read-spares Version l n = absurd (n refl)
   read-spares Comment l n = absurd (n refl)
   read-spares (TimeScale s) l n = absurd (n refl)
   read-spares Creator l n = absurd (n refl)
   read-spares CreationDate l n = absurd (n refl)
   read-spares (EventLine e count) l n =
-      let w = happeningOf e count in
-      carried-spares (planOf (t .names) (t .nums) (t .ticks) (asEvent w (fieldOf l 2) (fieldOf l 5))) w (fieldOf l 2) (fieldOf l 5) n
+      let event = eventFrom e (fieldOf l 2) (fieldOf l 5) count in
+      carried-spares (planOf (t .names) (t .nums) (t .ticks) event) event n
   read-spares (Refused m) l n = absurd (n refl)
 
-  placed-spares : (m : ℕ) (l : List ℕ) → Spares t (placedLine m t l)
-  unfolding placedLine
+  placed-spares : (m : ℕ) (l : List ℕ) → Spares t (judgedInPlace m t l)
+  unfolding judgedInPlace
   placed-spares zero l = read-spares (readLine l) l
   placed-spares (suc m) l = λ n. verdict-stored t (suc m)
 
-  pub lined-spares : (l : List ℕ) → Spares t (lined t l)
-  unfolding lined
-  lined-spares l = by-verdict (eqb (verdictNumber (t .nums)) 0)
+  pub judged-spares : (l : List ℕ) → Spares t (judgedLine t l)
+  unfolding judgedLine
+  judged-spares l = by-verdict (eqb (verdictNumber (t .nums)) 0)
     where
       by-verdict : (b : Bool) →
-          Spares t (cond b (placedLine (answerByReading (placeIn (t .nums)) (readLine l)) t l) (after (verdictNumber (t .nums)) (t .names) (t .nums) (t .ticks)))
+          Spares t (cond b (judgedInPlace (answerByReading (placeIn (t .nums)) (readLine l)) t l) (after (verdictNumber (t .nums)) (t .names) (t .nums) (t .ticks)))
       by-verdict true = placed-spares (answerByReading (placeIn (t .nums)) (readLine l)) l
       by-verdict false = λ n. unchanged t
 
@@ -83,8 +82,8 @@ module _ (t : Tables) where
   unfolding fedLine
   refused-spares l = by-answer (tableAnswer (t .names) (t .nums) (t .ticks))
     where
-      by-answer : (m : ℕ) → Spares t (ifZero m (lined t l) (after m (t .names) (t .nums) (t .ticks)))
-      by-answer zero = lined-spares l
+      by-answer : (m : ℕ) → Spares t (ifZero m (judgedLine t l) (after m (t .names) (t .nums) (t .ticks)))
+      by-answer zero = judged-spares l
       by-answer (suc m) = λ n. unchanged t
 
 -- ---- further lines
@@ -100,7 +99,7 @@ again t q v l = rw q (sym (verdict-again t l v))
 -- each line is answered 0
 abbrev pub AllTaken : Tables → List (List ℕ) → Type 0
 AllTaken t [] = Unit {0}
-AllTaken t (l ∷ ls) = (lined t l .answer ≡ 0) × AllTaken (lined t l .left) ls
+AllTaken t (l ∷ ls) = (judgedLine t l .answer ≡ 0) × AllTaken (judgedLine t l .left) ls
 
 -- the lines before the first that is refused are taken, and what follows them changes nothing but the verdict
 pub record StopsAfter (t : Tables) (ls : List (List ℕ)) : Type 0 where
@@ -108,16 +107,16 @@ pub record StopsAfter (t : Tables) (ls : List (List ℕ)) : Type 0 where
   pub rest : List (List ℕ)
   pub splits : ls ≡ taken ++ rest
   pub all-taken : AllTaken t taken
-  pub spares : OnlyVerdict (allLined t taken) (allLined t ls)
+  pub spares : OnlyVerdict (judgedLines t taken) (judgedLines t ls)
 
 pub lines-spare : (t : Tables) → length (t .nums) ≡ numsSize → verdictNumber (t .nums) ≤ lastRefusal → (ls : List (List ℕ)) → StopsAfter t ls
-unfolding allLined
+unfolding judgedLines
 lines-spare t z m [] = record { taken = []; rest = []; splits = refl; all-taken = tt; spares = unchanged t }
 lines-spare t z m (l ∷ ls) =
-    let x = lined-numbered t z m l in
-    by-answer (lined t l .answer) refl (x .kept) (lines-spare (lined t l .left) (lined-alike t l .nums-kept ∙ z) (rw (x .kept) (x .most)) ls)
+    let x = judged-numbered t z m l in
+    by-answer (judgedLine t l .answer) refl (x .kept) (lines-spare (judgedLine t l .left) (judgedLine-alike t l .nums-kept ∙ z) (rw (x .kept) (x .most)) ls)
   where
-    by-answer : (n : ℕ) → lined t l .answer ≡ n → verdictNumber (lined t l .left .nums) ≡ lined t l .answer → StopsAfter (lined t l .left) ls → StopsAfter t (l ∷ ls)
+    by-answer : (n : ℕ) → judgedLine t l .answer ≡ n → verdictNumber (judgedLine t l .left .nums) ≡ judgedLine t l .answer → StopsAfter (judgedLine t l .left) ls → StopsAfter t (l ∷ ls)
     by-answer zero q k s = record {
       taken = l ∷ s .taken;
       rest = s .rest;
@@ -130,7 +129,7 @@ lines-spare t z m (l ∷ ls) =
       rest = l ∷ ls;
       splits = refl;
       all-taken = tt;
-      spares = rw (further (lined t l .left) (λ e. omega (arith, k, q)) ls) (lined-spares t l (λ e. omega (arith, q)));
+      spares = rw (further (judgedLine t l .left) (λ e. omega (arith, k, q)) ls) (judged-spares t l (λ e. omega (arith, q)));
     }
 
 -- ---- 4: 15 and 16 change nothing
@@ -149,9 +148,6 @@ module _ (t : Tables) (n : ℕ) (q : tableAnswer (t .names) (t .nums) (t .ticks)
   verdict-untold = rw q
 
 -- ---- 6: no second answer and no second table
-
-pub fresh-unique : (names nums ticks : List ℕ) (x y : Cleared) → x ≡ clearedOf names nums ticks → y ≡ clearedOf names nums ticks → x ≡ y
-fresh-unique names nums = unique (clearedOf names nums)
 
 pub feed-unique : (t : Tables) (l : List ℕ) (x y : After) → x ≡ fedLine t l → y ≡ fedLine t l → x ≡ y
 feed-unique t = unique (fedLine t)

@@ -6,7 +6,6 @@ use mathlib.Core.List.{List, _∷_}
 use Prim.Native.Nat.{ℕ, _+_, _<_}
 use native.Mathlib.Omega.{arith}
 use lib.Dec.{eqb}
-use lib.ListN.{length}
 use Rattle.text.specs.Bytes.{sameBytes}
 use Rattle.text.proofs.Words.{same-eq, same-refl}
 use Rattle.rules.specs.Lists.{any, oneIf}
@@ -19,22 +18,20 @@ use Rattle.rules.specs.Lawful.{Fits}
 use Rattle.rules.proofs.Tests.{both, clash}
 use Rattle.rules.proofs.Answers.{Passed, room-fits}
 use Rattle.rules.proofs.CoreWords.{on-process, gives-only}
-use Rattle.tables.specs.Entry.{nameRows, kindAt, markAt, numberAt, numberedAt}
+use Rattle.tables.specs.Entry.{nameRows, kindAt, standingAt, numberAt, numberedAt}
 use Rattle.rules.proofs.CoreClasses.{class-on}
-use Rattle.decide.specs.declared.happening.Happening.{Happening}
-use Rattle.decide.specs.Happening.{asEvent}
 use Rattle.store.specs.Store.{coreRow, targetRow, takenNums}
 use Rattle.rules.proofs.Tracked.{process-tracked}
 use Rattle.judge.specs.Feed.{Tables}
 use Rattle.promises.specs.Places.{rowOf}
 use Rattle.promises.specs.Shown.{Shown}
-use Rattle.promises.specs.Taken.{sightIn}
+use Rattle.promises.specs.Taken.{lookedUpIn}
 use Rattle.promises.proofs.Places.{place-bound, one-row}
 use Rattle.promises.proofs.Grown.{newSource, newTarget, instances-tracked, source-named, target-named, source-row-new}
 use Rattle.promises.proofs.Lookups.{new-core, new-name, core-row, target-row}
 use Rattle.promises.proofs.Untold.{semaphore-tracked, activates-instances}
 use Rattle.promises.proofs.Columns.{isNewCore, isNewTarget}
-use Rattle.promises.proofs.Entries.{orNone, kind-taken, mark-taken, number-taken, numbered-taken}
+use Rattle.promises.proofs.Entries.{orNone, kind-taken, standing-taken, number-taken, numbered-taken}
 
 -- ---- the lists of the longer history fit
 
@@ -67,13 +64,13 @@ module _ (h : List Event) (t : Tables) (s : Shown h t) (e : Event) (f : Passed h
   row-bound n q = omega (arith, place-bound (sameBytes n) (names (e ∷ h)) q, room h e f .names-fit)
 
   module _ (n : List ℕ) (q : any (sameBytes n) (names (e ∷ h)) ≡ true) where
-    at-target : (b : Bool) → (b ≡ true → isTracked (e .kind) ≡ true) → b && eqb (rowOf (e ∷ h) n) (targetRow (t .nums) (sightIn h t e)) ≡ b && sameBytes n (e .target)
+    at-target : (b : Bool) → (b ≡ true → isTracked (e .kind) ≡ true) → b && eqb (rowOf (e ∷ h) n) (targetRow (t .nums) (lookedUpIn h t e)) ≡ b && sameBytes n (e .target)
     at-target b k =
         where-true b _ _
         (λ u. ap (eqb (rowOf (e ∷ h) n)) (target-row h t s e (f .kinds) (k u))
         ∙ one-row sameBytes same-eq same-refl n (e .target) (names (e ∷ h)) q (target-named h e (k u)))
 
-    at-core : not (eqb (coreClass (e .kind) (e .word)) 0) && eqb (rowOf (e ∷ h) n) (coreRow (t .nums) (sightIn h t e)) ≡ on n e
+    at-core : not (eqb (coreClass (e .kind) (e .word)) 0) && eqb (rowOf (e ∷ h) n) (coreRow (t .nums) (lookedUpIn h t e)) ≡ on n e
     at-core =
         rw (class-on e)
         (where-true (onCore e) _ _
@@ -85,14 +82,14 @@ module _ (h : List Event) (t : Tables) (s : Shown h t) (e : Event) (f : Passed h
     is-one false = refl
 
     -- the name is new as the line's source, as its target
-    pub at-new-core : isNewCore (t .nums) (sightIn h t e) (rowOf (e ∷ h) n) ≡ newSource h e && sameBytes n (e .source)
+    pub at-new-core : isNewCore (t .nums) (lookedUpIn h t e) (rowOf (e ∷ h) n) ≡ newSource h e && sameBytes n (e .source)
     at-new-core =
         rw (new-core h t e, is-one (newSource h e))
         (where-true (newSource h e) _ _
-        (λ u. ap (eqb (rowOf (e ∷ h) n)) (s .head .names-counted ∙ sym (source-row-new h e (f .kinds) u))
+        (λ u. ap (eqb (rowOf (e ∷ h) n)) (s .singles .names-counted ∙ sym (source-row-new h e (f .kinds) u))
         ∙ one-row sameBytes same-eq same-refl n (e .source) (names (e ∷ h)) q (source-named h e (both (onCore e) _ u .0))))
 
-    pub at-new-target : isNewTarget (t .nums) (sightIn h t e) (e .kind) (rowOf (e ∷ h) n) ≡ newTarget h e && sameBytes n (e .target)
+    pub at-new-target : isNewTarget (t .nums) (lookedUpIn h t e) (e .kind) (rowOf (e ∷ h) n) ≡ newTarget h e && sameBytes n (e .target)
     at-new-target = rw (new-name h t e, is-one (newTarget h e)) (at-target (newTarget h e) (λ u. both (isTracked (e .kind)) _ u .0))
 
 -- ---- the entries of a row
@@ -110,19 +107,16 @@ cond-first : (b : Bool) (x y z : ℕ) → (b ≡ true → x ≡ y) → cond b x 
 cond-first true x y z f = f refl
 cond-first false x y z f = refl
 
-module _ (h : List Event) (t : Tables) (s : Shown h t) (w : Happening) (source target : List ℕ) (f : Passed h (asEvent w source target)) (state : ℕ) where
-  abbrev e : Event
-  e = asEvent w source target
-
+module _ (h : List Event) (t : Tables) (s : Shown h t) (e : Event) (f : Passed h e) (state : ℕ) where
   abbrev next : List ℕ
-  next = takenNums (t .nums) (sightIn h t e) state w (length source) (length target)
+  next = takenNums (t .nums) (lookedUpIn h t e) state e
 
-  pub target-bound : isTracked (w .kind) ≡ true → targetRow (t .nums) (sightIn h t e) < nameRows
-  target-bound k = rw (target-row h t s e (f .kinds) k) (row-bound h t s e f target (target-named h e k))
+  pub target-bound : isTracked (e .kind) ≡ true → targetRow (t .nums) (lookedUpIn h t e) < nameRows
+  target-bound k = rw (target-row h t s e (f .kinds) k) (row-bound h t s e f (e .target) (target-named h e k))
 
   -- an event on a core is a process's, and its target has a row
-  holder-bound : eqb (coreClass (w .kind) (w .word)) 0 ≡ false → targetRow (t .nums) (sightIn h t e) < nameRows
-  holder-bound k = target-bound (process-tracked (w .kind) (on-process e (sym (class-on e) ∙ ap not k)))
+  holder-bound : eqb (coreClass (e .kind) (e .word)) 0 ≡ false → targetRow (t .nums) (lookedUpIn h t e) < nameRows
+  holder-bound k = target-bound (process-tracked (e .kind) (on-process e (sym (class-on e) ∙ ap not k)))
 
   module _ (n : List ℕ) (q : any (sameBytes n) (names (e ∷ h)) ≡ true) where
     abbrev row : ℕ
@@ -132,41 +126,41 @@ module _ (h : List Event) (t : Tables) (s : Shown h t) (w : Happening) (source t
     bound = row-bound h t s e f n q
 
     new-or-old : (u v old : ℕ) →
-        cond (isNewTarget (t .nums) (sightIn h t e) (w .kind) row) u (cond (isNewCore (t .nums) (sightIn h t e) row) v old) ≡ orOld h e n u v old
+        cond (isNewTarget (t .nums) (lookedUpIn h t e) (e .kind) row) u (cond (isNewCore (t .nums) (lookedUpIn h t e) row) v old) ≡ orOld h e n u v old
     new-or-old u v old = rw (at-new-target h t s e f n q, at-new-core h t s e f n q)
 
-    pub kind-at : kindAt next row ≡ orOld h e n (w .kind) core (kindAt (t .nums) row)
-    kind-at = kind-taken (t .nums) (s .nums-size) (sightIn h t e) state w (length source) (length target) row bound ∙ new-or-old (w .kind) core (kindAt (t .nums) row)
+    pub kind-at : kindAt next row ≡ orOld h e n (e .kind) core (kindAt (t .nums) row)
+    kind-at = kind-taken (t .nums) (s .nums-size) (lookedUpIn h t e) state e row bound ∙ new-or-old (e .kind) core (kindAt (t .nums) row)
 
-    pub mark-at : markAt next row ≡
-        cond (on n e) (cond (gives (w .word)) 1 (rowOf (e ∷ h) target + 2))
-        (cond (eqb (w .kind) semaphore && sameBytes n target) state (orOld h e n 0 0 (markAt (t .nums) row)))
-    unfolding sightIn
-    mark-at =
-        mark-taken (t .nums) (s .nums-size) (sightIn h t e) state w (length source) (length target) holder-bound row bound
-        ∙ rw (at-core h t s e f n q, at-target h t s e f n q (eqb (w .kind) semaphore) (semaphore-tracked (w .kind)), new-or-old 0 0 (markAt (t .nums) row))
-        (cond-first (on n e) _ _ _ (λ o. let c = both (onCore e) _ o .0 in rw (class-gives e c, target-row h t s e (f .kinds) (process-tracked (w .kind) (on-process e c)))))
+    pub standing-at : standingAt next row ≡
+        cond (on n e) (cond (gives (e .word)) 1 (rowOf (e ∷ h) (e .target) + 2))
+        (cond (eqb (e .kind) semaphore && sameBytes n (e .target)) state (orOld h e n 0 0 (standingAt (t .nums) row)))
+    unfolding lookedUpIn
+    standing-at =
+        standing-taken (t .nums) (s .nums-size) (lookedUpIn h t e) state e holder-bound row bound
+        ∙ rw (at-core h t s e f n q, at-target h t s e f n q (eqb (e .kind) semaphore) (semaphore-tracked (e .kind)), new-or-old 0 0 (standingAt (t .nums) row))
+        (cond-first (on n e) _ _ _ (λ o. let c = both (onCore e) _ o .0 in rw (class-gives e c, target-row h t s e (f .kinds) (process-tracked (e .kind) (on-process e c)))))
 
     given-or-old : (u v old : ℕ) →
-        cond (eqb (w .kind) semaphore && eqb row (targetRow (t .nums) (sightIn h t e))) u
-        (cond (activates (w .kind) (w .word) && eqb row (targetRow (t .nums) (sightIn h t e))) v (orNone (t .nums) (sightIn h t e) (w .kind) row old))
+        cond (eqb (e .kind) semaphore && eqb row (targetRow (t .nums) (lookedUpIn h t e))) u
+        (cond (activates (e .kind) (e .word) && eqb row (targetRow (t .nums) (lookedUpIn h t e))) v (orNone (t .nums) (lookedUpIn h t e) (e .kind) row old))
         ≡ orGiven e n u v (orOld h e n 0 0 old)
     given-or-old u v old =
         rw (
-          at-target h t s e f n q (eqb (w .kind) semaphore) (semaphore-tracked (w .kind)),
-          at-target h t s e f n q (activates (w .kind) (w .word)) (λ a. instances-tracked (w .kind) (activates-instances (w .kind) (w .word) a)),
+          at-target h t s e f n q (eqb (e .kind) semaphore) (semaphore-tracked (e .kind)),
+          at-target h t s e f n q (activates (e .kind) (e .word)) (λ a. instances-tracked (e .kind) (activates-instances (e .kind) (e .word) a)),
           new-or-old 0 0 old,
         )
 
     pub number-at :
-        let old = orGiven e n (w .count) (w .number) (orOld h e n 0 0 (numberAt (t .nums) row)) in
-        numberAt next row ≡ cond (on n e) (cond (gives (w .word)) old (w .number)) old
-    unfolding sightIn
+        let old = orGiven e n (e .count) (e .targetInstance) (orOld h e n 0 0 (numberAt (t .nums) row)) in
+        numberAt next row ≡ cond (on n e) (cond (gives (e .word)) old (e .targetInstance)) old
+    unfolding lookedUpIn
     number-at =
-        number-taken (t .nums) (s .nums-size) (sightIn h t e) state w (length source) (length target) holder-bound row bound
-        ∙ rw (at-core h t s e f n q, given-or-old (w .count) (w .number) (numberAt (t .nums) row))
+        number-taken (t .nums) (s .nums-size) (lookedUpIn h t e) state e holder-bound row bound
+        ∙ rw (at-core h t s e f n q, given-or-old (e .count) (e .targetInstance) (numberAt (t .nums) row))
         (cond-first (on n e) _ _ _ (λ o. rw (class-gives e (both (onCore e) _ o .0))))
 
     pub numbered-at : numberedAt next row ≡ orGiven e n 1 1 (orOld h e n 0 0 (numberedAt (t .nums) row))
     numbered-at =
-        numbered-taken (t .nums) (s .nums-size) (sightIn h t e) state w (length source) (length target) row bound ∙ given-or-old 1 1 (numberedAt (t .nums) row)
+        numbered-taken (t .nums) (s .nums-size) (lookedUpIn h t e) state e row bound ∙ given-or-old 1 1 (numberedAt (t .nums) row)

@@ -63,7 +63,7 @@ module _ (h : List Event) (a : Accepted h) (met : AllMet h) (t : Tables) (s : Sh
 
   rows-shown : (x : Section) → rowsIn x (t .names) (t .nums) (t .ticks) ≡ sectionRows x (only (isIn x h) (names h)) h
   unfolding rowsIn rowsTo
-  rows-shown x = rw (s .head .names-counted) (by-rows sameBytes same-eq same-refl (names h) (names-distinct h) P (none x) step)
+  rows-shown x = rw (s .singles .names-counted) (by-rows sameBytes same-eq same-refl (names h) (names-distinct h) P (none x) step)
     where
       upTo : ℕ → List Row
       upTo = rowsTo x (t .names) (t .nums) (t .ticks)
@@ -95,4 +95,4 @@ module _ (h : List Event) (a : Accepted h) (met : AllMet h) (t : Tables) (s : Sh
   sheet-shown = λ i. record { span = whole i; cores = rows-shown Cores i; processes = rows-shown Processes i }
     where
       whole : lastTime (t .ticks) - firstTime (t .ticks) ≡ span h
-      whole = ap₂ _-_ (s .head .last) (s .head .first) ∙ span-of h
+      whole = ap₂ _-_ (s .singles .last) (s .singles .first) ∙ span-of h

@@ -10,12 +10,11 @@ use Rattle.rules.specs.Event.{Event}
 use Rattle.rules.specs.Verdict.{Accepted}
 use Rattle.rules.proofs.Answers.{Passed}
 use Rattle.tables.specs.Entry.{namesSize, numsSize, ticksSize}
-use Rattle.decide.specs.declared.happening.Happening.{Happening}
-use Rattle.decide.specs.Happening.{asEvent}
+use Rattle.store.specs.Store.{takenTables}
 use Rattle.store.proofs.Stores.{length-takenNames, length-takenNums, length-takenTicks}
 use Rattle.judge.specs.Feed.{Tables}
-use Rattle.promises.specs.Shown.{firstOf, startedOf, HeadShown, Shown}
-use Rattle.promises.specs.Taken.{sightIn, takenBy}
+use Rattle.promises.specs.Shown.{firstOf, startedOf, SinglesShown, Shown}
+use Rattle.promises.specs.Taken.{lookedUpIn}
 use Rattle.promises.proofs.Grown.{AllMet, names-length, cores-length, instances-length}
 use Rattle.promises.proofs.Lookups.{new-core, new-name, new-instance}
 use Rattle.promises.proofs.Entries.{started-taken, names-taken, cores-taken, instances-taken}
@@ -27,37 +26,34 @@ first-time : (h : List Event) (e : Event) (started first : ℕ) → started ≡ 
 first-time [] e started first p q = rw p
 first-time (d ∷ h) e started first p q = rw p q
 
-module _ (h : List Event) (t : Tables) (s : Shown h t) (w : Happening) (source target : List ℕ) (state : ℕ) where
-  abbrev e : Event
-  e = asEvent w source target
-
+module _ (h : List Event) (t : Tables) (s : Shown h t) (e : Event) (state : ℕ) where
   abbrev after : Tables
-  after = takenBy t (sightIn h t e) state w source target
+  after = takenTables t (lookedUpIn h t e) state e
 
   pub names-size-next : length (after .names) ≡ namesSize
-  names-size-next = length-takenNames (t .names) (t .nums) (sightIn h t e) e ∙ s .names-size
+  names-size-next = length-takenNames (t .names) (t .nums) (lookedUpIn h t e) (e .kind) (e .source) (e .target) ∙ s .names-size
 
   pub nums-size-next : length (after .nums) ≡ numsSize
-  nums-size-next = length-takenNums (t .nums) (sightIn h t e) state w (length source) (length target) ∙ s .nums-size
+  nums-size-next = length-takenNums (t .nums) (lookedUpIn h t e) state e ∙ s .nums-size
 
   pub ticks-size-next : length (after .ticks) ≡ ticksSize
-  ticks-size-next = length-takenTicks (t .ticks) (t .nums) (sightIn h t e) (w .kind) (w .time) ∙ s .ticks-size
+  ticks-size-next = length-takenTicks (t .ticks) (t .nums) (lookedUpIn h t e) (e .kind) (e .time) ∙ s .ticks-size
 
-  pub head-next : Accepted h → AllMet h → Passed h e → HeadShown (e ∷ h) (after .nums) (after .ticks)
-  head-next a met f =
+  pub singles-next : Accepted h → AllMet h → Passed h e → SinglesShown (e ∷ h) (after .nums) (after .ticks)
+  singles-next a met f =
       let fit = room h e f in
-      let old = s .head in
+      let old = s .singles in
       record {
-        started = started-taken (t .nums) (s .nums-size) (sightIn h t e) state w (length source) (length target);
+        started = started-taken (t .nums) (s .nums-size) (lookedUpIn h t e) state e;
         names-counted =
-            names-taken (t .nums) (s .nums-size) (sightIn h t e) state w (length source) (length target)
+            names-taken (t .nums) (s .nums-size) (lookedUpIn h t e) state e
             ∙ rw (new-core h t e, new-name h t e) (omega (arith, old .names-counted, names-length h e (f .kinds), fit .names-fit));
         cores-counted =
-            cores-taken (t .nums) (s .nums-size) (sightIn h t e) state w (length source) (length target)
+            cores-taken (t .nums) (s .nums-size) (lookedUpIn h t e) state e
             ∙ rw (new-core h t e) (omega (arith, old .cores-counted, cores-length h e (f .kinds), fit .cores-fit));
         instances-counted =
-            instances-taken (t .nums) (s .nums-size) (sightIn h t e) state w (length source) (length target)
+            instances-taken (t .nums) (s .nums-size) (lookedUpIn h t e) state e
             ∙ rw (new-instance h a met t s e (f .kinds)) (omega (arith, old .instances-counted, instances-length h e, fit .instances-fit));
-        first = first-taken (t .ticks) (t .nums) (s .ticks-size) (sightIn h t e) (w .kind) (w .time) ∙ first-time h e _ _ (old .started) (old .first);
-        last = last-taken (t .ticks) (t .nums) (s .ticks-size) (sightIn h t e) (w .kind) (w .time);
+        first = first-taken (t .ticks) (t .nums) (s .ticks-size) (lookedUpIn h t e) (e .kind) (e .time) ∙ first-time h e _ _ (old .started) (old .first);
+        last = last-taken (t .ticks) (t .nums) (s .ticks-size) (lookedUpIn h t e) (e .kind) (e .time);
       }

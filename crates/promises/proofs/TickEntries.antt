@@ -12,26 +12,26 @@ use Rattle.tables.specs.declared.find.Found.{Found}
 use Rattle.tables.specs.declared.find.Found.the-variants.{At, Nothing}
 use Rattle.tables.specs.Entry.{nameRows, ticksSize, firstIndex, lastIndex, startedEntry, nameCount, firstTime, lastTime, sinceAt}
 use Rattle.tables.proofs.Stores.{single, before}
-use Rattle.decide.specs.declared.sight.Sight.{Sight}
-use Rattle.decide.specs.Known.{oneNew, newCore, newName}
+use Rattle.decide.specs.declared.look.LookedUp.{LookedUp}
+use Rattle.decide.specs.Known.{rowsAdded, newCore, newName}
 use Rattle.store.specs.Store.{rowOr, coreRow, targetRow, storeSums, settled, withTimes, withSums, takenTicks}
 use Rattle.store.proofs.Stores.{length-storeSums, length-withSums, length-settled}
 use Rattle.promises.proofs.TickStores.{Sums, sums, sumsAt, begun, coreSettled, targetSettled, settled-off, settledAt, settled-sums, either-kept, first-begun, first-settled}
 
 -- ---- what the tables must have for the stores to be made: rows in range, and the core's and the target's apart
 
-pub record Rows (nums : List ℕ) (s : Sight) (kind : ℕ) : Type 0 where
+pub record Rows (nums : List ℕ) (s : LookedUp) (kind : ℕ) : Type 0 where
   pub core : eqb (s .class) 0 ≡ false → coreRow nums s < nameRows
   pub target : eqb (s .class) 0 ≡ false → targetRow nums s < nameRows
   pub apart : eqb (s .class) 0 ≡ false → coreRow nums s ≡ targetRow nums s → ⊥
   pub new-name : newName s kind ≡ 1 → targetRow nums s < nameRows
 
 -- a new core is the next name
-new-core : (nums : List ℕ) (s : Sight) → newCore s ≡ 1 → (eqb (s .class) 0 ≡ false) × (coreRow nums s ≡ nameCount nums)
+new-core : (nums : List ℕ) (s : LookedUp) → newCore s ≡ 1 → (eqb (s .class) 0 ≡ false) × (coreRow nums s ≡ nameCount nums)
 unfolding coreRow
 new-core nums s q = by-case (eqb (s .class) 0) (s .source) q
   where
-    by-case : (b : Bool) (f : Found) → oneNew (not b) f ≡ 1 → (b ≡ false) × (rowOr f (nameCount nums) ≡ nameCount nums)
+    by-case : (b : Bool) (f : Found) → rowsAdded (not b) f ≡ 1 → (b ≡ false) × (rowOr f (nameCount nums) ≡ nameCount nums)
     by-case true f q = absurd (omega (arith, q))
     by-case false (At i) q = absurd (omega (arith, q))
     by-case false Nothing q = (refl, refl)
@@ -40,7 +40,7 @@ new-core nums s q = by-case (eqb (s .class) 0) (s .source) q
 abbrev pub unknownBefore : List ℕ → List ℕ → ℕ → ℕ
 unknownBefore ticks nums time = cond (eqb (startedEntry nums) 0) 0 (time - firstTime ticks)
 
-module _ (ticks nums : List ℕ) (z : length ticks ≡ ticksSize) (s : Sight) (kind time : ℕ) where
+module _ (ticks nums : List ℕ) (z : length ticks ≡ ticksSize) (s : LookedUp) (kind time : ℕ) where
   first-sums : firstTime (withSums ticks nums s kind time) ≡ firstTime ticks
   unfolding withSums
   first-sums =

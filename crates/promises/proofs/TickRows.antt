@@ -28,7 +28,7 @@ use Rattle.store.specs.Store.{coreRow, targetRow, takenTicks}
 use Rattle.judge.specs.Feed.{Tables}
 use Rattle.promises.specs.Places.{rowOf}
 use Rattle.promises.specs.Shown.{Shown}
-use Rattle.promises.specs.Taken.{sightIn}
+use Rattle.promises.specs.Taken.{lookedUpIn}
 use Rattle.promises.proofs.Places.{place-one}
 use Rattle.promises.proofs.Grown.{NameFrom, before, as-source, as-target}
 use Rattle.promises.proofs.Grown.{newTarget, name-stays, source-named, target-named, name-from, row-stays}
@@ -48,7 +48,7 @@ sinceSettled h e ticks = cond (any (sameBytes (e .source)) (names h)) (e .time -
 
 -- the ticks after the event
 abbrev pub ticksAfter : List Event → Tables → Event → List ℕ
-ticksAfter h t e = takenTicks (t .ticks) (t .nums) (sightIn h t e) (e .kind) (e .time)
+ticksAfter h t e = takenTicks (t .ticks) (t .nums) (lookedUpIn h t e) (e .kind) (e .time)
 
 pub core-tracked : (e : Event) → onCore e ≡ true → isTracked (e .kind) ≡ true
 core-tracked e o = process-tracked (e .kind) (on-process e o)
@@ -63,23 +63,23 @@ accepted-next h a e f = (rw (f .time, f .kinds, f .room, f .chart, f .number, f 
 
 module _ (h : List Event) (a : Accepted h) (t : Tables) (s : Shown h t) (e : Event) (f : Passed h e) where
   pub last-next : lastTime (ticksAfter h t e) ≡ e .time
-  last-next = last-taken (t .ticks) (t .nums) (s .ticks-size) (sightIn h t e) (e .kind) (e .time)
+  last-next = last-taken (t .ticks) (t .nums) (s .ticks-size) (lookedUpIn h t e) (e .kind) (e .time)
 
   -- ---- the rows stand as the stores want them
 
-  classed : eqb ((sightIn h t e) .class) 0 ≡ false → onCore e ≡ true
-  unfolding sightIn
+  classed : eqb ((lookedUpIn h t e) .class) 0 ≡ false → onCore e ≡ true
+  unfolding lookedUpIn
   classed q = sym (class-on e) ∙ rw q
 
-  class-some : onCore e ≡ true → eqb ((sightIn h t e) .class) 0 ≡ false
-  unfolding sightIn
+  class-some : onCore e ≡ true → eqb ((lookedUpIn h t e) .class) 0 ≡ false
+  unfolding lookedUpIn
   class-some o = not-true _ (class-on e ∙ o)
 
-  tracked-new : newName (sightIn h t e) (e .kind) ≡ 1 → (b : Bool) → newTarget h e ≡ b → isTracked (e .kind) ≡ true
+  tracked-new : newName (lookedUpIn h t e) (e .kind) ≡ 1 → (b : Bool) → newTarget h e ≡ b → isTracked (e .kind) ≡ true
   tracked-new q true w = both (isTracked (e .kind)) _ w .0
   tracked-new q false w = absurd (omega (arith, sym (new-name h t e ∙ ap oneIf w) ∙ q))
 
-  rows : Rows (t .nums) (sightIn h t e) (e .kind)
+  rows : Rows (t .nums) (lookedUpIn h t e) (e .kind)
   rows = record {
     core = λ q. let o = classed q in rw (core-row h t s e (f .kinds) o) (row-bound h t s e f (e .source) (source-named h e o));
     target = λ q. target-small (core-tracked e (classed q));
@@ -91,7 +91,7 @@ module _ (h : List Event) (a : Accepted h) (t : Tables) (s : Shown h t) (e : Eve
     new-name = λ q. target-small (tracked-new q (newTarget h e) refl);
   }
     where
-      target-small : isTracked (e .kind) ≡ true → targetRow (t .nums) (sightIn h t e) < nameRows
+      target-small : isTracked (e .kind) ≡ true → targetRow (t .nums) (lookedUpIn h t e) < nameRows
       target-small w = rw (target-row h t s e (f .kinds) w) (row-bound h t s e f (e .target) (target-named h e w))
 
   -- ---- a name that is neither the event's core nor its target
@@ -110,7 +110,7 @@ module _ (h : List Event) (a : Accepted h) (t : Tables) (s : Shown h t) (e : Eve
   pub name-kept : (n : List ℕ) → any (sameBytes n) (names h) ≡ true → on n e ≡ false → isTracked (e .kind) && sameBytes n (e .target) ≡ false →
       sumsAt (ticksAfter h t e) (rowOf (e ∷ h) n) ≡ sumsAt (t .ticks) (rowOf h n)
   name-kept n q o w =
-      row-kept (t .ticks) (t .nums) (s .ticks-size) (sightIn h t e) (e .kind) (e .time) rows (rowOf (e ∷ h) n) (row-bound h t s e f n (name-stays h e n q))
+      row-kept (t .ticks) (t .nums) (s .ticks-size) (lookedUpIn h t e) (e .kind) (e .time) rows (rowOf (e ∷ h) n) (row-bound h t s e f n (name-stays h e n q))
       (λ c. (not-source (classed c), not-target (core-tracked e (classed c))))
       (λ c. not-target (tracked-new c (newTarget h e) refl))
       ∙ ap (sumsAt (t .ticks)) (row-stays h e (f .kinds) n q)
@@ -118,10 +118,10 @@ module _ (h : List Event) (a : Accepted h) (t : Tables) (s : Shown h t) (e : Eve
       apart : (m : List ℕ) → any (sameBytes m) (names (e ∷ h)) ≡ true → sameBytes n m ≡ false → rowOf (e ∷ h) m ≡ rowOf (e ∷ h) n → ⊥
       apart m p d r = clash (sameBytes n m) (eq-same n m (place-one sameBytes same-eq same-refl n m (names (e ∷ h)) (name-stays h e n q) p (sym r))) d
 
-      not-source : onCore e ≡ true → coreRow (t .nums) (sightIn h t e) ≡ rowOf (e ∷ h) n → ⊥
+      not-source : onCore e ≡ true → coreRow (t .nums) (lookedUpIn h t e) ≡ rowOf (e ∷ h) n → ⊥
       not-source c r = apart (e .source) (source-named h e c) (rw c at o) (sym (core-row h t s e (f .kinds) c) ∙ r)
 
-      not-target : isTracked (e .kind) ≡ true → targetRow (t .nums) (sightIn h t e) ≡ rowOf (e ∷ h) n → ⊥
+      not-target : isTracked (e .kind) ≡ true → targetRow (t .nums) (lookedUpIn h t e) ≡ rowOf (e ∷ h) n → ⊥
       not-target c r = apart (e .target) (target-named h e c) (rw c at w) (sym (target-row h t s e (f .kinds) c) ∙ r)
 
   -- ---- the event's core
@@ -130,36 +130,36 @@ module _ (h : List Event) (a : Accepted h) (t : Tables) (s : Shown h t) (e : Eve
       sumsAt (ticksAfter h t e) (rowOf (e ∷ h) (e .source)) ≡ sums 0 0 (unknownBefore (t .ticks) (t .nums) (e .time)) (e .time)
   source-first o q =
       ap (sumsAt (ticksAfter h t e)) (sym (core-row h t s e (f .kinds) o))
-      ∙ core-new (t .ticks) (t .nums) (s .ticks-size) (sightIn h t e) (e .kind) (e .time) rows (new-core h t e ∙ rw (o, q))
+      ∙ core-new (t .ticks) (t .nums) (s .ticks-size) (lookedUpIn h t e) (e .kind) (e .time) rows (new-core h t e ∙ rw (o, q))
 
   pub source-settled : {class : ℕ} → onCore e ≡ true → any (sameBytes (e .source)) (names h) ≡ true → coreClass (e .kind) (e .word) ≡ class →
       sumsAt (ticksAfter h t e) (rowOf (e ∷ h) (e .source)) ≡ coreSettled class (e .time) (sumsAt (t .ticks) (rowOf h (e .source)))
-  unfolding sightIn
+  unfolding lookedUpIn
   source-settled o q c =
       let r = core-row h t s e (f .kinds) o in
       ap (sumsAt (ticksAfter h t e)) (sym r)
-      ∙ core-settled (t .ticks) (t .nums) (s .ticks-size) (sightIn h t e) (e .kind) (e .time) rows (class-some o) (new-core h t e ∙ rw (o, q))
+      ∙ core-settled (t .ticks) (t .nums) (s .ticks-size) (lookedUpIn h t e) (e .kind) (e .time) rows (class-some o) (new-core h t e ∙ rw (o, q))
       ∙ ap (λ (i : ℕ). coreSettled (coreClass (e .kind) (e .word)) (e .time) (sumsAt (t .ticks) i)) (r ∙ row-stays h e (f .kinds) (e .source) q)
       ∙ ap (λ (k : ℕ). coreSettled k (e .time) (sumsAt (t .ticks) (rowOf h (e .source)))) c
 
   -- ---- its target
 
   target-had : isTracked (e .kind) ≡ true →
-      cond (eqb (newName (sightIn h t e) (e .kind)) 1) (sums 0 0 0 0) (sumsAt (t .ticks) (targetRow (t .nums) (sightIn h t e))) ≡ ticksBefore h (t .ticks) (e .target)
+      cond (eqb (newName (lookedUpIn h t e) (e .kind)) 1) (sums 0 0 0 0) (sumsAt (t .ticks) (targetRow (t .nums) (lookedUpIn h t e))) ≡ ticksBefore h (t .ticks) (e .target)
   target-had w = by-test (any (sameBytes (e .target)) (names h)) refl
     where
       by-test : (b : Bool) → any (sameBytes (e .target)) (names h) ≡ b →
-          cond (eqb (newName (sightIn h t e) (e .kind)) 1) (sums 0 0 0 0) (sumsAt (t .ticks) (targetRow (t .nums) (sightIn h t e)))
+          cond (eqb (newName (lookedUpIn h t e) (e .kind)) 1) (sums 0 0 0 0) (sumsAt (t .ticks) (targetRow (t .nums) (lookedUpIn h t e)))
           ≡ cond b (sumsAt (t .ticks) (rowOf h (e .target))) (sums 0 0 0 0)
       by-test true q = rw (new-name h t e, w, q) (ap (sumsAt (t .ticks)) (target-row h t s e (f .kinds) w ∙ row-stays h e (f .kinds) (e .target) q))
       by-test false q = rw (new-name h t e, w, q)
 
   source-had : onCore e ≡ true →
-      cond (eqb (newCore (sightIn h t e)) 1) 0 (e .time - sinceAt (t .ticks) (coreRow (t .nums) (sightIn h t e))) ≡ sinceSettled h e (t .ticks)
+      cond (eqb (newCore (lookedUpIn h t e)) 1) 0 (e .time - sinceAt (t .ticks) (coreRow (t .nums) (lookedUpIn h t e))) ≡ sinceSettled h e (t .ticks)
   source-had o = by-test (any (sameBytes (e .source)) (names h)) refl
     where
       by-test : (b : Bool) → any (sameBytes (e .source)) (names h) ≡ b →
-          cond (eqb (newCore (sightIn h t e)) 1) 0 (e .time - sinceAt (t .ticks) (coreRow (t .nums) (sightIn h t e)))
+          cond (eqb (newCore (lookedUpIn h t e)) 1) 0 (e .time - sinceAt (t .ticks) (coreRow (t .nums) (lookedUpIn h t e)))
           ≡ cond b (e .time - sinceAt (t .ticks) (rowOf h (e .source))) 0
       by-test true q =
           rw (new-core h t e, o, q) (ap (λ (i : ℕ). e .time - sinceAt (t .ticks) i) (core-row h t s e (f .kinds) o ∙ row-stays h e (f .kinds) (e .source) q))
@@ -167,11 +167,11 @@ module _ (h : List Event) (a : Accepted h) (t : Tables) (s : Shown h t) (e : Eve
 
   target-next : isTracked (e .kind) ≡ true → sumsAt (ticksAfter h t e) (rowOf (e ∷ h) (e .target))
       ≡ targetSettled (coreClass (e .kind) (e .word)) (sinceSettled h e (t .ticks)) (ticksBefore h (t .ticks) (e .target))
-  unfolding sightIn
+  unfolding lookedUpIn
   target-next w =
       let r = target-row h t s e (f .kinds) w in
       ap (sumsAt (ticksAfter h t e)) (sym r)
-      ∙ target-settled (t .ticks) (t .nums) (s .ticks-size) (sightIn h t e) (e .kind) (e .time) rows (rw r (row-bound h t s e f (e .target) (target-named h e w)))
+      ∙ target-settled (t .ticks) (t .nums) (s .ticks-size) (lookedUpIn h t e) (e .kind) (e .time) rows (rw r (row-bound h t s e f (e .target) (target-named h e w)))
       ∙ settled-with (coreClass (e .kind) (e .word)) (λ q. source-had (giving-on-core e q)) (target-had w)
     where
       settled-with : (class : ℕ) {u v : ℕ} {x y : Sums} → (eqb class 2 ≡ true → u ≡ v) → x ≡ y → targetSettled class u x ≡ targetSettled class v y

@@ -24,11 +24,11 @@ use Rattle.rules.proofs.Tests.{clash}
 use Rattle.rules.proofs.Tracked.{kind-named, named-kind}
 use Rattle.tables.specs.declared.find.Found.{Found}
 use Rattle.tables.specs.declared.find.Found.the-variants.{At, Nothing}
-use Rattle.tables.specs.Entry.{Column, column, entryAt, nameRows, instanceRows, kindColumn, markColumn, numberColumn, numberedColumn, stateColumn, kindAt}
-use Rattle.decide.specs.Known.{entryOf, kindIn, markIn, numberIn, numberKnown}
+use Rattle.tables.specs.Entry.{Column, column, entryAt, nameRows, instanceRows, kindColumn, standingColumn, numberColumn, numberedColumn, stateColumn, kindAt}
+use Rattle.decide.specs.Known.{entryOf, kindIn, standingIn, numberIn, numberKnown}
 use Rattle.judge.specs.Feed.{Tables}
 use Rattle.promises.specs.Places.{place, seek, rowOf}
-use Rattle.promises.specs.Shown.{Shown, coreMark, theSemaphore, numberOf}
+use Rattle.promises.specs.Shown.{Shown, coreStanding, theSemaphore, numberOf}
 use Rattle.promises.specs.Taken.{InstanceFound}
 use Rattle.promises.proofs.Places.{place-bound}
 use Rattle.promises.proofs.Grown.{AllMet, name-kind, core-unknown}
@@ -84,12 +84,12 @@ module _ (h : List Event) (a : Accepted h) (t : Tables) (s : Shown h t) where
     kind-there : (k : ℕ) → Only (kindOf n h) k → any (sameBytes n) (names h) ≡ true → kindAt (t .nums) (rowOf h n) ≡ k
     kind-there k o q = o (kindAt (t .nums) (rowOf h n)) (s .each-name n q .kind)
 
-    pub core-told : Only (kindOf n h) core → markIn (t .nums) (seek (sameBytes n) (names h)) ≡ coreMark h (coreAt n h)
+    pub core-told : Only (kindOf n h) core → standingIn (t .nums) (seek (sameBytes n) (names h)) ≡ coreStanding h (coreAt n h)
     core-told d = by-test (any (sameBytes n) (names h)) refl
       where
-        by-test : (b : Bool) → any (sameBytes n) (names h) ≡ b → markIn (t .nums) (seek (sameBytes n) (names h)) ≡ coreMark h (coreAt n h)
-        by-test true q = in-row (markColumn .base) q ∙ s .each-name n q .mark .of-core (eq-eqb _ core (kind-there core d q))
-        by-test false q = in-none markColumn q ∙ sym (ap (coreMark h) (core-unknown n h a (λ p. clash _ (named-kind h n core p _ refl) q)))
+        by-test : (b : Bool) → any (sameBytes n) (names h) ≡ b → standingIn (t .nums) (seek (sameBytes n) (names h)) ≡ coreStanding h (coreAt n h)
+        by-test true q = in-row (standingColumn .base) q ∙ s .each-name n q .standing .of-core (eq-eqb _ core (kind-there core d q))
+        by-test false q = in-none standingColumn q ∙ sym (ap (coreStanding h) (core-unknown n h a (λ p. clash _ (named-kind h n core p _ refl) q)))
 
     -- the number of the instance that holds a core
     pub holder-told : (x : Instance) → coreAt n h ≡ held x → numberIn (t .nums) (seek (sameBytes n) (names h)) ≡ x .number
@@ -97,12 +97,12 @@ module _ (h : List Event) (a : Accepted h) (t : Tables) (s : Shown h t) where
         let q = named-kind h n core (held-core h a n x p) _ refl in
         in-row (numberColumn .base) q ∙ s .each-name n q .holder x p
 
-    pub semaphore-told : Only (kindOf n h) semaphore → opened (markIn (t .nums) (seek (sameBytes n) (names h))) ≡ stateOf (theSemaphore n) h
+    pub semaphore-told : Only (kindOf n h) semaphore → opened (standingIn (t .nums) (seek (sameBytes n) (names h))) ≡ stateOf (theSemaphore n) h
     semaphore-told d = by-test (any (sameBytes n) (names h)) refl
       where
-        by-test : (b : Bool) → any (sameBytes n) (names h) ≡ b → opened (markIn (t .nums) (seek (sameBytes n) (names h))) ≡ stateOf (theSemaphore n) h
-        by-test true q = ap opened (in-row (markColumn .base) q) ∙ s .each-name n q .mark .of-semaphore (eq-eqb _ semaphore (kind-there semaphore d q))
-        by-test false q = ap opened (in-none markColumn q) ∙ sym (no-state (theSemaphore n) (semaphore-tracked semaphore refl) h (kind-named h n q))
+        by-test : (b : Bool) → any (sameBytes n) (names h) ≡ b → opened (standingIn (t .nums) (seek (sameBytes n) (names h))) ≡ stateOf (theSemaphore n) h
+        by-test true q = ap opened (in-row (standingColumn .base) q) ∙ s .each-name n q .standing .of-semaphore (eq-eqb _ semaphore (kind-there semaphore d q))
+        by-test false q = ap opened (in-none standingColumn q) ∙ sym (no-state (theSemaphore n) (semaphore-tracked semaphore refl) h (kind-named h n q))
 
     pub number-told : (k : ℕ) → Only (kindOf n h) k → numberKnown (t .nums) (seek (sameBytes n) (names h)) ≡ numberOf h n k
     number-told k d = by-test (any (sameBytes n) (names h)) refl
@@ -122,6 +122,6 @@ module _ (h : List Event) (a : Accepted h) (t : Tables) (s : Shown h t) where
       opened (entryOf stateColumn (t .nums) r) ≡ stateOf x h
   unfolding entryOf
   state-told w x k (At j) p =
-      let small : j < instanceRows = omega (arith, p .1 .below, s .head .instances-counted, all-fit h a .instances-fit) in
+      let small : j < instanceRows = omega (arith, p .1 .below, s .singles .instances-counted, all-fit h a .instances-fit) in
       rw (lt-ltb j instanceRows small) (p .1 .state)
   state-told w x k Nothing p = sym (unseen-none (stateOf x h) (first-seen h w x k ∙ ap not p))

@@ -12,11 +12,11 @@ use Rattle.rules.specs.Trace.{placeOf, InPlace, answerAt, takenLines, refusalOn
 use Rattle.rules.proofs.Traces.{Kept, kept-next}
 use Rattle.tables.specs.Entry.{numsSize, verdictNumber, verdictLine, lineCount}
 use Rattle.tables.proofs.Stores.{same, other}
-use Rattle.judge.specs.Feed.{Tables, tables, After, placeIn, remembered, lined, allLined}
+use Rattle.judge.specs.Feed.{Tables, tables, After, placeIn, remembered, judgedLine, judgedLines}
 use Rattle.judge.proofs.Feeds.{length-remembered, verdict-again}
 use Rattle.promises.specs.Shown.{Shows}
 use Rattle.promises.specs.Fed.{rememberedIn}
-use Rattle.promises.proofs.Heads.{AgreeFrom, shown-later}
+use Rattle.promises.proofs.Singles.{AgreeFrom, shown-later}
 use Rattle.promises.proofs.Lines.{few-short, LineOutcome, line-outcome}
 use Rattle.promises.proofs.Events.{event-outcome}
 
@@ -55,10 +55,10 @@ shows-remembered h t n s =
     }
 
 -- "Further lines get that verdict again."
-pub further : (t : Tables) → (verdictNumber (t .nums) ≡ 0 → ⊥) → (ls : List (List ℕ)) → allLined t ls ≡ t
-unfolding allLined
+pub further : (t : Tables) → (verdictNumber (t .nums) ≡ 0 → ⊥) → (ls : List (List ℕ)) → judgedLines t ls ≡ t
+unfolding judgedLines
 further t v [] = refl
-further t v (l ∷ ls) = ap (λ (x : After). allLined (x .left) ls) (sym (verdict-again t l v)) ∙ further t v ls
+further t v (l ∷ ls) = ap (λ (x : After). judgedLines (x .left) ls) (sym (verdict-again t l v)) ∙ further t v ls
 
 -- ---- many lines
 
@@ -71,24 +71,24 @@ abbrev pub Followed : List (List ℕ) → List (List ℕ) → Tables → Type 0
 Followed h ls = Both (takenLines h ls) (refusalOn h ls)
 
 refused-here : (h : List (List ℕ)) → Kept h → (t : Tables) → Shows h t → (n : ℕ) → (n ≡ 0 → ⊥) → (ls : List (List ℕ)) (u : Tables) →
-    u ≡ tables (t .names) (remembered (t .nums) n) (t .ticks) → Both h (n, length h + 1) (allLined u ls)
+    u ≡ tables (t .names) (remembered (t .nums) n) (t .ticks) → Both h (n, length h + 1) (judgedLines u ls)
 unfolding placeIn placeOf
 refused-here h k t s n some ls u e =
     let z = s .events .nums-size in
     let v = remembered-number (t .nums) n z in
     let m : (lineCount (t .nums) + 1) % 2 ^ 32 ≡ length h + 1 = omega (arith, lines-fit h (k .in-place), ap (λ (p : Place). p .lines) (s .place)) in
-    let f : allLined u ls ≡ u = further u (rw e (λ q. some (sym v ∙ q))) ls in
+    let f : judgedLines u ls ≡ u = further u (rw e (λ q. some (sym v ∙ q))) ls in
     rw (f, e) (record { shows = shows-remembered h t n s; remembers = rw (v, remembered-line (t .nums) n z, m) })
 
-pub followed : (ls h : List (List ℕ)) → Kept h → (t : Tables) → Shows h t → verdictNumber (t .nums) ≡ 0 → verdictLine (t .nums) ≡ 0 → Followed h ls (allLined t ls)
-unfolding allLined takenOf firstRefusal
+pub followed : (ls h : List (List ℕ)) → Kept h → (t : Tables) → Shows h t → verdictNumber (t .nums) ≡ 0 → verdictLine (t .nums) ≡ 0 → Followed h ls (judgedLines t ls)
+unfolding judgedLines takenOf firstRefusal
 followed [] h k t s v w = record { shows = s; remembers = rw (v, w) }
 followed (l ∷ ls) h k t s v w =
     let o = line-outcome h t s l (event-outcome h k t s l) v in
     by-answer (answerAt h l) refl o
-    (λ q. followed ls (l ∷ h) (kept-next h l k q) (lined t l .left) (o .shows q) (o .verdict-kept q .0 ∙ v) (o .verdict-kept q .1 ∙ w))
+    (λ q. followed ls (l ∷ h) (kept-next h l k q) (judgedLine t l .left) (o .shows q) (o .verdict-kept q .0 ∙ v) (o .verdict-kept q .1 ∙ w))
   where
-    by-answer : (n : ℕ) → answerAt h l ≡ n → LineOutcome h t l (lined t l) → (answerAt h l ≡ 0 → Followed (l ∷ h) ls (allLined (lined t l .left) ls)) →
-        Both (ifZero n (takenLines (l ∷ h) ls) h) (ifZero n (refusalOn (l ∷ h) ls) (n, length h + 1)) (allLined (lined t l .left) ls)
+    by-answer : (n : ℕ) → answerAt h l ≡ n → LineOutcome h t l (judgedLine t l) → (answerAt h l ≡ 0 → Followed (l ∷ h) ls (judgedLines (judgedLine t l .left) ls)) →
+        Both (ifZero n (takenLines (l ∷ h) ls) h) (ifZero n (refusalOn (l ∷ h) ls) (n, length h + 1)) (judgedLines (judgedLine t l .left) ls)
     by-answer zero q o f = f q
-    by-answer (suc n) q o f = refused-here h k t s (suc n) (λ e. omega arith) ls (lined t l .left) (o .remembers (λ e. omega (arith, q)) ∙ rw q)
+    by-answer (suc n) q o f = refused-here h k t s (suc n) (λ e. omega arith) ls (judgedLine t l .left) (o .remembers (λ e. omega (arith, q)) ∙ rw q)

@@ -17,10 +17,10 @@ use Rattle.rules.specs.Trace.{placeOf, atEnd}
 use Rattle.rules.proofs.Traces.{Kept}
 use Rattle.tables.specs.Entry.{verdictNumber, lineCount, scaleEntry, firstTime, lastTime}
 use Rattle.judge.specs.Feed.{Tables, placeIn, verdict, verdictIn}
-use Rattle.promises.specs.Shown.{HeadShown, Shows}
+use Rattle.promises.specs.Shown.{SinglesShown, Shows}
 use Rattle.promises.proofs.Traces.{lines-fit, Both}
 
-span-shown : (es : List Event) (nums ticks : List ℕ) → HeadShown es nums ticks → lastTime ticks - firstTime ticks ≡ span es
+span-shown : (es : List Event) (nums ticks : List ℕ) → SinglesShown es nums ticks → lastTime ticks - firstTime ticks ≡ span es
 span-shown [] nums ticks s = rw (s .last, s .first)
 span-shown (e ∷ h) nums ticks s = rw (s .last, s .first)
 
@@ -35,7 +35,7 @@ module _ (h : List (List ℕ)) (k : Kept h) (t : Tables) (s : Shows h t) where
   nums = t .nums
 
   same-span : lastTime (t .ticks) - firstTime (t .ticks) ≡ span (eventsOf h)
-  same-span = span-shown (eventsOf h) nums (t .ticks) (s .events .head)
+  same-span = span-shown (eventsOf h) nums (t .ticks) (s .events .singles)
 
   same-scale : scaleEntry nums ≡ placeOf h .scale
   unfolding placeIn

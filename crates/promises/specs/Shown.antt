@@ -17,7 +17,7 @@ use Rattle.rules.specs.Rows.{opened}
 use Rattle.rules.specs.Lines.{eventsOf}
 use Rattle.rules.specs.Trace.{placeOf}
 use Rattle.tables.specs.Entry.{namesSize, numsSize, ticksSize, creatorEntry, dateEntry, startedEntry, nameCount, coreCount, instanceCount}
-use Rattle.tables.specs.Entry.{kindAt, lengthAt, markAt, numberAt, numberedAt, ownerAt, instanceAt, stateAt, firstTime, lastTime, heldAt, idleAt, unknownAt, sinceAt, nameAt}
+use Rattle.tables.specs.Entry.{kindAt, lengthAt, standingAt, numberAt, numberedAt, ownerAt, instanceAt, stateAt, firstTime, lastTime, heldAt, idleAt, unknownAt, sinceAt, nameAt}
 use Rattle.judge.specs.Feed.{Tables, placeIn}
 use Rattle.promises.specs.Places.{rowOf}
 
@@ -35,7 +35,7 @@ abbrev pub startedOf : List Event → ℕ
 startedOf [] = 0
 startedOf (e ∷ h) = 1
 
-pub record HeadShown (h : List Event) (nums ticks : List ℕ) : Type 0 where
+pub record SinglesShown (h : List Event) (nums ticks : List ℕ) : Type 0 where
   pub started : startedEntry nums ≡ startedOf h
   pub names-counted : nameCount nums ≡ length (names h)
   pub cores-counted : coreCount nums ≡ length (cores h)
@@ -46,17 +46,17 @@ pub record HeadShown (h : List Event) (nums ticks : List ℕ) : Type 0 where
 -- ---- the row i of the name n
 
 -- a core that is idle, or held by an instance of the name in a row
-abbrev pub coreMark : List Event → Core → ℕ
-coreMark h unknown = 0
-coreMark h idle = 1
-coreMark h (held x) = rowOf h (x .name) + 2
+abbrev pub coreStanding : List Event → Core → ℕ
+coreStanding h unknown = 0
+coreStanding h idle = 1
+coreStanding h (held x) = rowOf h (x .name) + 2
 
 abbrev pub theSemaphore : List ℕ → Instance
 theSemaphore n = record { kind = semaphore; name = n; number = 0 }
 
 -- the state m of a name of the kind k
-pub record MarkShown (h : List Event) (n : List ℕ) (k m : ℕ) : Type 0 where
-  pub of-core : eqb k core ≡ true → m ≡ coreMark h (coreAt n h)
+pub record StandingShown (h : List Event) (n : List ℕ) (k m : ℕ) : Type 0 where
+  pub of-core : eqb k core ≡ true → m ≡ coreStanding h (coreAt n h)
   pub of-semaphore : eqb k semaphore ≡ true → opened m ≡ stateOf (theSemaphore n) h
   pub of-other : eqb k core ≡ false → eqb k semaphore ≡ false → m ≡ 0
 
@@ -68,7 +68,7 @@ pub record NameShown (h : List Event) (names nums : List ℕ) (i : ℕ) (n : Lis
   pub name : nameAt names nums i ≡ n
   pub size : lengthAt nums i ≡ length n
   pub kind : kindOf n h ≡ some (kindAt nums i)
-  pub mark : MarkShown h n (kindAt nums i) (markAt nums i)
+  pub standing : StandingShown h n (kindAt nums i) (standingAt nums i)
   -- a core has no number of its own: the entry is free for that of the instance that holds it
   pub holder : (x : Instance) → coreAt n h ≡ held x → numberAt nums i ≡ x .number
   pub numbered : numberedAt nums i ≤ 1
@@ -119,7 +119,7 @@ pub record Shown (h : List Event) (t : Tables) : Type 0 where
   pub names-size : length (t .names) ≡ namesSize
   pub nums-size : length (t .nums) ≡ numsSize
   pub ticks-size : length (t .ticks) ≡ ticksSize
-  pub head : HeadShown h (t .nums) (t .ticks)
+  pub singles : SinglesShown h (t .nums) (t .ticks)
   pub each-name : (n : List ℕ) → any (sameBytes n) (names h) ≡ true → NameShown h (t .names) (t .nums) (rowOf h n) n
   pub instance-rows : InstancesShown h (t .nums)
   pub each-ticks : (n : List ℕ) → any (sameBytes n) (names h) ≡ true → TicksShown h (t .ticks) (rowOf h n) n

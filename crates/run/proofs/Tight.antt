@@ -12,7 +12,7 @@ use Rattle.line.specs.Reading.{hasBreak, isEventLine, readLine}
 use Rattle.rules.specs.PlaceCode.{answerByReading}
 use Rattle.tables.specs.Entry.{verdictNumber}
 use Rattle.tables.proofs.Zeros.{fresh-answer}
-use Rattle.judge.specs.Feed.{Tables, placeIn, remembered, placedLine, lined, fedLine, freshTables}
+use Rattle.judge.specs.Feed.{Tables, placeIn, remembered, judgedInPlace, judgedLine, fedLine, freshTables}
 use Rattle.sheet.specs.Sheet.{Sheeted}
 use Rattle.run.specs.Chunk.{Turned, chunkTaken, lastTaken}
 use Rattle.run.specs.Report.{reportWritten}
@@ -29,7 +29,7 @@ last-unique t buf = unique (lastTaken t buf)
 
 -- nothing carried over is no line
 pub last-not-empty : ShutsOut {A = Tables × List ℕ × ℕ} (λ (t, buf, n). lastTaken t buf n) (λ (t, buf, n). fedLine t (take n buf) .left)
-unfolding lastTaken fedLine lined placedLine placeIn answerByReading readLine hasBreak isEventLine eventReading partsOf pieces remembered
+unfolding lastTaken fedLine judgedLine judgedInPlace placeIn answerByReading readLine hasBreak isEventLine eventReading partsOf pieces remembered
 last-not-empty = shut-out (λ t. eqb (verdictNumber (t .nums)) 0) (freshTables, [], 0) refl (rw fresh-answer)
 
 -- ---- `report`

@@ -15,7 +15,7 @@ use Rattle.rules.proofs.Tests.{if-some}
 use Rattle.tables.specs.Entry.{verdictNumber}
 use Rattle.tables.specs.Range.{tableAnswer}
 use Rattle.judge.specs.declared.feed.Fed.{Fed}
-use Rattle.judge.specs.Feed.{Tables, tables, After, fedLine, allLined, AfterChunk, chunked, fedChunk}
+use Rattle.judge.specs.Feed.{Tables, tables, After, fedLine, judgedLines, AfterChunk, chunked, fedChunk}
 use Rattle.run.specs.declared.chunk.Turn.the-variants.{More, Stop}
 use Rattle.run.specs.Chunk.{Turned, turned, carriedOver, chunkTaken, lastTaken}
 
@@ -77,8 +77,8 @@ unfolding fedChunk
 used-up {x} {a} {b} {d} t s p z = by-answer (tableAnswer (t .names) (t .nums) (t .ticks)) p
   where
     by-answer : (k : ℕ) → chunked x a b d ≡ ifZero k (record {
-      fed = record { answer = verdictNumber (allLined t (wholeLines s) .nums); used = usedUp s };
-      left = allLined t (wholeLines s);
+      fed = record { answer = verdictNumber (judgedLines t (wholeLines s) .nums); used = usedUp s };
+      left = judgedLines t (wholeLines s);
     }) (record { fed = record { answer = k; used = 0 }; left = t }) → x .used ≡ usedUp s
     by-answer zero e = ap (λ (y : AfterChunk). y .fed .used) e
     by-answer (suc k) e = absurd (omega (arith, z, ap (λ (y : AfterChunk). y .fed .answer) e))

@@ -13,10 +13,10 @@ use Rattle.bill.specs.Rows.{Row}
 use Rattle.bill.specs.Text.{figuresText, rowText, rowsText, sectionText, title}
 use Rattle.bill.proofs.Texts.{length-figure, length-three, length-row, length-section}
 use Rattle.rules.specs.Lists.{keep}
-use Rattle.tables.specs.Entry.{nameCount, kindAt, lengthAt, markAt, heldAt, idleAt, unknownAt, nameAt}
+use Rattle.tables.specs.Entry.{nameCount, kindAt, lengthAt, standingAt, heldAt, idleAt, unknownAt, nameAt}
 use Rattle.tables.proofs.Found.{name-size}
 use Rattle.tables.proofs.Valid.{Valid}
-use Rattle.sheet.specs.Figure.{openAt, heldIn, idleIn, holds, chargeTo, chargeIn}
+use Rattle.sheet.specs.Figure.{openAt, heldIn, idleIn, holdsCore, chargeTo, chargeIn}
 use Rattle.sheet.specs.Sheet.{belongs, figuresIn, rowIn, rowsTo, rowsIn}
 use Rattle.sheet.proofs.Rows.{keep-lines}
 
@@ -32,16 +32,16 @@ either-below false x y n h k = k
 module _ (nums ticks : List ℕ) (i : ℕ) where
   held-below : heldAt ticks i < entryEnd → heldIn nums ticks i < entryEnd
   unfolding heldIn
-  held-below h = either-below (ltb (markAt nums i) 2) (heldAt ticks i) ((heldAt ticks i + openAt ticks i) % 2 ^ 64) entryEnd h (omega arith)
+  held-below h = either-below (ltb (standingAt nums i) 2) (heldAt ticks i) ((heldAt ticks i + openAt ticks i) % 2 ^ 64) entryEnd h (omega arith)
 
   idle-below : idleAt ticks i < entryEnd → idleIn nums ticks i < entryEnd
   unfolding idleIn
-  idle-below h = either-below (eqb (markAt nums i) 1) ((idleAt ticks i + openAt ticks i) % 2 ^ 64) (idleAt ticks i) entryEnd (omega arith) h
+  idle-below h = either-below (eqb (standingAt nums i) 1) ((idleAt ticks i + openAt ticks i) % 2 ^ 64) (idleAt ticks i) entryEnd (omega arith) h
 
   charge-to-below : (n : ℕ) → heldAt ticks i < entryEnd → chargeTo nums ticks i n < entryEnd
   unfolding chargeTo
   charge-to-below zero h = h
-  charge-to-below (suc n) h = either-below (holds nums i n) ((chargeTo nums ticks i n + openAt ticks n) % 2 ^ 64) (chargeTo nums ticks i n) entryEnd (omega arith) (charge-to-below n h)
+  charge-to-below (suc n) h = either-below (holdsCore nums i n) ((chargeTo nums ticks i n + openAt ticks n) % 2 ^ 64) (chargeTo nums ticks i n) entryEnd (omega arith) (charge-to-below n h)
 
   charge-below : heldAt ticks i < entryEnd → chargeIn nums ticks i < entryEnd
   unfolding chargeIn

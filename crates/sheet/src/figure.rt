@@ -3,7 +3,7 @@ ghost use mathlib.Core.Path.{_≡_};
 ghost use Prim.Native.Nat.{_≤_, _<_};
 ghost use lib.ListN.{length};
 ghost use Rattle.tables.specs.Entry.{nameCount, numsSize, ticksSize, nameRows};
-ghost use Rattle.sheet.specs.Figure.{openAt, heldIn, idleIn, holds, chargeIn};
+ghost use Rattle.sheet.specs.Figure.{openAt, heldIn, idleIn, holdsCore, chargeIn};
 use rules::numbers::CORE;
 use std::num::wrapping_add_u64;
 use tables::entry::*;
@@ -24,7 +24,7 @@ pub(crate) fn held_ticks(nums: &[u32], ticks: &[u64], i: usize) -> u64
     requires { ⌜ (length (now nums) ≡ numsSize) × ((length (now ticks) ≡ ticksSize) × (i < nameRows)) ⌝ }
     ensures { λ r. ⌜ r ≡ heldIn (now (nums .entry)) (now (ticks .entry)) i ⌝ }
 {
-    if nums[MARK + i] < 2 {
+    if nums[STANDING + i] < 2 {
         return ticks[HELD + i];
     }
     wrapping_add_u64(ticks[HELD + i], open_ticks(ticks, i))
@@ -35,7 +35,7 @@ pub(crate) fn idle_ticks(nums: &[u32], ticks: &[u64], i: usize) -> u64
     requires { ⌜ (length (now nums) ≡ numsSize) × ((length (now ticks) ≡ ticksSize) × (i < nameRows)) ⌝ }
     ensures { λ r. ⌜ r ≡ idleIn (now (nums .entry)) (now (ticks .entry)) i ⌝ }
 {
-    if nums[MARK + i] != 1 {
+    if nums[STANDING + i] != 1 {
         return ticks[IDLE + i];
     }
     wrapping_add_u64(ticks[IDLE + i], open_ticks(ticks, i))
@@ -44,9 +44,9 @@ pub(crate) fn idle_ticks(nums: &[u32], ticks: &[u64], i: usize) -> u64
 // Whether row k is a core that is held by an instance of the process in row i.
 fn holds_core(nums: &[u32], i: usize, k: usize) -> bool
     requires { ⌜ (length (now nums) ≡ numsSize) × ((i < nameRows) × (k < nameRows)) ⌝ }
-    ensures { λ r. ⌜ r ≡ holds (now (nums .entry)) i k ⌝ }
+    ensures { λ r. ⌜ r ≡ holdsCore (now (nums .entry)) i k ⌝ }
 {
-    (nums[KIND + k] == CORE) & (nums[MARK + k] as usize == i + 2)
+    (nums[KIND + k] == CORE) & (nums[STANDING + k] as usize == i + 2)
 }
 
 // The charge of the process in row i.

@@ -17,18 +17,15 @@ use Rattle.tables.specs.Entry.{lineCount, startedEntry, nameCount, coreCount, i
 use Rattle.tables.specs.Sized.{Sized}
 use Rattle.tables.proofs.Stores.{other}
 use Rattle.tables.proofs.Valid.{sizes-mean}
-use Rattle.decide.specs.declared.happening.Happening.{Happening}
-use Rattle.decide.specs.declared.sight.Sight.{Sight}
-use Rattle.decide.specs.Happening.{asEvent}
+use Rattle.decide.specs.declared.look.LookedUp.{LookedUp}
 use Rattle.decide.specs.Known.{newCore, newName, newInstance}
-use Rattle.store.specs.Store.{coreRow, targetRow, instanceRow, storeName, storeRow, storeSums, storeInstance, storeMark, storeHolder, storeNumber, takenNames, withRows, withTarget, withCore, withHeads, takenNums, settled, withTimes, withSums, takenTicks, stored}
+use Rattle.store.specs.Store.{coreRow, targetRow, instanceRow, storeName, storeRow, storeSums, storeInstance, storeStanding, storeHolder, storeNumber, takenNames, withRows, withTarget, withCore, withCounts, takenNums, settled, withTimes, withSums, takenTicks, takenTables, stored}
 
 -- ---- tables of the right sizes
 
-pub stored-sized : (t : Tables) (s : Sight) (state : ℕ) (h : Happening) (source target : List ℕ) → Sized (t .names) (t .nums) (t .ticks)
-    → stored t s state h source target ≡ tables (takenNames (t .names) (t .nums) s (asEvent h source target)) (takenNums (t .nums) s state h (length source) (length target)) (takenTicks (t .ticks) (t .nums) s (h .kind) (h .time))
+pub stored-sized : (t : Tables) (s : LookedUp) (state : ℕ) (e : Event) → Sized (t .names) (t .nums) (t .ticks) → stored t s state e ≡ takenTables t s state e
 unfolding stored
-stored-sized t s state h source target z = rw (sizes-mean (t .names) (t .nums) (t .ticks) .shows z)
+stored-sized t s state e z = rw (sizes-mean (t .names) (t .nums) (t .ticks) .shows z)
 
 -- ---- a store that is made where a number is 1
 
@@ -43,14 +40,14 @@ unmade {r} {v} x e t p = rw (ne-eqb v 1 (λ q. t (e ∙ q))) p
 skip : (l : List ℕ) (i j v : ℕ) → i < j → getD (set l i v) j 0 ≡ getD l j 0
 skip l i j v h = other l i j v (λ q. omega arith)
 
-pub heads-stored : {a b d e : ℕ} (nums : List ℕ) (names cores instances : ℕ) →
+pub counts-stored : {a b d e : ℕ} (nums : List ℕ) (names cores instances : ℕ) →
     let one = set (set nums linesIndex a) startedIndex 1 in
     let two = set one namesIndex b in
     let three = set two coresIndex d in
     a ≡ (lineCount nums + 1) % 2 ^ 32 → b ≡ (nameCount one + names) % 2 ^ 32 → d ≡ (coreCount two + cores) % 2 ^ 32 → e ≡ (instanceCount three + instances) % 2 ^ 32 →
-    set three instancesIndex e ≡ withHeads nums names cores instances
-unfolding withHeads
-heads-stored {a} {b} {d} {e} nums names cores instances p q r t =
+    set three instancesIndex e ≡ withCounts nums names cores instances
+unfolding withCounts
+counts-stored {a} {b} {d} {e} nums names cores instances p q r t =
     let l = set (set nums linesIndex a) startedIndex 1 in
     let f : (j : ℕ) → startedIndex < j → getD l j 0 ≡ getD nums j 0 = λ j h. skip (set nums linesIndex a) startedIndex j 1 h ∙ skip nums linesIndex j a (omega arith) in
     let q' : b ≡ (nameCount nums + names) % 2 ^ 32 = rw (f namesIndex (omega arith)) at q in
@@ -61,9 +58,17 @@ heads-stored {a} {b} {d} {e} nums names cores instances p q r t =
 
 -- ---- the stores to nums after one another, with the rows and counts as they were before them
 
-pub nums-taken : {i p j x y z : ℕ} {a b d e : List ℕ} (nums : List ℕ) (s : Sight) (t : ℕ) (h : Happening) (n m : ℕ) → i ≡ coreRow nums s → p ≡ targetRow nums s → j ≡ instanceRow nums s → x ≡ newCore s → y ≡ newName s (h .kind) → z ≡ newInstance s (h .kind) → a ≡ withRows nums s (h .kind) n m → b ≡ withTarget a p j t h → d ≡ withCore b (s .class) i p (h .number) → e ≡ withHeads d (x + y) x z → e ≡ takenNums nums s t h n m
+pub nums-taken : {k w i p j x y z : ℕ} {a b d f : List ℕ} (nums : List ℕ) (s : LookedUp) (t : ℕ) (e : Event) → k ≡ e .kind → w ≡ e .word
+    → i ≡ coreRow nums s → p ≡ targetRow nums s → j ≡ instanceRow nums s → x ≡ newCore s → y ≡ newName s k → z ≡ newInstance s k
+    → a ≡ withRows nums s k (length (e .source)) (length (e .target)) → b ≡ withTarget a p j t k w (e .targetInstance) (e .count)
+    → d ≡ withCore b (s .class) i p (e .targetInstance) → f ≡ withCounts d (x + y) x z → f ≡ takenNums nums s t e
 unfolding takenNums
-nums-taken nums s t h n m pi pp pj px py pz pa pb pd pe = pe ∙ rw (pd, pb, pa, pi, pp, pj, px, py, pz)
+nums-taken nums s t e pk pw pi pp pj px py pz pa pb pd pf = pf ∙ rw (pd, pb, pa, pi, pp, pj, px, py, pz, pk, pw)
+
+-- the three tables, each from its own stores
+pub tables-taken : {k : ℕ} {a b d : List ℕ} (t : Tables) (s : LookedUp) (state : ℕ) (e : Event) → k ≡ e .kind → a ≡ takenNames (t .names) (t .nums) s k (e .source) (e .target)
+    → b ≡ takenNums (t .nums) s state e → d ≡ takenTicks (t .ticks) (t .nums) s k (e .time) → tables a b d ≡ takenTables t s state e
+tables-taken t s state e pk pa pb pd = rw (pa, pb, pd, pk)
 
 -- ---- lengths
 
@@ -94,9 +99,9 @@ pub length-storeInstance : (nums : List ℕ) (j owner number state : ℕ) → le
 unfolding storeInstance
 length-storeInstance nums j owner number state = length-cond (ltb j instanceRows && ltb owner nameRows) _ nums (simp length-set) refl
 
-pub length-storeMark : (nums : List ℕ) (i mark : ℕ) → length (storeMark nums i mark) ≡ length nums
-unfolding storeMark
-length-storeMark nums i mark = length-cond (ltb i nameRows) _ nums (simp length-set) refl
+pub length-storeStanding : (nums : List ℕ) (i standing : ℕ) → length (storeStanding nums i standing) ≡ length nums
+unfolding storeStanding
+length-storeStanding nums i standing = length-cond (ltb i nameRows) _ nums (simp length-set) refl
 
 pub length-storeHolder : (nums : List ℕ) (i p n : ℕ) → length (storeHolder nums i p n) ≡ length nums
 unfolding storeHolder
@@ -106,49 +111,49 @@ pub length-storeNumber : (nums : List ℕ) (i n : ℕ) → length (storeNumber n
 unfolding storeNumber
 length-storeNumber nums i n = length-cond (ltb i nameRows) _ nums (simp length-set) refl
 
-pub length-takenNames : (names nums : List ℕ) (s : Sight) (e : Event) → length (takenNames names nums s e) ≡ length names
+pub length-takenNames : (names nums : List ℕ) (s : LookedUp) (kind : ℕ) (source target : List ℕ) → length (takenNames names nums s kind source target) ≡ length names
 unfolding takenNames
-length-takenNames names nums s e =
-    length-two (eqb (newCore s) 1) (eqb (newName s (e .kind)) 1) (λ m. storeName m (targetRow nums s) (e .target)) _ names
-    (λ m. length-storeName m (targetRow nums s) (e .target))
-    (length-storeName names (nameCount nums) (e .source))
+length-takenNames names nums s kind source target =
+    length-two (eqb (newCore s) 1) (eqb (newName s kind) 1) (λ m. storeName m (targetRow nums s) target) _ names
+    (λ m. length-storeName m (targetRow nums s) target)
+    (length-storeName names (nameCount nums) source)
 
-pub length-withRows : (nums : List ℕ) (s : Sight) (kind n m : ℕ) → length (withRows nums s kind n m) ≡ length nums
+pub length-withRows : (nums : List ℕ) (s : LookedUp) (kind n m : ℕ) → length (withRows nums s kind n m) ≡ length nums
 unfolding withRows
 length-withRows nums s kind n m =
     length-two (eqb (newCore s) 1) (eqb (newName s kind) 1) (λ l. storeRow l (targetRow nums s) kind m) _ nums
     (λ l. length-storeRow l (targetRow nums s) kind m)
     (length-storeRow nums (nameCount nums) core n)
 
-pub length-withSums : (ticks nums : List ℕ) (s : Sight) (kind time : ℕ) → length (withSums ticks nums s kind time) ≡ length ticks
+pub length-withSums : (ticks nums : List ℕ) (s : LookedUp) (kind time : ℕ) → length (withSums ticks nums s kind time) ≡ length ticks
 unfolding withSums
 length-withSums ticks nums s kind time =
     length-two (eqb (newCore s) 1) (eqb (newName s kind) 1) (λ l. storeSums l (targetRow nums s) 0 0) _ ticks
     (λ l. length-storeSums l (targetRow nums s) 0 0)
     (length-storeSums ticks (nameCount nums) (cond (eqb (startedEntry nums) 0) 0 (time - firstTime ticks)) time)
 
-pub length-withTarget : (nums : List ℕ) (i j t : ℕ) (h : Happening) → length (withTarget nums i j t h) ≡ length nums
+pub length-withTarget : (nums : List ℕ) (i j t kind word n c : ℕ) → length (withTarget nums i j t kind word n c) ≡ length nums
 unfolding withTarget
-length-withTarget nums i j t h =
-    length-cond (eqb (h .kind) semaphore) (storeNumber (storeMark nums i t) i (h .count)) _
-    (length-storeNumber (storeMark nums i t) i (h .count) ∙ length-storeMark nums i t)
-    (length-two (hasInstances (h .kind)) (activates (h .kind) (h .word)) (λ m. storeNumber m i (h .number)) _ nums
-    (λ m. length-storeNumber m i (h .number))
-    (length-storeInstance nums j i (h .number) t))
+length-withTarget nums i j t kind word n c =
+    length-cond (eqb kind semaphore) (storeNumber (storeStanding nums i t) i c) _
+    (length-storeNumber (storeStanding nums i t) i c ∙ length-storeStanding nums i t)
+    (length-two (hasInstances kind) (activates kind word) (λ m. storeNumber m i n) _ nums
+    (λ m. length-storeNumber m i n)
+    (length-storeInstance nums j i n t))
 
 pub length-withCore : (nums : List ℕ) (class i p n : ℕ) → length (withCore nums class i p n) ≡ length nums
 unfolding withCore
 length-withCore nums class i p n =
     length-cond (eqb class 0) nums _ refl
-    (length-cond (eqb class 2) (storeMark nums i 1) (storeHolder nums i p n) (length-storeMark nums i 1) (length-storeHolder nums i p n))
+    (length-cond (eqb class 2) (storeStanding nums i 1) (storeHolder nums i p n) (length-storeStanding nums i 1) (length-storeHolder nums i p n))
 
-pub length-withHeads : (nums : List ℕ) (names cores instances : ℕ) → length (withHeads nums names cores instances) ≡ length nums
-unfolding withHeads
-length-withHeads nums names cores instances = simp length-set
+pub length-withCounts : (nums : List ℕ) (names cores instances : ℕ) → length (withCounts nums names cores instances) ≡ length nums
+unfolding withCounts
+length-withCounts nums names cores instances = simp length-set
 
-pub length-takenNums : (nums : List ℕ) (s : Sight) (t : ℕ) (h : Happening) (n m : ℕ) → length (takenNums nums s t h n m) ≡ length nums
+pub length-takenNums : (nums : List ℕ) (s : LookedUp) (t : ℕ) (e : Event) → length (takenNums nums s t e) ≡ length nums
 unfolding takenNums
-length-takenNums nums s t h n m = simp (length-withHeads, length-withCore, length-withTarget, length-withRows)
+length-takenNums nums s t e = simp (length-withCounts, length-withCore, length-withTarget, length-withRows)
 
 pub length-settled : (ticks : List ℕ) (class i p time : ℕ) → length (settled ticks class i p time) ≡ length ticks
 unfolding settled
@@ -161,6 +166,6 @@ pub length-withTimes : (ticks : List ℕ) (started time : ℕ) → length (withT
 unfolding withTimes
 length-withTimes ticks started time = length-cond (eqb started 0) _ _ (simp length-set) (simp length-set)
 
-pub length-takenTicks : (ticks nums : List ℕ) (s : Sight) (kind time : ℕ) → length (takenTicks ticks nums s kind time) ≡ length ticks
+pub length-takenTicks : (ticks nums : List ℕ) (s : LookedUp) (kind time : ℕ) → length (takenTicks ticks nums s kind time) ≡ length ticks
 unfolding takenTicks
 length-takenTicks ticks nums s kind time = simp (length-withTimes, length-settled, length-withSums)

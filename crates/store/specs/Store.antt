@@ -13,12 +13,10 @@ use Rattle.rules.specs.History.{hasInstances, activates}
 use Rattle.tables.specs.declared.find.Found.{Found}
 use Rattle.tables.specs.declared.find.Found.the-variants.{At, Nothing}
 use Rattle.tables.specs.Entry.{Tables, tables, storeAt, nameRows, instanceRows, nameRoom, linesIndex, startedIndex, namesIndex, coresIndex, instancesIndex, firstIndex, lastIndex}
-use Rattle.tables.specs.Entry.{kindColumn, lengthColumn, markColumn, numberColumn, numberedColumn, ownerColumn, instanceColumn, stateColumn, heldColumn, idleColumn, unknownColumn, sinceColumn}
+use Rattle.tables.specs.Entry.{kindColumn, lengthColumn, standingColumn, numberColumn, numberedColumn, ownerColumn, instanceColumn, stateColumn, heldColumn, idleColumn, unknownColumn, sinceColumn}
 use Rattle.tables.specs.Entry.{lineCount, startedEntry, nameCount, coreCount, instanceCount, firstTime, heldAt, idleAt, sinceAt}
 use Rattle.tables.specs.Sized.{isSized}
-use Rattle.decide.specs.declared.happening.Happening.{Happening}
-use Rattle.decide.specs.declared.sight.Sight.{Sight}
-use Rattle.decide.specs.Happening.{asEvent}
+use Rattle.decide.specs.declared.look.LookedUp.{LookedUp}
 use Rattle.decide.specs.Known.{newCore, newName, newInstance}
 
 -- ---- the rows: those found, and otherwise the next ones
@@ -27,13 +25,13 @@ abbrev pub rowOr : Found → ℕ → ℕ
 rowOr (At i) n = i
 rowOr Nothing n = n
 
-unfoldable pub coreRow : List ℕ → Sight → ℕ
+unfoldable pub coreRow : List ℕ → LookedUp → ℕ
 coreRow nums s = rowOr (s .source) (nameCount nums)
 
-unfoldable pub targetRow : List ℕ → Sight → ℕ
+unfoldable pub targetRow : List ℕ → LookedUp → ℕ
 targetRow nums s = rowOr (s .target) (nameCount nums + newCore s)
 
-unfoldable pub instanceRow : List ℕ → Sight → ℕ
+unfoldable pub instanceRow : List ℕ → LookedUp → ℕ
 instanceRow nums s = rowOr (s .instance) (instanceCount nums)
 
 -- ---- single stores
@@ -46,7 +44,7 @@ unfoldable pub storeRow : List ℕ → ℕ → ℕ → ℕ → List ℕ
 storeRow nums i kind n =
     cond (ltb i nameRows)
     (let one = storeAt lengthColumn (storeAt kindColumn nums i kind) i (n % 2 ^ 32) in
-    storeAt numberedColumn (storeAt numberColumn (storeAt markColumn one i 0) i 0) i 0)
+    storeAt numberedColumn (storeAt numberColumn (storeAt standingColumn one i 0) i 0) i 0)
     nums
 
 -- a new name's ticks: none held or idle, and for a core those before it was tracked unknown
@@ -60,12 +58,12 @@ storeInstance nums j owner number state =
     cond (ltb j instanceRows && ltb owner nameRows) (storeAt stateColumn (storeAt instanceColumn (storeAt ownerColumn nums j owner) j number) j state) nums
 
 -- a state of a semaphore or core
-unfoldable pub storeMark : List ℕ → ℕ → ℕ → List ℕ
-storeMark nums i mark = cond (ltb i nameRows) (storeAt markColumn nums i mark) nums
+unfoldable pub storeStanding : List ℕ → ℕ → ℕ → List ℕ
+storeStanding nums i standing = cond (ltb i nameRows) (storeAt standingColumn nums i standing) nums
 
 -- the holder of a core: 2 more than the row of its name, and its number
 unfoldable pub storeHolder : List ℕ → ℕ → ℕ → ℕ → List ℕ
-storeHolder nums i p n = cond (ltb i nameRows && ltb p nameRows) (storeAt numberColumn (storeAt markColumn nums i (p + 2)) i n) nums
+storeHolder nums i p n = cond (ltb i nameRows && ltb p nameRows) (storeAt numberColumn (storeAt standingColumn nums i (p + 2)) i n) nums
 
 -- a last number or count
 unfoldable pub storeNumber : List ℕ → ℕ → ℕ → List ℕ
@@ -73,41 +71,40 @@ storeNumber nums i n = cond (ltb i nameRows) (storeAt numberedColumn (storeAt nu
 
 -- ---- the three tables after an event line
 
-unfoldable pub takenNames : List ℕ → List ℕ → Sight → Event → List ℕ
-takenNames names nums s e =
-    let one = cond (eqb (newCore s) 1) (storeName names (nameCount nums) (e .source)) names in
-    cond (eqb (newName s (e .kind)) 1) (storeName one (targetRow nums s) (e .target)) one
+unfoldable pub takenNames : List ℕ → List ℕ → LookedUp → ℕ → List ℕ → List ℕ → List ℕ
+takenNames names nums s kind source target =
+    let one = cond (eqb (newCore s) 1) (storeName names (nameCount nums) source) names in
+    cond (eqb (newName s kind) 1) (storeName one (targetRow nums s) target) one
 
 -- the rows of new names, of n and m bytes
-unfoldable pub withRows : List ℕ → Sight → ℕ → ℕ → ℕ → List ℕ
+unfoldable pub withRows : List ℕ → LookedUp → ℕ → ℕ → ℕ → List ℕ
 withRows nums s kind n m =
     let one = cond (eqb (newCore s) 1) (storeRow nums (nameCount nums) core n) nums in
     cond (eqb (newName s kind) 1) (storeRow one (targetRow nums s) kind m) one
 
--- what the event's instance or semaphore is from now on: its state t, and its number or count
-unfoldable pub withTarget : List ℕ → ℕ → ℕ → ℕ → Happening → List ℕ
-withTarget nums i j t h =
-    cond (eqb (h .kind) semaphore) (storeNumber (storeMark nums i t) i (h .count))
-    (let one = cond (hasInstances (h .kind)) (storeInstance nums j i (h .number) t) nums in
-    cond (activates (h .kind) (h .word)) (storeNumber one i (h .number)) one)
+-- what the event's instance or semaphore is from now on: its state t, and its number n or count c
+unfoldable pub withTarget : List ℕ → ℕ → ℕ → ℕ → ℕ → ℕ → ℕ → ℕ → List ℕ
+withTarget nums i j t kind word n c =
+    cond (eqb kind semaphore) (storeNumber (storeStanding nums i t) i c)
+    (let one = cond (hasInstances kind) (storeInstance nums j i n t) nums in
+    cond (activates kind word) (storeNumber one i n) one)
 
 -- "make it held" by the instance n of the process in row p, "make it idle": an idle core's number stays as it was, and nothing looks at it
 unfoldable pub withCore : List ℕ → ℕ → ℕ → ℕ → ℕ → List ℕ
-withCore nums class i p n = cond (eqb class no-core) nums (cond (eqb class gives-core) (storeMark nums i 1) (storeHolder nums i p n))
+withCore nums class i p n = cond (eqb class no-core) nums (cond (eqb class gives-core) (storeStanding nums i 1) (storeHolder nums i p n))
 
-unfoldable pub withHeads : List ℕ → ℕ → ℕ → ℕ → List ℕ
-withHeads nums names cores instances =
+unfoldable pub withCounts : List ℕ → ℕ → ℕ → ℕ → List ℕ
+withCounts nums names cores instances =
     let one = set (set nums linesIndex ((lineCount nums + 1) % 2 ^ 32)) startedIndex 1 in
     let two = set (set one namesIndex ((nameCount nums + names) % 2 ^ 32)) coresIndex ((coreCount nums + cores) % 2 ^ 32) in
     set two instancesIndex ((instanceCount nums + instances) % 2 ^ 32)
 
-unfoldable pub takenNums : List ℕ → Sight → ℕ → Happening → ℕ → ℕ → List ℕ
-takenNums nums s t h n m =
-    withHeads
-    (withCore (withTarget (withRows nums s (h .kind) n m) (targetRow nums s) (instanceRow nums s) t h) (s .class) (coreRow nums s) (targetRow nums s) (h .number))
-    (newCore s + newName s (h .kind))
-    (newCore s)
-    (newInstance s (h .kind))
+unfoldable pub takenNums : List ℕ → LookedUp → ℕ → Event → List ℕ
+takenNums nums s t e =
+    let n = e .targetInstance in
+    let one = withRows nums s (e .kind) (length (e .source)) (length (e .target)) in
+    let two = withTarget one (targetRow nums s) (instanceRow nums s) t (e .kind) (e .word) n (e .count) in
+    withCounts (withCore two (s .class) (coreRow nums s) (targetRow nums s) n) (newCore s + newName s (e .kind)) (newCore s) (newInstance s (e .kind))
 
 -- the ticks from `since` on go to the core's sum, and those it was held also to its holder's charge
 unfoldable pub settled : List ℕ → ℕ → ℕ → ℕ → ℕ → List ℕ
@@ -123,23 +120,26 @@ settled ticks class i p time =
 unfoldable pub withTimes : List ℕ → ℕ → ℕ → List ℕ
 withTimes ticks started time = cond (eqb started 0) (set (set ticks firstIndex time) lastIndex time) (set ticks lastIndex time)
 
-unfoldable pub withSums : List ℕ → List ℕ → Sight → ℕ → ℕ → List ℕ
+unfoldable pub withSums : List ℕ → List ℕ → LookedUp → ℕ → ℕ → List ℕ
 withSums ticks nums s kind time =
     let unknown = cond (eqb (startedEntry nums) 0) 0 (time - firstTime ticks) in
     let one = cond (eqb (newCore s) 1) (storeSums ticks (nameCount nums) unknown time) ticks in
     cond (eqb (newName s kind) 1) (storeSums one (targetRow nums s) 0 0) one
 
-unfoldable pub takenTicks : List ℕ → List ℕ → Sight → ℕ → ℕ → List ℕ
+unfoldable pub takenTicks : List ℕ → List ℕ → LookedUp → ℕ → ℕ → List ℕ
 takenTicks ticks nums s kind time =
     withTimes (settled (withSums ticks nums s kind time) (s .class) (coreRow nums s) (targetRow nums s) time) (startedEntry nums) time
 
--- ---- all three of any tables: where one has a wrong size, nothing changes
+-- ---- all three
 
-unfoldable pub stored : Tables → Sight → ℕ → Happening → List ℕ → List ℕ → Tables
-stored t s state h source target =
-    cond (isSized (length (t .names)) (length (t .nums)) (length (t .ticks)))
-    (tables
-    (takenNames (t .names) (t .nums) s (asEvent h source target))
-    (takenNums (t .nums) s state h (length source) (length target))
-    (takenTicks (t .ticks) (t .nums) s (h .kind) (h .time)))
-    t
+-- the event's semaphore or instance enters the state t
+abbrev pub takenTables : Tables → LookedUp → ℕ → Event → Tables
+takenTables u s t e =
+    tables
+    (takenNames (u .names) (u .nums) s (e .kind) (e .source) (e .target))
+    (takenNums (u .nums) s t e)
+    (takenTicks (u .ticks) (u .nums) s (e .kind) (e .time))
+
+-- of any tables: where one has a wrong size, nothing changes
+unfoldable pub stored : Tables → LookedUp → ℕ → Event → Tables
+stored u s t e = cond (isSized (length (u .names)) (length (u .nums)) (length (u .ticks))) (takenTables u s t e) u

@@ -10,7 +10,7 @@ use Rattle.rules.specs.Chart.{isStateOf}
 use Rattle.rules.specs.Charts.{isProcess, processChart, runnableChart, semaphoreChart, chartOf}
 use Rattle.rules.specs.History.{hasInstances}
 use Rattle.tables.specs.Entry.{storeAt, namesIndex, instancesIndex, kindColumn, ownerColumn, stateColumn, numsSize}
-use Rattle.tables.specs.Range.{holderOk, coreOk, markOk, instanceOk}
+use Rattle.tables.specs.Range.{holderOk, coreOk, standingOk, instanceOk}
 
 -- one name, of the kind k, and two instances: the first is its own and in the state s, the second belongs to no name
 abbrev rows : ℕ → ℕ → List ℕ
@@ -30,18 +30,18 @@ unfolding instanceOk hasInstances isProcess isStateOf chartOf processChart runna
 instance-states = refl
 
 -- of the numbers 0 to 5, the states in which a name of a kind is in range beside such rows
-abbrev marksOf : ℕ → ℕ → List ℕ
-marksOf kind k = only (λ m. markOk (rows k RUNNING) kind m) (0 ∷ 1 ∷ 2 ∷ 3 ∷ 4 ∷ 5 ∷ [])
+abbrev standingsOf : ℕ → ℕ → List ℕ
+standingsOf kind k = only (λ m. standingOk (rows k RUNNING) kind m) (0 ∷ 1 ∷ 2 ∷ 3 ∷ 4 ∷ 5 ∷ [])
 
 -- a core is idle, 1, or held by an instance of the name, 2, where that is a process's; those of names that are not there, 3 and on, hold none
 pub core-states :
-    (marksOf core core ∷ marksOf core task ∷ marksOf core interrupt ∷ marksOf core runnable ∷ marksOf core semaphore ∷ [])
+    (standingsOf core core ∷ standingsOf core task ∷ standingsOf core interrupt ∷ standingsOf core runnable ∷ standingsOf core semaphore ∷ [])
     ≡ ((1 ∷ []) ∷ (1 ∷ 2 ∷ []) ∷ (1 ∷ 2 ∷ []) ∷ (1 ∷ []) ∷ (1 ∷ []) ∷ [])
-unfolding markOk coreOk holderOk isProcess
+unfolding standingOk coreOk holderOk isProcess
 core-states = refl
 
 pub name-states :
-    (marksOf task task ∷ marksOf interrupt task ∷ marksOf runnable task ∷ marksOf semaphore task ∷ [])
+    (standingsOf task task ∷ standingsOf interrupt task ∷ standingsOf runnable task ∷ standingsOf semaphore task ∷ [])
     ≡ ((0 ∷ []) ∷ (0 ∷ []) ∷ (0 ∷ []) ∷ (0 ∷ FREE ∷ USED ∷ FULL ∷ OVERFULL ∷ []) ∷ [])
-unfolding markOk isProcess isStateOf chartOf semaphoreChart
+unfolding standingOk isProcess isStateOf chartOf semaphoreChart
 name-states = refl

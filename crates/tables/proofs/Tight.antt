@@ -31,10 +31,10 @@ sized-not-alike = shut-out not (0, 0, 0) refl refl
 pub table-answer-unique : (names nums ticks : List ℕ) (x y : ℕ) → x ≡ tableAnswer names nums ticks → y ≡ tableAnswer names nums ticks → x ≡ y
 table-answer-unique names nums = unique (tableAnswer names nums)
 
--- ---- `clear`
+-- ---- `fresh`
 
-pub clear-unique : (names nums ticks : List ℕ) (x y : Cleared) → x ≡ clearedOf names nums ticks → y ≡ clearedOf names nums ticks → x ≡ y
-clear-unique names nums = unique (clearedOf names nums)
+pub fresh-unique : (names nums ticks : List ℕ) (x y : Cleared) → x ≡ clearedOf names nums ticks → y ≡ clearedOf names nums ticks → x ≡ y
+fresh-unique names nums = unique (clearedOf names nums)
 
 abbrev Three : Type 0
 Three = List ℕ × List ℕ × List ℕ

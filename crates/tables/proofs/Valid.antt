@@ -15,9 +15,9 @@ use Rattle.rules.specs.Charts.{chartOf}
 use Rattle.rules.specs.History.{hasInstances}
 use Rattle.tables.specs.Entry.{nameRows, instanceRows, nameRoom, namesSize, numsSize, ticksSize}
 use Rattle.tables.specs.Entry.{verdictNumber, verdictLine, lineCount, scaleEntry, creatorEntry, dateEntry, startedEntry, nameCount, coreCount, instanceCount}
-use Rattle.tables.specs.Entry.{kindAt, lengthAt, markAt, numberedAt, ownerAt, stateAt, firstTime, lastTime, heldAt, idleAt, unknownAt, sinceAt, nameAt}
+use Rattle.tables.specs.Entry.{kindAt, lengthAt, standingAt, numberedAt, ownerAt, stateAt, firstTime, lastTime, heldAt, idleAt, unknownAt, sinceAt, nameAt}
 use Rattle.tables.specs.Sized.{Sized, isSized}
-use Rattle.tables.specs.Range.{headsOk, countsOk, timesOk, markOk, maxSum, sumsOk, bytesOk, nameOk, instanceOk, inRange, tableAnswer}
+use Rattle.tables.specs.Range.{lineLevelOk, countsOk, timesOk, standingOk, maxSum, sumsOk, bytesOk, nameOk, instanceOk, inRange, tableAnswer}
 use Rattle.tables.proofs.Means.{Means, means-le, means-lt, means-eq, means-true, means-and, means-up, means-as, fails}
 
 -- ---- what is in range
@@ -26,7 +26,7 @@ pub record NameRow (names nums ticks : List ℕ) (i : ℕ) : Type 0 where
   pub kind-some : core ≤ kindAt nums i
   pub kind-known : kindAt nums i ≤ semaphore
   pub numbered : numberedAt nums i ≤ 1
-  pub mark : markOk nums (kindAt nums i) (markAt nums i) ≡ true
+  pub standing : standingOk nums (kindAt nums i) (standingAt nums i) ≡ true
   pub length-some : 1 ≤ lengthAt nums i
   pub length-most : lengthAt nums i ≤ nameRoom
   pub named : isName (nameAt names nums i) ≡ true
@@ -66,10 +66,10 @@ sizes-mean names nums ticks =
     (λ p. record { names-size = p .0; nums-size = p .1 .0; ticks-size = p .1 .1 })
     (λ s. (s .names-size, (s .nums-size, s .ticks-size)))
 
-heads-mean : (nums : List ℕ)
-    → Means (headsOk nums) ((verdictNumber nums ≤ lastRefusal) × ((verdictLine nums ≤ 1000000001) × ((lineCount nums ≤ 1000000000) × ((scaleEntry nums ≤ 5) × ((creatorEntry nums ≤ 1) × (dateEntry nums ≤ 1))))))
-unfolding headsOk
-heads-mean nums =
+line-level-mean : (nums : List ℕ)
+    → Means (lineLevelOk nums) ((verdictNumber nums ≤ lastRefusal) × ((verdictLine nums ≤ 1000000001) × ((lineCount nums ≤ 1000000000) × ((scaleEntry nums ≤ 5) × ((creatorEntry nums ≤ 1) × (dateEntry nums ≤ 1))))))
+unfolding lineLevelOk
+line-level-mean nums =
     means-and (means-le (verdictNumber nums) lastRefusal)
     (means-and (means-le (verdictLine nums) 1000000001)
     (means-and (means-le (lineCount nums) 1000000000)
@@ -101,13 +101,13 @@ name-mean names nums ticks i =
     (means-and (means-le core (kindAt nums i))
     (means-and (means-le (kindAt nums i) semaphore)
     (means-and (means-le (numberedAt nums i) 1)
-    (means-and (means-true (markOk nums (kindAt nums i) (markAt nums i))) (means-and (bytes-mean names nums i) (sums-mean ticks i))))))
+    (means-and (means-true (standingOk nums (kindAt nums i) (standingAt nums i))) (means-and (bytes-mean names nums i) (sums-mean ticks i))))))
     (λ p.
     record {
       kind-some = p .0;
       kind-known = p .1 .0;
       numbered = p .1 .1 .0;
-      mark = p .1 .1 .1 .0;
+      standing = p .1 .1 .1 .0;
       length-some = omega (arith, name-length (nameAt names nums i) (p .1 .1 .1 .1 .0 .1), length-take (lengthAt nums i) (drop (nameRoom * i) names));
       length-most = p .1 .1 .1 .1 .0 .0;
       named = p .1 .1 .1 .1 .0 .1;
@@ -116,7 +116,7 @@ name-mean names nums ticks i =
       unknown = p .1 .1 .1 .1 .1 .1 .1 .0;
       since = p .1 .1 .1 .1 .1 .1 .1 .1;
     })
-    (λ r. (r .kind-some, (r .kind-known, (r .numbered, (r .mark, ((r .length-most, r .named), (r .held, (r .idle, (r .unknown, r .since)))))))))
+    (λ r. (r .kind-some, (r .kind-known, (r .numbered, (r .standing, ((r .length-most, r .named), (r .held, (r .idle, (r .unknown, r .since)))))))))
 
 instance-mean : (nums : List ℕ) (j : ℕ) → Means (instanceOk nums j) (InstanceRow nums j)
 unfolding instanceOk
@@ -132,7 +132,7 @@ module _ (names nums ticks : List ℕ) where
   unfolding inRange
   range-mean s =
       means-as
-      (means-and (heads-mean nums)
+      (means-and (line-level-mean nums)
       (means-and (counts-mean nums)
       (means-and (times-mean ticks)
       (means-and (means-up (nameCount nums) (name-mean names nums ticks)) (means-up (instanceCount nums) (instance-mean nums))))))

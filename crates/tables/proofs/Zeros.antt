@@ -1,4 +1,4 @@
--- A fresh start: the loop that zeroes a table, tables of zeros are valid, and what `clear` answers.
+-- A fresh start: the loop that zeroes a table, tables of zeros are valid, and what `fresh` answers.
 use mathlib.Core.Path.{_≡_, refl, ap, _∙_}
 use mathlib.Core.Bool.{Bool, true, false, cond}
 use mathlib.Core.List.{List, _++_, append-nil}
@@ -81,7 +81,7 @@ fresh-valid =
 pub fresh-answer : tableAnswer (zeros namesSize) (zeros numsSize) (zeros ticksSize) ≡ 0
 fresh-answer = answers (zeros namesSize) (zeros numsSize) (zeros ticksSize) fresh-valid
 
--- ---- what `clear` answers: 0 and tables of zeros, or 15 and the tables as they were
+-- ---- what `fresh` answers: 0 and tables of zeros, or 15 and the tables as they were
 
 either : {A : Type 0} (b : Bool) (x y : A) → (cond b x y ≡ x) ⊎ (cond b x y ≡ y)
 either true x y = inl refl

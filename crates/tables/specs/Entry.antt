@@ -86,11 +86,11 @@ kindColumn = column 10 nameRows
 abbrev pub lengthColumn : Column
 lengthColumn = column (past kindColumn) nameRows
 
-abbrev pub markColumn : Column
-markColumn = column (past lengthColumn) nameRows
+abbrev pub standingColumn : Column
+standingColumn = column (past lengthColumn) nameRows
 
 abbrev pub numberColumn : Column
-numberColumn = column (past markColumn) nameRows
+numberColumn = column (past standingColumn) nameRows
 
 abbrev pub numberedColumn : Column
 numberedColumn = column (past numberColumn) nameRows
@@ -180,8 +180,8 @@ kindAt = entryAt kindColumn
 abbrev pub lengthAt : List ℕ → ℕ → ℕ
 lengthAt = entryAt lengthColumn
 
-abbrev pub markAt : List ℕ → ℕ → ℕ
-markAt = entryAt markColumn
+abbrev pub standingAt : List ℕ → ℕ → ℕ
+standingAt = entryAt standingColumn
 
 abbrev pub numberAt : List ℕ → ℕ → ℕ
 numberAt = entryAt numberColumn

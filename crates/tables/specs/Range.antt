@@ -14,12 +14,12 @@ use Rattle.rules.specs.Charts.{isProcess, chartOf}
 use Rattle.rules.specs.History.{hasInstances}
 use Rattle.tables.specs.Entry.{nameRows, instanceRows, nameRoom, numsSize}
 use Rattle.tables.specs.Entry.{verdictNumber, verdictLine, lineCount, scaleEntry, creatorEntry, dateEntry, startedEntry, nameCount, coreCount, instanceCount}
-use Rattle.tables.specs.Entry.{kindAt, lengthAt, markAt, numberedAt, ownerAt, stateAt, firstTime, lastTime, heldAt, idleAt, unknownAt, sinceAt, nameAt}
+use Rattle.tables.specs.Entry.{kindAt, lengthAt, standingAt, numberedAt, ownerAt, stateAt, firstTime, lastTime, heldAt, idleAt, unknownAt, sinceAt, nameAt}
 use Rattle.tables.specs.Sized.{isSized}
 
 -- the verdict is one that is remembered, at a line up to the one past the last; at most 1,000,000,000 lines; the line level's entries
-unfoldable pub headsOk : List ℕ → Bool
-headsOk nums =
+unfoldable pub lineLevelOk : List ℕ → Bool
+lineLevelOk nums =
     leb (verdictNumber nums) lastRefusal
     && (leb (verdictLine nums) 1000000001
     && (leb (lineCount nums) 1000000000 && (leb (scaleEntry nums) 5 && (leb (creatorEntry nums) 1 && leb (dateEntry nums) 1))))
@@ -45,11 +45,11 @@ holderOk nums p = ltb p (nameCount nums) && isProcess (kindAt nums p)
 -- the state of a core: idle, 1, or held by an instance of the process in row p, 2 + p. The instance's number, which lies in the core's own entry of
 -- numbers, may be any, and whether that instance has a row is not asked: 16 asks what an entry is by itself and what it points to.
 unfoldable pub coreOk : List ℕ → ℕ → Bool
-coreOk nums mark = cond (ltb mark 2) (eqb mark 1) (holderOk nums (mark - 2))
+coreOk nums standing = cond (ltb standing 2) (eqb standing 1) (holderOk nums (standing - 2))
 
 -- the state of a name by its kind: a core's; of a semaphore none yet, 0, or one of its chart's; any other name has none
-unfoldable pub markOk : List ℕ → ℕ → ℕ → Bool
-markOk nums kind mark = cond (eqb kind core) (coreOk nums mark) (cond (eqb kind semaphore) (eqb mark 0 || isStateOf (chartOf semaphore) mark) (eqb mark 0))
+unfoldable pub standingOk : List ℕ → ℕ → ℕ → Bool
+standingOk nums kind standing = cond (eqb kind core) (coreOk nums standing) (cond (eqb kind semaphore) (eqb standing 0 || isStateOf (chartOf semaphore) standing) (eqb standing 0))
 
 -- "a tick sum above 2^62"
 abbrev pub maxSum : ℕ
@@ -66,7 +66,7 @@ unfoldable pub nameOk : List ℕ → List ℕ → List ℕ → ℕ → Bool
 nameOk names nums ticks i =
     leb core (kindAt nums i)
     && (leb (kindAt nums i) semaphore
-    && (leb (numberedAt nums i) 1 && (markOk nums (kindAt nums i) (markAt nums i) && (bytesOk names nums i && sumsOk ticks i))))
+    && (leb (numberedAt nums i) 1 && (standingOk nums (kindAt nums i) (standingAt nums i) && (bytesOk names nums i && sumsOk ticks i))))
 
 -- the row of instance j: the row of its name, a process's or a runnable's, and one of the states of that kind's chart
 unfoldable pub instanceOk : List ℕ → ℕ → Bool
@@ -81,7 +81,7 @@ upTo f (suc n) = upTo f n && f n
 
 unfoldable pub inRange : List ℕ → List ℕ → List ℕ → Bool
 inRange names nums ticks =
-    headsOk nums
+    lineLevelOk nums
     && (countsOk nums && (timesOk ticks && (upTo (nameOk names nums ticks) (nameCount nums) && upTo (instanceOk nums) (instanceCount nums))))
 
 -- "the judge tests 15 and 16 before all others, 15 first"

@@ -36,9 +36,9 @@ pub const KIND: usize = 10;
 
 pub const LENGTH: usize = KIND + NAME_ROWS;
 
-pub const MARK: usize = LENGTH + NAME_ROWS;
+pub const STANDING: usize = LENGTH + NAME_ROWS;
 
-pub const NUMBER: usize = MARK + NAME_ROWS;
+pub const NUMBER: usize = STANDING + NAME_ROWS;
 
 pub const NUMBERED: usize = NUMBER + NAME_ROWS;
 

@@ -35,7 +35,7 @@ fn zero_ticks(s: &mut [u64])
 }
 
 // "A fresh start .. overwrites what the tables held and never gives 16": every entry 0, or 15 and nothing written.
-pub fn clear(names: &mut [u8], nums: &mut [u32], ticks: &mut [u64]) -> u32
+pub fn fresh(names: &mut [u8], nums: &mut [u32], ticks: &mut [u64]) -> u32
     ensures { λ r. ⌜ cleared r (now (names .exit)) (now (nums .exit)) (now (ticks .exit))
         ≡ clearedOf (now (names .entry)) (now (nums .entry)) (now (ticks .entry)) ⌝ }
 {

@@ -5,8 +5,3 @@ pub mod find;
 pub mod fresh;
 pub mod range;
 pub mod state;
-
-pub use find::find_instance;
-pub use find::find_name;
-pub use fresh::clear;
-pub use range::table_answer;

@@ -3,7 +3,7 @@ ghost use mathlib.Core.Path.{_≡_};
 ghost use Prim.Native.Nat.{_<_, _≤_};
 ghost use lib.ListN.{length};
 ghost use Rattle.tables.specs.Sized.{Sized, isSized};
-ghost use Rattle.tables.specs.Range.{Counted, countsOk, headsOk, timesOk, holderOk, coreOk, markOk, sumsOk, bytesOk, nameOk, instanceOk, upTo, inRange};
+ghost use Rattle.tables.specs.Range.{Counted, countsOk, lineLevelOk, timesOk, holderOk, coreOk, standingOk, sumsOk, bytesOk, nameOk, instanceOk, upTo, inRange};
 ghost use Rattle.tables.specs.Range.{tableAnswer};
 ghost use Rattle.tables.specs.Entry.{namesSize, numsSize, ticksSize, nameRows, instanceRows};
 use crate::entry::*;
@@ -27,9 +27,9 @@ pub fn sized(names: usize, nums: usize, ticks: usize) -> bool
 }
 
 // The verdict and the line level's entries.
-fn heads_ok(nums: &[u32]) -> bool
+fn line_level_ok(nums: &[u32]) -> bool
     requires { ⌜ length (now nums) ≡ numsSize ⌝ }
-    ensures { λ r. ⌜ r ≡ headsOk (now (nums .entry)) ⌝ }
+    ensures { λ r. ⌜ r ≡ lineLevelOk (now (nums .entry)) ⌝ }
 {
     (nums[VERDICT] <= LAST_REFUSAL)
         & ((nums[VERDICT_LINE] <= 1000000001)
@@ -67,28 +67,28 @@ fn holder_ok(nums: &[u32], p: u32) -> bool
 }
 
 // The state of a core: idle (1), or held by an instance of the process in row p (2 + p).
-fn core_ok(nums: &[u32], mark: u32) -> bool
+fn core_ok(nums: &[u32], standing: u32) -> bool
     requires { ⌜ Counted (now nums) ⌝ }
-    ensures { λ r. ⌜ r ≡ coreOk (now (nums .entry)) mark ⌝ }
+    ensures { λ r. ⌜ r ≡ coreOk (now (nums .entry)) standing ⌝ }
 {
-    if mark < 2 {
-        return mark == 1;
+    if standing < 2 {
+        return standing == 1;
     }
-    holder_ok(nums, mark - 2)
+    holder_ok(nums, standing - 2)
 }
 
 // The state of a name by its kind: a core's; of a semaphore none yet (0) or one of its chart's; any other name has none.
-fn mark_ok(nums: &[u32], kind: u32, mark: u32) -> bool
+fn standing_ok(nums: &[u32], kind: u32, standing: u32) -> bool
     requires { ⌜ Counted (now nums) ⌝ }
-    ensures { λ r. ⌜ r ≡ markOk (now (nums .entry)) kind mark ⌝ }
+    ensures { λ r. ⌜ r ≡ standingOk (now (nums .entry)) kind standing ⌝ }
 {
     if kind == CORE {
-        return core_ok(nums, mark);
+        return core_ok(nums, standing);
     }
     if kind == SEMAPHORE {
-        return (mark == 0) | of_semaphore(mark);
+        return (standing == 0) | of_semaphore(standing);
     }
-    mark == 0
+    standing == 0
 }
 
 // The tick sums and the time since of name i.
@@ -121,10 +121,11 @@ fn name_ok(names: &[u8], nums: &[u32], ticks: &[u64], i: usize) -> bool
     ensures { λ r. ⌜ r ≡ nameOk (now (names .entry)) (now (nums .entry)) (now (ticks .entry)) i ⌝ }
 {
     let kind = nums[KIND + i];
-    let mark = mark_ok(nums, kind, nums[MARK + i]);
+    let standing = standing_ok(nums, kind, nums[STANDING + i]);
     let bytes = bytes_ok(names, nums, i);
     let sums = sums_ok(ticks, i);
-    (CORE <= kind) & ((kind <= SEMAPHORE) & ((nums[NUMBERED + i] <= 1) & (mark & (bytes & sums))))
+    (CORE <= kind)
+        & ((kind <= SEMAPHORE) & ((nums[NUMBERED + i] <= 1) & (standing & (bytes & sums))))
 }
 
 // The whole row of instance j.
@@ -178,7 +179,7 @@ fn in_range(names: &[u8], nums: &[u32], ticks: &[u64]) -> bool
     let n = nums[NAMES] as usize;
     let m = nums[INSTANCES] as usize;
     let rows = names_ok(names, nums, ticks, n) & instances_ok(nums, m);
-    heads_ok(nums) & (times_ok(ticks) & rows)
+    line_level_ok(nums) & (times_ok(ticks) & rows)
 }
 
 // 15 for tables of a wrong size, 16 for an entry out of its range, else 0.

@@ -11,6 +11,6 @@ state-in-spec =
     tie.close
     (tie.spec
     (λ c κs. search needs)
-    (λ c. rw (eq-eqb _ 5 (c .before .if1 .taken)) (c .mark-in .ensures))
+    (λ c. rw (eq-eqb _ 5 (c .before .if1 .taken)) (c .standing-in .ensures))
     (λ c κs. search needs)
     (λ c. rw (ne-eqb _ 5 (c .before .if1 .left)) (c .instance-state .ensures)))

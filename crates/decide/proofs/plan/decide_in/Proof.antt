@@ -1,21 +1,47 @@
 -- `decide::plan::decide_in` meets its contract: the tests in the order of their numbers, each by its own function, are the plan.
 use borrow.Author.Needs.{needs}
-use mathlib.Core.Path.{_≡_}
-use Rattle.decide.specs.Happening.{asEvent}
+use mathlib.Core.Path.{_≡_, ap, _∙_}
+use Prim.Native.Nat.{ℕ}
+use Rattle.rules.specs.Event.{Event}
+use Rattle.rules.specs.Lines.{eventFrom}
+use Rattle.decide.specs.LookedUp.{lookedUp}
 use Rattle.decide.specs.Decide.{planOf}
 use Rattle.decide.specs.PlanCode.{testsPlan}
 use Rattle.decide.proofs.Plans.{tests-decide}
 use Rattle.decide.proofs.plan.decide_in.Statement.{statement}
 use Rattle.decide.proofs.plan.decide_in.Tie as tie
 
--- what is looked up decides
+-- from the place where the rows are known to the start
+abbrev begun : tie.After-look → tie.Start
+begun c = c .before .before .before .before .before .before .before .before
+
+-- the event of the rules, with numbers for its kind and word
+abbrev event : tie.After-look → ℕ → ℕ → Event
+event c kind word =
+    let a = begun c .args in
+    record {
+      time = a .e .time;
+      source = a .source .now;
+      sourceInstance = a .e .«source_instance»;
+      kind = kind;
+      target = a .target .now;
+      targetInstance = a .e .«target_instance»;
+      word = word;
+      count = a .count;
+    }
+
+-- with those that were asked for, what is looked up decides
 seen : (c : tie.After-look) →
-    let a = c .before .before .before .before .before .before .args in
-    let e = asEvent (a .h) (a .source .now) (a .target .now) in
-    testsPlan (a .nums .now) (a .ticks .now) (c .look .result) e ≡ planOf (a .names .now) (a .nums .now) (a .ticks .now) e
+    let a = begun c .args in
+    testsPlan (a .nums .now) (a .ticks .now) (c .look .result) (event c (c .before .before .kind-number .result) (c .before .action-code .result))
+    ≡ planOf (a .names .now) (a .nums .now) (a .ticks .now) (eventFrom (a .e) (a .source .now) (a .target .now) (a .count))
+unfolding lookedUp
 seen c =
-    let a = c .before .before .before .before .before .before .args in
-    tests-decide (a .names .now) (a .nums .now) (a .ticks .now) (c .look .result) (asEvent (a .h) (a .source .now) (a .target .now)) (c .look .ensures)
+    let a = begun c .args in
+    let k = c .before .before .kind-number in
+    let w = c .before .action-code in
+    tests-decide (a .names .now) (a .nums .now) (a .ticks .now) (c .look .result) (event c (k .result) (w .result)) (c .look .ensures)
+    ∙ ap (planOf (a .names .now) (a .nums .now) (a .ticks .now)) (λ i. event c (k .ensures i) (w .ensures i))
 
 returns : tie.Need-returns
 unfolding testsPlan
@@ -81,6 +107,8 @@ pub decide-in-spec : {M : Type 1} → statement M
 decide-in-spec =
     tie.close
     (tie.spec
+    (λ c κs. search needs)
+    (λ c κs. search needs)
     (λ c κs. search needs)
     (λ c κs. search needs)
     returns

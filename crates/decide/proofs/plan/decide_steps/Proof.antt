@@ -11,7 +11,7 @@ use Rattle.decide.proofs.plan.decide_steps.Tie as tie
 
 step-is : (c : tie.After-m) →
     let a = c .before .before .before .before .before .args in
-    moveBy (chartOf (a .h .kind)) (a .h .word) (stateIn (a .nums .now) (a .s) (a .h .kind)) ≡ To (c .m .given .0 .0)
+    moveBy (chartOf (a .kind)) (a .word) (stateIn (a .nums .now) (a .s) (a .kind)) ≡ To (c .m .given .0 .0)
 step-is c =
     let k = c .before .before in
     rw (← (k .before .state-in .ensures)) (sym (k .chart-step .ensures) ∙ c .m .given .1)

@@ -1,6 +1,6 @@
 -- `judge::feed::feed` meets its contract: the tables are tested first.
 use borrow.Author.Needs.{needs}
-use Rattle.judge.proofs.Feeds.{refused-fed, lined-fed, sized}
+use Rattle.judge.proofs.Feeds.{refused-fed, judged-fed, sized}
 use Rattle.judge.proofs.feed.feed.Statement.{statement}
 use Rattle.judge.proofs.feed.feed.Tie as tie
 
@@ -8,7 +8,7 @@ returns-2 : tie.Need-returns-2
 returns-2 c =
     let l = c .before .before .before .before .before .before in
     let i = l .before .before .before .before in
-    lined-fed _ _ (i .before .table-answer .ensures) (i .if1 .left) (l .line-in .ensures)
+    judged-fed _ _ (i .before .table-answer .ensures) (i .if1 .left) (l .line-in .ensures)
 
 pub feed-spec : {M : Type 1} → statement M
 feed-spec =

@@ -1,7 +1,7 @@
 -- `judge::feed::feed_chunk` meets its contract: the tables are tested once, and keep their sizes over the lines.
 use native.Mathlib.Omega.{arith}
 use borrow.Author.Needs.{needs}
-use Rattle.judge.proofs.Feeds.{lines-alike, sized, refused-chunk, lined-chunk}
+use Rattle.judge.proofs.Feeds.{lines-alike, sized, refused-chunk, judged-chunk}
 use Rattle.judge.proofs.feed.feed_chunk.Statement.{statement}
 use Rattle.judge.proofs.feed.feed_chunk.Tie as tie
 
@@ -9,7 +9,7 @@ returns-2 : tie.Need-returns-2
 returns-2 c =
     let l = c .before .before .before .before .before .before .before in
     let i = l .before .before .before .before in
-    lined-chunk _ _ (i .before .table-answer .ensures) (i .if1 .left) (l .lines-in .ensures .0) (l .lines-in .ensures .1)
+    judged-chunk _ _ (i .before .table-answer .ensures) (i .if1 .left) (l .lines-in .ensures .0) (l .lines-in .ensures .1)
 
 pub feed-chunk-spec : {M : Type 1} → statement M
 feed-chunk-spec =

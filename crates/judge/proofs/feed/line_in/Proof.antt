@@ -2,8 +2,8 @@
 use mathlib.Core.Path.{_≡_, ap, _∙_}
 use borrow.Author.Needs.{needs}
 use Rattle.line.specs.declared.reading.Split.{Split}
-use Rattle.judge.specs.Feed.{tables, placedLine, lined}
-use Rattle.judge.proofs.Feeds.{verdict-again, placed-lined, refused-placed, read-placed}
+use Rattle.judge.specs.Feed.{tables, judgedInPlace, judgedLine}
+use Rattle.judge.proofs.Feeds.{verdict-again, placed-judged, refused-placed, read-placed}
 use Rattle.judge.proofs.feed.line_in.Statement.{statement}
 use Rattle.judge.proofs.feed.line_in.Tie as tie
 
@@ -11,10 +11,10 @@ use Rattle.judge.proofs.feed.line_in.Tie as tie
 placed : (c : tie.After-answer-in-place) →
     let a = c .before .before .before .before .before .before .before .before .before .before .before .args in
     let t = tables (a .names .now) (a .nums .now) (a .ticks .now) in
-    placedLine (c .answer-in-place .result) t (a .l .now) ≡ lined t (a .l .now)
+    judgedInPlace (c .answer-in-place .result) t (a .l .now) ≡ judgedLine t (a .l .now)
 placed c =
     let r = c .before .before .before .before in
-    placed-lined _ _ (r .before .if1 .left) (c .before .place-in .ensures) (ap (λ (s : Split). s .reading) (r .read-split .ensures)) (c .answer-in-place .ensures)
+    placed-judged _ _ (r .before .if1 .left) (c .before .place-in .ensures) (ap (λ (s : Split). s .reading) (r .read-split .ensures)) (c .answer-in-place .ensures)
 
 returns : tie.Need-returns
 returns c = verdict-again _ _ (c .if1 .taken)

@@ -3,13 +3,13 @@ use mathlib.Core.Path.{refl}
 use Prim.Native.Nat.{_+_}
 use native.Mathlib.Omega.{arith}
 use borrow.Author.Needs.{needs}
-use Rattle.tables.specs.Entry.{markColumn}
-use Rattle.sheet.specs.Figure.{holds}
+use Rattle.tables.specs.Entry.{standingColumn}
+use Rattle.sheet.specs.Figure.{holdsCore}
 use Rattle.sheet.proofs.figure.holds_core.Statement.{statement}
 use Rattle.sheet.proofs.figure.holds_core.Tie as tie
 
 pub holds-core-spec : {M : Type 1} → statement M
-unfolding holds
+unfolding holdsCore
 holds-core-spec =
     tie.close
     (tie.spec
@@ -19,6 +19,6 @@ holds-core-spec =
     (λ c. search needs)
     (λ c. search needs)
     (λ c. search needs)
-    (λ c. omega (arith, c .shared-slice-known2 .given (markColumn .base + c .before .before .args .k)))
+    (λ c. omega (arith, c .shared-slice-known2 .given (standingColumn .base + c .before .before .args .k)))
     (λ c. search needs)
     (λ c. refl))

@@ -27,9 +27,19 @@ in-tables c =
 abbrev row : tie.Start → Row
 row c = rowIn (c .args .section) (c .args .names .now) (c .args .nums .now) (c .args .ticks .now) (c .args .i)
 
+-- back over what is known of the output and of the three tables
+abbrev shared : tie.After-slice-known → tie.After-shared-slice-known3
+shared c = c .before
+
+abbrev start : tie.After-slice-known → tie.Start
+start c = shared c .before .before .before
+
 -- from the place after a piece to the place after the one before it, what is put there, and the room that the pieces after it have
+abbrev name-found : tie.After-put-bytes → tie.After-shared-slice-known4
+name-found c = c .before .before .before
+
 abbrev d0 : tie.After-put-bytes → tie.Start
-d0 c = c .before .before .before .before .before .before .before .before
+d0 c = start (name-found c .before)
 
 put-1 : (c : tie.After-put-bytes) → after (c .put-bytes .result) (c .put-bytes .last .1 .0) ≡ put (d0 c .args .out .now) (d0 c .args .at) (row (d0 c) .name)
 put-1 c = rw (← (lent-name (d0 c .args .names .now) (d0 c .args .nums .now) (d0 c .args .i))) (c .put-bytes .ensures)
@@ -41,8 +51,10 @@ returns : tie.Need-returns
 unfolding rowText
 returns c =
     let e3 = c .before .before in
-    let e2 = e3 .before .before .before .before .before in
-    let e1 = e2 .before .before .before .before in
+    let k2 = e3 .before .before .before in
+    let e2 = k2 .before .before in
+    let k1 = e2 .before .before in
+    let e1 = k1 .before .before in
     let r = row (d0 e1) in
     put-then _ _ (r .name ++ figuresText (r .figures)) (10 ∷ []) (put-two _ _ (r .name) (figuresText (r .figures)) (put-1 e1) (e2 .put-figures .ensures)) (e3 .put-bytes2 .ensures) (d0 e1 .pre .1 .1)
 
@@ -50,15 +62,15 @@ pub put-row-spec : {M : Type 1} → statement M
 put-row-spec =
     tie.close
     (tie.spec
-    (λ c. omega (arith, in-tables (c .before .before .before .before)))
-    (λ c. omega (arith, in-tables (c .before .before .before .before)))
-    (λ c. omega (arith, in-tables (c .before .before .before .before)))
-    (λ c. omega (arith, in-tables (c .before .before .before .before .before)))
-    (λ c. omega (arith, in-tables (c .before .before .before .before .before)))
-    (λ c. omega (arith, in-tables (c .before .before .before .before .before)))
+    (λ c. omega (arith, in-tables (start c)))
+    (λ c. omega (arith, in-tables (start c)))
+    (λ c. omega (arith, in-tables (start c)))
+    (λ c. omega (arith, in-tables (start (c .before))))
+    (λ c. omega (arith, in-tables (start (c .before))))
+    (λ c. omega (arith, in-tables (start (c .before))))
     (λ c. search needs)
     (λ c. search needs)
-    (λ c. omega (arith, in-tables (c .before .before .before .before .before)))
+    (λ c. omega (arith, in-tables (start (c .before))))
     (λ c κs. tt)
     (λ c κs.
     let e1 = c .before .before .before in

@@ -17,7 +17,7 @@ unfolding stored
 returns-2 c =
     let t = c .before .before .before .before .before .before in
     let d = t .before .before .before .before in
-    rw (passed (d .before .sized .ensures) (d .if1 .left), t .take-in .ensures .0, t .take-in .ensures .1 .0, t .take-in .ensures .1 .1)
+    rw (passed (d .before .sized .ensures) (d .if1 .left)) (t .take-in .ensures)
 
 pub take-spec : {M : Type 1} → statement M
 unfolding stored

@@ -50,7 +50,7 @@ take-names-spec =
     (λ c κs. search needs)
     (λ c κs. search needs)
     (λ c κs. as-long (c .before .before .before) ∙ c .before .before .before .before .before .before .before .before .before .before .before .pre .0)
-    (λ c. ap length (returns c) ∙ length-takenNames _ _ _ _)
+    (λ c. ap length (returns c) ∙ length-takenNames _ _ _ _ _ _)
     returns
-    (λ c. ap length (returns-2 c) ∙ length-takenNames _ _ _ _)
+    (λ c. ap length (returns-2 c) ∙ length-takenNames _ _ _ _ _ _)
     returns-2)

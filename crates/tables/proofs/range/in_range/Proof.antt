@@ -14,12 +14,12 @@ returns c = rw (failed (c .before .counts-ok .ensures) (c .if1 .taken), and-fals
 returns-2 : tie.Need-returns-2
 unfolding inRange
 returns-2 c =
-    let heads = c .before in
-    let instances = heads .before in
+    let level = c .before in
+    let instances = level .before in
     let names = instances .before in
     let counts = names .before .before .before in
     rw (
-      heads .heads-ok .ensures,
+      level .line-level-ok .ensures,
       c .times-ok .ensures,
       names .names-ok .ensures,
       instances .instances-ok .ensures,

@@ -9,7 +9,7 @@ unfolding nameOk
 returns c =
     let sums = c .before in
     let bytes = sums .before in
-    rw (bytes .before .mark-ok .ensures, bytes .bytes-ok .ensures, sums .sums-ok .ensures)
+    rw (bytes .before .standing-ok .ensures, bytes .bytes-ok .ensures, sums .sums-ok .ensures)
 
 pub name-ok-spec : {M : Type 1} → statement M
 name-ok-spec =

@@ -1,0 +1,70 @@
+// What is looked up in the tables for an event line: the rows of its core, its target and its instance.
+ghost use mathlib.Core.Path.{_≡_};
+ghost use Rattle.tables.specs.Find.{findName};
+ghost use Rattle.decide.specs.LookedUp.{lookIf, instanceIn, lookedUpFor};
+use rules::kind::core_class;
+use rules::kind::tracked;
+use rules::kind::with_instances;
+use rules::numbers::NO_CORE;
+use tables::find::Found;
+use tables::find::find_instance;
+use tables::find::find_name;
+
+// What the event does to its core, and the rows of its core, its target and its instance.
+pub struct LookedUp {
+    pub class: u32,
+    pub source: Found,
+    pub target: Found,
+    pub instance: Found,
+}
+
+// The row of a name, looked up only where it is needed.
+fn look_if(needed: bool, names: &[u8], nums: &[u32], name: &[u8]) -> Found
+    ensures { λ r. ⌜ r ≡ lookIf needed (findName (now (names .entry)) (now (nums .entry)) (now (name .entry))) ⌝ }
+{
+    if needed {
+        find_name(names, nums, name)
+    } else {
+        Found::Nothing
+    }
+}
+
+// The row of an instance of the name in a row.
+fn instance_in(nums: &[u32], needed: bool, target: Found, number: u32) -> Found
+    ensures { λ r. ⌜ r ≡ instanceIn (now (nums .entry)) needed target number ⌝ }
+{
+    if !needed {
+        return Found::Nothing;
+    }
+    let Found::At(i) = target else {
+        return Found::Nothing;
+    };
+    if 255 < i {
+        return Found::Nothing;
+    }
+    find_instance(nums, i as u32, number)
+}
+
+// The rows of an event line's core, target and instance.
+pub fn look(
+    names: &[u8],
+    nums: &[u32],
+    kind: u32,
+    word: u32,
+    number: u32,
+    source: &[u8],
+    target: &[u8],
+) -> LookedUp
+    ensures { λ r. ⌜ r ≡ lookedUpFor (now (names .entry)) (now (nums .entry)) kind word number (now (source .entry)) (now (target .entry)) ⌝ }
+{
+    let class = core_class(kind, word);
+    let s = look_if(class != NO_CORE, names, nums, source);
+    let t = look_if(tracked(kind), names, nums, target);
+    let j = instance_in(nums, with_instances(kind), t, number);
+    LookedUp {
+        class,
+        source: s,
+        target: t,
+        instance: j,
+    }
+}

@@ -1,0 +1,96 @@
+// The refusals 12 and 14 of an event line: the number of its instance, and a semaphore's count.
+ghost use mathlib.Core.Path.{_≡_};
+ghost use lib.ListN.{length};
+ghost use Rattle.rules.specs.Refusals.{countAllowed};
+ghost use Rattle.decide.specs.PlanCode.{notNextIn, countFollowsIn, leastCount, countBrokenIn};
+ghost use Rattle.tables.specs.Entry.{numsSize};
+use crate::known::number_in;
+use crate::known::numbered_in;
+use crate::look::LookedUp;
+use rules::kind::numbers_instance;
+use rules::numbers::SEMAPHORE;
+use words::code::*;
+
+// 12: whether the instance number is not the next.
+pub(crate) fn not_next(nums: &[u32], s: LookedUp, kind: u32, word: u32, number: u32) -> bool
+    requires { ⌜ length (now nums) ≡ numsSize ⌝ }
+    ensures { λ r. ⌜ r ≡ notNextIn (now (nums .entry)) s kind word number ⌝ }
+{
+    let row = s.target;
+    if !numbers_instance(kind, word) {
+        return false;
+    }
+    if !numbered_in(nums, row) {
+        return false;
+    }
+    number as u64 != number_in(nums, row) as u64 + 1
+}
+
+// Whether a semaphore's count follows the one before.
+fn count_follows(before: u32, word: u32, count: u32) -> bool
+    ensures { λ r. ⌜ r ≡ countFollowsIn before word count ⌝ }
+{
+    if word == INCREMENT {
+        return count as u64 == before as u64 + 1;
+    }
+    if word == DECREMENT {
+        return count as u64 + 1 == before as u64;
+    }
+    count == before
+}
+
+// The least count that an event may bear, where it has one.
+fn least_count(word: u32) -> u32
+    ensures { λ r. ⌜ r ≡ leastCount word ⌝ }
+{
+    if word == INCREMENT {
+        return 1;
+    }
+    if word == USED {
+        return 1;
+    }
+    if word == UNLOCK_FULL {
+        return 1;
+    }
+    if word == LOCK_USED {
+        return 1;
+    }
+    if word == FULL {
+        return 1;
+    }
+    if word == OVERFULL { 2 } else { 0 }
+}
+
+// Whether a count is one that its event may bear.
+fn count_fits(word: u32, count: u32) -> bool
+    ensures { λ r. ⌜ r ≡ countAllowed word count ⌝ }
+{
+    if word == FREE {
+        return count == 0;
+    }
+    if word == UNLOCK {
+        return count == 0;
+    }
+    if word == LOCK {
+        return count == 1;
+    }
+    least_count(word) <= count
+}
+
+// 14: whether a semaphore's count is broken.
+pub(crate) fn count_broken(nums: &[u32], s: LookedUp, kind: u32, word: u32, count: u32) -> bool
+    requires { ⌜ length (now nums) ≡ numsSize ⌝ }
+    ensures { λ r. ⌜ r ≡ countBrokenIn (now (nums .entry)) s kind word count ⌝ }
+{
+    let row = s.target;
+    if kind != SEMAPHORE {
+        return false;
+    }
+    if !count_fits(word, count) {
+        return true;
+    }
+    if !numbered_in(nums, row) {
+        return false;
+    }
+    !count_follows(number_in(nums, row), word, count)
+}

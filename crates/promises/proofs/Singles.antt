@@ -1,0 +1,80 @@
+-- The line level. Tables that agree from the event level's entries on show the same events; and a line that is well formed and in its place, but for
+-- an event line, changes only the line level's entries, as the place after it says.
+use mathlib.Core.Path.{_≡_, sym, ap, _∙_}
+use mathlib.Core.Option.{some}
+use mathlib.Core.List.{List}
+use Prim.Native.Nat.{ℕ, _+_, _*_, _≤_}
+use native.Mathlib.Omega.{arith}
+use lib.ListN.{length, getD, take, drop}
+use Rattle.rules.specs.Event.{Event, Instance}
+use Rattle.rules.specs.Rows.{opened}
+use Rattle.tables.specs.Entry.{nameRoom, startedIndex, namesIndex, coresIndex, instancesIndex, instanceCount, ownerAt, instanceAt}
+use Rattle.tables.specs.Entry.{kindColumn, lengthColumn, standingColumn, numberColumn, numberedColumn, ownerColumn, instanceColumn, stateColumn}
+use Rattle.judge.specs.Feed.{tables}
+use Rattle.promises.specs.Shown.{SinglesShown, NameShown, InstanceShown, InstancesShown, Shown}
+
+-- ---- the event level
+
+abbrev pub AgreeFrom : ℕ → List ℕ → List ℕ → Type 0
+AgreeFrom i nums nums' = (j : ℕ) → i ≤ j → getD nums' j 0 ≡ getD nums j 0
+
+module _ (h : List Event) (names nums nums' ticks : List ℕ) (g : AgreeFrom 6 nums nums') where
+  singles-later : SinglesShown h nums ticks → SinglesShown h nums' ticks
+  singles-later s = record {
+    started = g startedIndex (omega arith) ∙ s .started;
+    names-counted = g namesIndex (omega arith) ∙ s .names-counted;
+    cores-counted = g coresIndex (omega arith) ∙ s .cores-counted;
+    instances-counted = g instancesIndex (omega arith) ∙ s .instances-counted;
+    first = s .first;
+    last = s .last;
+  }
+
+  name-later : (i : ℕ) (n : List ℕ) → NameShown h names nums i n → NameShown h names nums' i n
+  name-later i n s =
+      let k = g (kindColumn .base + i) (omega arith) in
+      let d = g (numberedColumn .base + i) (omega arith) in
+      record {
+        name = ap (λ m. take m (drop (nameRoom * i) names)) (g (lengthColumn .base + i) (omega arith)) ∙ s .name;
+        size = g (lengthColumn .base + i) (omega arith) ∙ s .size;
+        kind = s .kind ∙ ap some (sym k);
+        standing = rw (k, g (standingColumn .base + i) (omega arith)) (s .standing);
+        holder = λ x q. g (numberColumn .base + i) (omega arith) ∙ s .holder x q;
+        numbered = rw d (s .numbered);
+        number = rw (d, g (numberColumn .base + i) (omega arith), k) (s .number);
+      }
+
+  count-later : instanceCount nums' ≡ instanceCount nums
+  count-later = g instancesIndex (omega arith)
+
+  owner-later : (j : ℕ) → ownerAt nums' j ≡ ownerAt nums j
+  owner-later j = g (ownerColumn .base + j) (omega arith)
+
+  number-later : (j : ℕ) → instanceAt nums' j ≡ instanceAt nums j
+  number-later j = g (instanceColumn .base + j) (omega arith)
+
+  instance-later : (j : ℕ) (x : Instance) → InstanceShown h nums j x → InstanceShown h nums' j x
+  instance-later j x s = record {
+    below = rw count-later (s .below);
+    owner = owner-later j ∙ s .owner;
+    number = number-later j ∙ s .number;
+    state = ap opened (g (stateColumn .base + j) (omega arith)) ∙ s .state;
+  }
+
+  instances-later : InstancesShown h nums → InstancesShown h nums'
+  instances-later s = record {
+    each = λ x m. let r = s .each x m in (r .0, instance-later (r .0) x (r .1));
+    owned = λ j b. let r = s .owned j (rw count-later at b) in (r .0, r .1, instance-later j (r .0) (r .2));
+    kept = λ i j b d o n.
+        s .kept i j (rw count-later at b) (rw count-later at d) (sym (owner-later i) ∙ o ∙ owner-later j) (sym (number-later i) ∙ n ∙ number-later j);
+  }
+
+  pub shown-later : length nums' ≡ length nums → Shown h (tables names nums ticks) → Shown h (tables names nums' ticks)
+  shown-later z s = record {
+    names-size = s .names-size;
+    nums-size = z ∙ s .nums-size;
+    ticks-size = s .ticks-size;
+    singles = singles-later (s .singles);
+    each-name = λ n m. name-later _ n (s .each-name n m);
+    instance-rows = instances-later (s .instance-rows);
+    each-ticks = s .each-ticks;
+  }
