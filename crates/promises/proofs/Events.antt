@@ -34,7 +34,7 @@ use Rattle.promises.proofs.Entries.{lines-taken, verdict-number-kept, v
 use Rattle.promises.proofs.Names.{each-name-next}
 use Rattle.promises.proofs.Instances.{instances-next}
 use Rattle.promises.proofs.Sums.{each-ticks-next}
-use Rattle.promises.proofs.Sizes.{names-size-next, nums-size-next, ticks-size-next, singles-next}
+use Rattle.promises.proofs.Sizes.{sized-next, singles-next}
 use Rattle.promises.proofs.Lines.{EventOutcome}
 
 -- the events of lines that were read are as lines give them
@@ -67,9 +67,7 @@ module _ (h : List Event) (a : Accepted h) (met : AllMet h) (t : Tables) (s : Sh
       let f = passed h event q in
       let l = enters-shown h a met t s event (f .kinds) (f .chart) in
       record {
-        names-size = names-size-next h t s event state;
-        nums-size = nums-size-next h t s event state;
-        ticks-size = ticks-size-next h t s event state;
+        sized = sized-next h t s event state;
         singles = singles-next h t s event state a met f;
         each-name = each-name-next h a met t s event f m state l;
         instance-rows = instances-next h a met t s event f state l;
@@ -78,12 +76,12 @@ module _ (h : List Event) (a : Accepted h) (met : AllMet h) (t : Tables) (s : Sh
 
   -- the line level's entries but for the count of lines
   level : (j : ℕ) → j < 6 → (j ≡ 2 → ⊥) → getD (next .nums) j 0 ≡ getD (t .nums) j 0
-  level zero l n = verdict-number-kept (t .nums) (s .nums-size) (lookedUpIn h t event) state event
-  level (suc zero) l n = verdict-line-kept (t .nums) (s .nums-size) (lookedUpIn h t event) state event
+  level zero l n = verdict-number-kept (t .nums) (s .sized .nums-size) (lookedUpIn h t event) state event
+  level (suc zero) l n = verdict-line-kept (t .nums) (s .sized .nums-size) (lookedUpIn h t event) state event
   level (suc (suc zero)) l n = absurd (n refl)
-  level (suc (suc (suc zero))) l n = scale-kept (t .nums) (s .nums-size) (lookedUpIn h t event) state event
-  level (suc (suc (suc (suc zero)))) l n = creator-kept (t .nums) (s .nums-size) (lookedUpIn h t event) state event
-  level (suc (suc (suc (suc (suc zero))))) l n = date-kept (t .nums) (s .nums-size) (lookedUpIn h t event) state event
+  level (suc (suc (suc zero))) l n = scale-kept (t .nums) (s .sized .nums-size) (lookedUpIn h t event) state event
+  level (suc (suc (suc (suc zero)))) l n = creator-kept (t .nums) (s .sized .nums-size) (lookedUpIn h t event) state event
+  level (suc (suc (suc (suc (suc zero))))) l n = date-kept (t .nums) (s .sized .nums-size) (lookedUpIn h t event) state event
   level (suc (suc (suc (suc (suc (suc j)))))) l n = absurd (omega (arith, l))
 
   -- ---- the decision
@@ -108,7 +106,7 @@ module _ (h : List Event) (a : Accepted h) (met : AllMet h) (t : Tables) (s : Sh
           (record {
             answered = sym q;
             shown = λ z. taken-shown q m;
-            line-counted = λ z. lines-taken (t .nums) (s .nums-size) (lookedUpIn h t event) state event;
+            line-counted = λ z. lines-taken (t .nums) (s .sized .nums-size) (lookedUpIn h t event) state event;
             level-kept = λ z. level;
             remembers = λ z. absurd (z q);
           })

@@ -95,13 +95,13 @@ module _ (h : List Event) (a : Accepted h) (met : AllMet h) (t : Tables) (s : Sh
     bound i = target-bound h t s e f state (instances-tracked (e .kind) i)
 
     owner-at : ownerAt (after .nums) j ≡ cond (isOwn j) (targetRow (t .nums) (lookedUpIn h t e)) (ownerAt (t .nums) j)
-    owner-at = owner-taken (t .nums) (s .nums-size) (lookedUpIn h t e) state e bound j (small j b)
+    owner-at = owner-taken (t .nums) (s .sized .nums-size) (lookedUpIn h t e) state e bound j (small j b)
 
     number-at : instanceAt (after .nums) j ≡ cond (isOwn j) (e .targetInstance) (instanceAt (t .nums) j)
-    number-at = instance-taken (t .nums) (s .nums-size) (lookedUpIn h t e) state e bound j (small j b)
+    number-at = instance-taken (t .nums) (s .sized .nums-size) (lookedUpIn h t e) state e bound j (small j b)
 
     state-at : stateAt (after .nums) j ≡ cond (isOwn j) state (stateAt (t .nums) j)
-    state-at = state-taken (t .nums) (s .nums-size) (lookedUpIn h t e) state e bound j (small j b)
+    state-at = state-taken (t .nums) (s .sized .nums-size) (lookedUpIn h t e) state e bound j (small j b)
 
   own-shown : hasInstances (e .kind) ≡ true → InstanceShown (e ∷ h) (after .nums) row (instanceOf e)
   own-shown i =

@@ -162,7 +162,7 @@ module _ (h : List (List ℕ)) (t : Tables) (s : Shows h t) (l : List ℕ) (q : 
       LineOutcome h t l (after 0 (t .names) (counted nums) (t .ticks))
   unfolding placeIn
   counted-outcome r e o n =
-      let k = counted-own nums (omega (arith, s .events .nums-size)) ∙ one-line-more h t s l q in
+      let k = counted-own nums (omega (arith, s .events .sized .nums-size)) ∙ one-line-more h t s l q in
       let g : (j : ℕ) → (2 ≡ j → ⊥) → getD (counted nums) j 0 ≡ getD nums j 0 = counted-other nums in
       level-outcome h t s l q (counted nums) (length-counted nums)
       (λ j d. g j (λ w. omega arith))
@@ -175,7 +175,7 @@ module _ (h : List (List ℕ)) (t : Tables) (s : Shows h t) (l : List ℕ) (q : 
   set-outcome : (i v : ℕ) → 2 < i → i < 6 → (r : Reading) → readLine l ≡ r → eventIn r l ≡ none → creatorEntry (counted (set nums i v)) ≤ 1 → dateEntry (counted (set nums i v)) ≤ 1 →
       placeIn (counted (set nums i v)) ≡ nextPlace (placeIn nums) r → LineOutcome h t l (after 0 (t .names) (counted (set nums i v)) (t .ticks))
   set-outcome i v lo hi r e o c d p =
-      let z = s .events .nums-size in
+      let z = s .events .sized .nums-size in
       level-outcome h t s l q (counted (set nums i v)) (length-entry nums i v) (set-later nums i v z lo hi) (set-verdict nums i v z lo hi) c d (no-event e o)
       (p ∙ ap (nextPlace (placeIn nums)) (sym e))
 
@@ -185,13 +185,13 @@ module _ (h : List (List ℕ)) (t : Tables) (s : Shows h t) (l : List ℕ) (q : 
     entry j = getD (counted (set nums i v)) j 0
 
     kept : (j : ℕ) → (2 ≡ j → ⊥) → (i ≡ j → ⊥) → entry j ≡ getD nums j 0
-    kept = set-entry nums i v (s .events .nums-size) lo hi
+    kept = set-entry nums i v (s .events .sized .nums-size) lo hi
 
     own : entry i ≡ v
-    own = set-own nums i v (s .events .nums-size) lo hi
+    own = set-own nums i v (s .events .sized .nums-size) lo hi
 
     lines : entry 2 ≡ lineCount nums + 1
-    lines = set-lines nums i v (s .events .nums-size) lo hi ∙ one-line-more h t s l q
+    lines = set-lines nums i v (s .events .sized .nums-size) lo hi ∙ one-line-more h t s l q
 
   scale-outcome : (c : Scale) → readLine l ≡ TimeScale c → LineOutcome h t l (after 0 (t .names) (counted (set nums 3 (scaleNumber c))) (t .ticks))
   unfolding placeIn

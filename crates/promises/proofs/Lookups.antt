@@ -70,7 +70,7 @@ module _ (h : List Event) (a : Accepted h) (m : AllMet h) (t : Tables) (s : Show
 
   pub found-name : (n : List ℕ) → findName (t .names) (t .nums) n ≡ seek (sameBytes n) (names h)
   found-name n =
-      name-found (t .names) (t .nums) n (s .names-size) (s .nums-size)
+      name-found (t .names) (t .nums) n (s .sized .names-size) (s .sized .nums-size)
       ∙ ap (firstFrom (rowIs (t .names) (t .nums) n) 0) (s .singles .names-counted)
       ∙ first-sought (rowIs (t .names) (t .nums) n) (sameBytes n) (names h) told there
     where
@@ -83,12 +83,12 @@ module _ (h : List Event) (a : Accepted h) (m : AllMet h) (t : Tables) (s : Show
       there : any (sameBytes n) (names h) ≡ true → rowIs (t .names) (t .nums) n (rowOf h n) ≡ true
       there q =
           let e = s .each-name n q in
-          name-row (t .names) (t .nums) n (rowOf h n) (s .names-size) (row-bound n q) (omega (arith, e .size, name-size h m n q .1)) (e .name)
+          name-row (t .names) (t .nums) n (rowOf h n) (s .sized .names-size) (row-bound n q) (omega (arith, e .size, name-size h m n q .1)) (e .name)
 
   -- some row that shows it, or nothing and the history lacks it
   pub found-instance : (x : Instance) → kindOf (x .name) h ≡ some (x .kind) → InstanceFound h (t .nums) x (findInstance (t .nums) (rowOf h (x .name)) (x .number))
   found-instance x q =
-      rw (instance-found (t .nums) (rowOf h (x .name)) (x .number) (s .nums-size)) (by-found (lastBelow is (instanceCount (t .nums))) refl)
+      rw (instance-found (t .nums) (rowOf h (x .name)) (x .number) (s .sized .nums-size)) (by-found (lastBelow is (instanceCount (t .nums))) refl)
     where
       is : ℕ → Bool
       is = instanceIs (t .nums) (rowOf h (x .name)) (x .number)

@@ -97,7 +97,7 @@ module _ (h : List Event) (a : Accepted h) (m : AllMet h) (t : Tables) (s : Show
         by-origin (before p) =
             let stays = row-stays h e (f .kinds) n p in
             let shown = s .each-name n p in
-            name-kept (t .names) (t .nums) (s .names-size) (s .nums-size) (lookedUpIn h t e) state e source-size target-size row n inside
+            name-kept (t .names) (t .nums) (s .sized .names-size) (s .sized .nums-size) (lookedUpIn h t e) state e source-size target-size row n inside
             (at-new-target h t s e f n q ∙ not-new h e n p (isTracked (e .kind)) (e .target))
             (at-new-core h t s e f n q ∙ not-new h e n p (onCore e) (e .source))
             (name-size h m n p .1)
@@ -106,13 +106,13 @@ module _ (h : List Event) (a : Accepted h) (m : AllMet h) (t : Tables) (s : Show
         by-origin (as-source u p) =
             let at : row ≡ nameCount (t .nums) = ap (rowOf (e ∷ h)) p ∙ source-row-new h e (f .kinds) u ∙ sym (s .singles .names-counted) in
             rw (at, p)
-            (name-of-core (t .names) (t .nums) (s .names-size) (s .nums-size) (lookedUpIn h t e) state e source-size target-size
+            (name-of-core (t .names) (t .nums) (s .sized .names-size) (s .sized .nums-size) (lookedUpIn h t e) state e source-size target-size
             (new-core h t e ∙ ap oneIf u)
             (rw (← at) inside))
         by-origin (as-target u p) =
             let at : row ≡ targetRow (t .nums) (lookedUpIn h t e) = ap (rowOf (e ∷ h)) p ∙ sym (target-row h t s e (f .kinds) (both (isTracked (e .kind)) _ u .0)) in
             rw (at, p)
-            (name-of-target (t .names) (t .nums) (s .names-size) (s .nums-size) (lookedUpIn h t e) state e source-size target-size
+            (name-of-target (t .names) (t .nums) (s .sized .names-size) (s .sized .nums-size) (lookedUpIn h t e) state e source-size target-size
             (new-name h t e ∙ ap oneIf u)
             (rw (← at) inside))
 

@@ -163,7 +163,7 @@ module _ (h : List Event) (a : Accepted h) (met : AllMet h) (t : Tables) (s : Sh
       let fit = all-fit h a in
       let counts = s .singles in
       record {
-        sizes = record { names-size = s .names-size; nums-size = s .nums-size; ticks-size = s .ticks-size };
+        sizes = s .sized;
         verdict = v;
         verdict-line = l;
         lines = c;

@@ -130,14 +130,14 @@ module _ (h : List Event) (t : Tables) (s : Shown h t) (e : Event) (f : Passed h
     new-or-old u v old = rw (at-new-target h t s e f n q, at-new-core h t s e f n q)
 
     pub kind-at : kindAt next row ≡ orOld h e n (e .kind) core (kindAt (t .nums) row)
-    kind-at = kind-taken (t .nums) (s .nums-size) (lookedUpIn h t e) state e row bound ∙ new-or-old (e .kind) core (kindAt (t .nums) row)
+    kind-at = kind-taken (t .nums) (s .sized .nums-size) (lookedUpIn h t e) state e row bound ∙ new-or-old (e .kind) core (kindAt (t .nums) row)
 
     pub standing-at : standingAt next row ≡
         cond (on n e) (cond (gives (e .word)) 1 (rowOf (e ∷ h) (e .target) + 2))
         (cond (eqb (e .kind) semaphore && sameBytes n (e .target)) state (orOld h e n 0 0 (standingAt (t .nums) row)))
     unfolding lookedUpIn
     standing-at =
-        standing-taken (t .nums) (s .nums-size) (lookedUpIn h t e) state e holder-bound row bound
+        standing-taken (t .nums) (s .sized .nums-size) (lookedUpIn h t e) state e holder-bound row bound
         ∙ rw (at-core h t s e f n q, at-target h t s e f n q (eqb (e .kind) semaphore) (semaphore-tracked (e .kind)), new-or-old 0 0 (standingAt (t .nums) row))
         (cond-first (on n e) _ _ _ (λ o. let c = both (onCore e) _ o .0 in rw (class-gives e c, target-row h t s e (f .kinds) (process-tracked (e .kind) (on-process e c)))))
 
@@ -157,10 +157,10 @@ module _ (h : List Event) (t : Tables) (s : Shown h t) (e : Event) (f : Passed h
         numberAt next row ≡ cond (on n e) (cond (gives (e .word)) old (e .targetInstance)) old
     unfolding lookedUpIn
     number-at =
-        number-taken (t .nums) (s .nums-size) (lookedUpIn h t e) state e holder-bound row bound
+        number-taken (t .nums) (s .sized .nums-size) (lookedUpIn h t e) state e holder-bound row bound
         ∙ rw (at-core h t s e f n q, given-or-old (e .count) (e .targetInstance) (numberAt (t .nums) row))
         (cond-first (on n e) _ _ _ (λ o. rw (class-gives e (both (onCore e) _ o .0))))
 
     pub numbered-at : numberedAt next row ≡ orGiven e n 1 1 (orOld h e n 0 0 (numberedAt (t .nums) row))
     numbered-at =
-        numbered-taken (t .nums) (s .nums-size) (lookedUpIn h t e) state e row bound ∙ given-or-old 1 1 (numberedAt (t .nums) row)
+        numbered-taken (t .nums) (s .sized .nums-size) (lookedUpIn h t e) state e row bound ∙ given-or-old 1 1 (numberedAt (t .nums) row)

@@ -70,9 +70,7 @@ module _ (h : List Event) (names nums nums' ticks : List ℕ) (g : AgreeFrom 6 n
 
   pub shown-later : length nums' ≡ length nums → Shown h (tables names nums ticks) → Shown h (tables names nums' ticks)
   shown-later z s = record {
-    names-size = s .names-size;
-    nums-size = z ∙ s .nums-size;
-    ticks-size = s .ticks-size;
+    sized = record { names-size = s .sized .names-size; nums-size = z ∙ s .sized .nums-size; ticks-size = s .sized .ticks-size };
     singles = singles-later (s .singles);
     each-name = λ n m. name-later _ n (s .each-name n m);
     instance-rows = instances-later (s .instance-rows);

@@ -5,11 +5,10 @@ use mathlib.Core.List.{List, [], _∷_}
 use Prim.Native.Nat.{ℕ}
 use native.Mathlib.Omega.{arith}
 use lib.Dec.{eqb}
-use lib.ListN.{length}
 use Rattle.rules.specs.Event.{Event}
 use Rattle.rules.specs.Verdict.{Accepted}
 use Rattle.rules.proofs.Answers.{Passed}
-use Rattle.tables.specs.Entry.{namesSize, numsSize, ticksSize}
+use Rattle.tables.specs.Sized.{Sized}
 use Rattle.store.specs.Store.{takenTables}
 use Rattle.store.proofs.Stores.{length-takenNames, length-takenNums, length-takenTicks}
 use Rattle.judge.specs.Feed.{Tables}
@@ -30,30 +29,29 @@ module _ (h : List Event) (t : Tables) (s : Shown h t) (e : Event) (state : ℕ)
   abbrev after : Tables
   after = takenTables t (lookedUpIn h t e) state e
 
-  pub names-size-next : length (after .names) ≡ namesSize
-  names-size-next = length-takenNames (t .names) (t .nums) (lookedUpIn h t e) (e .kind) (e .source) (e .target) ∙ s .names-size
-
-  pub nums-size-next : length (after .nums) ≡ numsSize
-  nums-size-next = length-takenNums (t .nums) (lookedUpIn h t e) state e ∙ s .nums-size
-
-  pub ticks-size-next : length (after .ticks) ≡ ticksSize
-  ticks-size-next = length-takenTicks (t .ticks) (t .nums) (lookedUpIn h t e) (e .kind) (e .time) ∙ s .ticks-size
+  pub sized-next : Sized (after .names) (after .nums) (after .ticks)
+  sized-next =
+      record {
+        names-size = length-takenNames (t .names) (t .nums) (lookedUpIn h t e) (e .kind) (e .source) (e .target) ∙ s .sized .names-size;
+        nums-size = length-takenNums (t .nums) (lookedUpIn h t e) state e ∙ s .sized .nums-size;
+        ticks-size = length-takenTicks (t .ticks) (t .nums) (lookedUpIn h t e) (e .kind) (e .time) ∙ s .sized .ticks-size;
+      }
 
   pub singles-next : Accepted h → AllMet h → Passed h e → SinglesShown (e ∷ h) (after .nums) (after .ticks)
   singles-next a met f =
       let fit = room h e f in
       let old = s .singles in
       record {
-        started = started-taken (t .nums) (s .nums-size) (lookedUpIn h t e) state e;
+        started = started-taken (t .nums) (s .sized .nums-size) (lookedUpIn h t e) state e;
         names-counted =
-            names-taken (t .nums) (s .nums-size) (lookedUpIn h t e) state e
+            names-taken (t .nums) (s .sized .nums-size) (lookedUpIn h t e) state e
             ∙ rw (new-core h t e, new-name h t e) (omega (arith, old .names-counted, names-length h e (f .kinds), fit .names-fit));
         cores-counted =
-            cores-taken (t .nums) (s .nums-size) (lookedUpIn h t e) state e
+            cores-taken (t .nums) (s .sized .nums-size) (lookedUpIn h t e) state e
             ∙ rw (new-core h t e) (omega (arith, old .cores-counted, cores-length h e (f .kinds), fit .cores-fit));
         instances-counted =
-            instances-taken (t .nums) (s .nums-size) (lookedUpIn h t e) state e
+            instances-taken (t .nums) (s .sized .nums-size) (lookedUpIn h t e) state e
             ∙ rw (new-instance h a met t s e (f .kinds)) (omega (arith, old .instances-counted, instances-length h e, fit .instances-fit));
-        first = first-taken (t .ticks) (t .nums) (s .ticks-size) (lookedUpIn h t e) (e .kind) (e .time) ∙ first-time h e _ _ (old .started) (old .first);
-        last = last-taken (t .ticks) (t .nums) (s .ticks-size) (lookedUpIn h t e) (e .kind) (e .time);
+        first = first-taken (t .ticks) (t .nums) (s .sized .ticks-size) (lookedUpIn h t e) (e .kind) (e .time) ∙ first-time h e _ _ (old .started) (old .first);
+        last = last-taken (t .ticks) (t .nums) (s .sized .ticks-size) (lookedUpIn h t e) (e .kind) (e .time);
       }

@@ -63,7 +63,7 @@ accepted-next h a e f = (rw (f .time, f .kinds, f .room, f .chart, f .number, f 
 
 module _ (h : List Event) (a : Accepted h) (t : Tables) (s : Shown h t) (e : Event) (f : Passed h e) where
   pub last-next : lastTime (ticksAfter h t e) ≡ e .time
-  last-next = last-taken (t .ticks) (t .nums) (s .ticks-size) (lookedUpIn h t e) (e .kind) (e .time)
+  last-next = last-taken (t .ticks) (t .nums) (s .sized .ticks-size) (lookedUpIn h t e) (e .kind) (e .time)
 
   -- ---- the rows stand as the stores want them
 
@@ -110,7 +110,7 @@ module _ (h : List Event) (a : Accepted h) (t : Tables) (s : Shown h t) (e : Eve
   pub name-kept : (n : List ℕ) → any (sameBytes n) (names h) ≡ true → on n e ≡ false → isTracked (e .kind) && sameBytes n (e .target) ≡ false →
       sumsAt (ticksAfter h t e) (rowOf (e ∷ h) n) ≡ sumsAt (t .ticks) (rowOf h n)
   name-kept n q o w =
-      row-kept (t .ticks) (t .nums) (s .ticks-size) (lookedUpIn h t e) (e .kind) (e .time) rows (rowOf (e ∷ h) n) (row-bound h t s e f n (name-stays h e n q))
+      row-kept (t .ticks) (t .nums) (s .sized .ticks-size) (lookedUpIn h t e) (e .kind) (e .time) rows (rowOf (e ∷ h) n) (row-bound h t s e f n (name-stays h e n q))
       (λ c. (not-source (classed c), not-target (core-tracked e (classed c))))
       (λ c. not-target (tracked-new c (newTarget h e) refl))
       ∙ ap (sumsAt (t .ticks)) (row-stays h e (f .kinds) n q)
@@ -130,7 +130,7 @@ module _ (h : List Event) (a : Accepted h) (t : Tables) (s : Shown h t) (e : Eve
       sumsAt (ticksAfter h t e) (rowOf (e ∷ h) (e .source)) ≡ sums 0 0 (unknownBefore (t .ticks) (t .nums) (e .time)) (e .time)
   source-first o q =
       ap (sumsAt (ticksAfter h t e)) (sym (core-row h t s e (f .kinds) o))
-      ∙ core-new (t .ticks) (t .nums) (s .ticks-size) (lookedUpIn h t e) (e .kind) (e .time) rows (new-core h t e ∙ rw (o, q))
+      ∙ core-new (t .ticks) (t .nums) (s .sized .ticks-size) (lookedUpIn h t e) (e .kind) (e .time) rows (new-core h t e ∙ rw (o, q))
 
   pub source-settled : {class : ℕ} → onCore e ≡ true → any (sameBytes (e .source)) (names h) ≡ true → coreClass (e .kind) (e .word) ≡ class →
       sumsAt (ticksAfter h t e) (rowOf (e ∷ h) (e .source)) ≡ coreSettled class (e .time) (sumsAt (t .ticks) (rowOf h (e .source)))
@@ -138,7 +138,7 @@ module _ (h : List Event) (a : Accepted h) (t : Tables) (s : Shown h t) (e : Eve
   source-settled o q c =
       let r = core-row h t s e (f .kinds) o in
       ap (sumsAt (ticksAfter h t e)) (sym r)
-      ∙ core-settled (t .ticks) (t .nums) (s .ticks-size) (lookedUpIn h t e) (e .kind) (e .time) rows (class-some o) (new-core h t e ∙ rw (o, q))
+      ∙ core-settled (t .ticks) (t .nums) (s .sized .ticks-size) (lookedUpIn h t e) (e .kind) (e .time) rows (class-some o) (new-core h t e ∙ rw (o, q))
       ∙ ap (λ (i : ℕ). coreSettled (coreClass (e .kind) (e .word)) (e .time) (sumsAt (t .ticks) i)) (r ∙ row-stays h e (f .kinds) (e .source) q)
       ∙ ap (λ (k : ℕ). coreSettled k (e .time) (sumsAt (t .ticks) (rowOf h (e .source)))) c
 
@@ -171,7 +171,7 @@ module _ (h : List Event) (a : Accepted h) (t : Tables) (s : Shown h t) (e : Eve
   target-next w =
       let r = target-row h t s e (f .kinds) w in
       ap (sumsAt (ticksAfter h t e)) (sym r)
-      ∙ target-settled (t .ticks) (t .nums) (s .ticks-size) (lookedUpIn h t e) (e .kind) (e .time) rows (rw r (row-bound h t s e f (e .target) (target-named h e w)))
+      ∙ target-settled (t .ticks) (t .nums) (s .sized .ticks-size) (lookedUpIn h t e) (e .kind) (e .time) rows (rw r (row-bound h t s e f (e .target) (target-named h e w)))
       ∙ settled-with (coreClass (e .kind) (e .word)) (λ q. source-had (giving-on-core e q)) (target-had w)
     where
       settled-with : (class : ℕ) {u v : ℕ} {x y : Sums} → (eqb class 2 ≡ true → u ≡ v) → x ≡ y → targetSettled class u x ≡ targetSettled class v y

@@ -74,7 +74,7 @@ refused-here : (h : List (List ℕ)) → Kept h → (t : Tables) → Shows h t �
     u ≡ tables (t .names) (remembered (t .nums) n) (t .ticks) → Both h (n, length h + 1) (judgedLines u ls)
 unfolding placeIn placeOf
 refused-here h k t s n some ls u e =
-    let z = s .events .nums-size in
+    let z = s .events .sized .nums-size in
     let v = remembered-number (t .nums) n z in
     let m : (lineCount (t .nums) + 1) % 2 ^ 32 ≡ length h + 1 = omega (arith, lines-fit h (k .in-place), ap (λ (p : Place). p .lines) (s .place)) in
     let f : judgedLines u ls ≡ u = further u (rw e (λ q. some (sym v ∙ q))) ls in

@@ -16,7 +16,8 @@ use Rattle.rules.specs.Sheet.{firstTime as firstEventTime, isHeld, isIdle, isHe
 use Rattle.rules.specs.Rows.{opened}
 use Rattle.rules.specs.Lines.{eventsOf}
 use Rattle.rules.specs.Trace.{placeOf}
-use Rattle.tables.specs.Entry.{namesSize, numsSize, ticksSize, creatorEntry, dateEntry, startedEntry, nameCount, coreCount, instanceCount}
+use Rattle.tables.specs.Sized.{Sized}
+use Rattle.tables.specs.Entry.{creatorEntry, dateEntry, startedEntry, nameCount, coreCount, instanceCount}
 use Rattle.tables.specs.Entry.{kindAt, lengthAt, standingAt, numberAt, numberedAt, ownerAt, instanceAt, stateAt, firstTime, lastTime, heldAt, idleAt, unknownAt, sinceAt, nameAt}
 use Rattle.judge.specs.Feed.{Tables, placeIn}
 use Rattle.promises.specs.Places.{rowOf}
@@ -116,9 +117,7 @@ pub record TicksShown (h : List Event) (ticks : List ℕ) (i : ℕ) (n : List �
 -- ---- all of it
 
 pub record Shown (h : List Event) (t : Tables) : Type 0 where
-  pub names-size : length (t .names) ≡ namesSize
-  pub nums-size : length (t .nums) ≡ numsSize
-  pub ticks-size : length (t .ticks) ≡ ticksSize
+  pub sized : Sized (t .names) (t .nums) (t .ticks)
   pub singles : SinglesShown h (t .nums) (t .ticks)
   pub each-name : (n : List ℕ) → any (sameBytes n) (names h) ≡ true → NameShown h (t .names) (t .nums) (rowOf h n) n
   pub instance-rows : InstancesShown h (t .nums)
