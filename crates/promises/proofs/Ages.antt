@@ -19,9 +19,10 @@ use Rattle.rules.specs.History.{isTracked, names, activates, lastNumber, lastCo
 use Rattle.rules.proofs.Tests.{both, clash}
 use Rattle.rules.proofs.Tracked.{kind-named}
 use Rattle.promises.specs.Shown.{numberOf}
-use Rattle.promises.proofs.Grown.{newSource, newTarget, instances-tracked, NameFrom}
-use Rattle.promises.proofs.Grown.NameFrom.{before, as-source, as-target}
-use Rattle.promises.proofs.Untold.{semaphore-tracked, activates-instances, no-number, no-count}
+use Rattle.promises.proofs.KindTests.{instances-tracked, semaphore-tracked, activates-instances}
+use Rattle.promises.proofs.Origins.{newSource, newTarget, NameFrom}
+use Rattle.promises.proofs.Origins.NameFrom.{before, as-source, as-target}
+use Rattle.promises.proofs.Untold.{no-number, no-count}
 use Rattle.promises.proofs.Rows.{orOld}
 
 -- ---- what is new, and what is not

@@ -14,23 +14,7 @@ use Rattle.rules.specs.Words.{core}
 use Rattle.rules.specs.Event.{Event}
 use Rattle.rules.specs.Core.{onCore}
 use Rattle.rules.specs.History.{isTracked, names, cores, instances, kindOf, lastTime as timeBefore}
-use Rattle.rules.specs.Refusals.{
-  Known,
-  look,
-  less,
-  differs,
-  timeFalls,
-  sourceClash,
-  targetClash,
-  secondKind,
-  noRoom,
-  offChart,
-  notNext,
-  coreBroken,
-  countBroken,
-  eventTests,
-  answerTo,
-}
+use Rattle.rules.specs.Refusals.{Known, look, less, differs, timeFalls, sourceClash, targetClash, secondKind, noRoom, offChart, notNext, coreBroken, countBroken, eventTests, answerTo}
 use Rattle.rules.specs.Rows.{opened}
 use Rattle.rules.specs.Verdict.{answer, Accepted}
 use Rattle.tables.specs.Entry.{startedEntry, nameCount, coreCount, instanceCount, lastTime}
@@ -40,7 +24,8 @@ use Rattle.decide.specs.Known.{kindIn, newCore, newName, newInstance, knownBy}
 use Rattle.judge.specs.Feed.{Tables}
 use Rattle.promises.specs.Shown.{Shown, SinglesShown, startedOf, lastOf}
 use Rattle.promises.specs.Taken.{lookedUpIn}
-use Rattle.promises.proofs.Grown.{AllMet, names-length, cores-length, instances-length}
+use Rattle.promises.proofs.Listed.{AllMet}
+use Rattle.promises.proofs.Grown.{names-length, cores-length, instances-length}
 use Rattle.promises.proofs.Lookups.{looked-up-source, looked-up-target, looked-up-shown, new-core, new-name, new-instance}
 use Rattle.promises.proofs.Told.{kind-told}
 use Rattle.promises.proofs.Later.{source-asked, target-asked, chart-agrees, number-agrees, core-agrees, count-agrees}

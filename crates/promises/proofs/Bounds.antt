@@ -14,7 +14,7 @@ use Rattle.rules.specs.Sheet.{span}
 use Rattle.rules.proofs.States.{state-after-state}
 use Rattle.rules.proofs.Totals.{first-le}
 use Rattle.promises.specs.Shown.{startedOf, firstOf, lastOf}
-use Rattle.promises.proofs.Grown.{AllMet}
+use Rattle.promises.proofs.Listed.{AllMet}
 
 -- ---- a state as it is stored: none yet, or one of its chart's
 

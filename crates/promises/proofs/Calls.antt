@@ -33,9 +33,9 @@ use Rattle.tables.proofs.Zeros.{clear-answers}
 use Rattle.decide.specs.Decide.{planAnswer, decided}
 use Rattle.decide.proofs.Decided.{ruled, plan-answer, decided-answer, plan-refuses}
 use Rattle.judge.specs.Feed.{Tables, After, after, judgedLine, judgedLines, fedLine, AfterChunk, fedChunk, verdict, verdictIn, verdictOf, AfterTrace, freshTables, judgedTrace}
+use Rattle.promises.proofs.Judged.{never-16}
 use Rattle.promises.proofs.Numbers.{judged-numbered, lines-most}
 use Rattle.promises.proofs.Refused.{StopsAfter, lines-spare}
-use Rattle.promises.proofs.Judged.{never-16}
 use Rattle.sheet.specs.declared.sheet.Printed.the-variants.{Done, NotPrinted}
 use Rattle.sheet.specs.Sheet.{Sheeted, sheeted, sheetIn, sheetWritten, printedAnswer}
 use Rattle.run.specs.Report.{reportWritten}

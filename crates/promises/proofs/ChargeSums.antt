@@ -26,11 +26,13 @@ use Rattle.tables.specs.Entry.{sinceAt}
 use Rattle.judge.specs.Feed.{Tables}
 use Rattle.promises.specs.Places.{rowOf}
 use Rattle.promises.specs.Shown.{Shown, OtherTicks, openTicks, openCharge}
+use Rattle.promises.proofs.KindTests.{core-tracked}
+use Rattle.promises.proofs.CoreNames.{held-core, holder-named, absent-unknown}
 use Rattle.promises.proofs.TickStores.{Sums, sums, sumsAt, targetSettled}
-use Rattle.promises.proofs.Turns.{Turn, first, took, gave, kept, turn, held-core, holder-named}
-use Rattle.promises.proofs.TickRows.{ticksBefore, sinceSettled, ticksAfter}
-use Rattle.promises.proofs.TickRows.{core-tracked, giving-on-core, accepted-next, name-kept, source-first, source-settled, other-next}
-use Rattle.promises.proofs.OpenTicks.{absent-unknown, absent-before, not-target, until-event, unsettled, anew}
+use Rattle.promises.proofs.Turns.{Turn, first, took, gave, kept, turn}
+use Rattle.promises.proofs.TickRows.{ticksBefore, sinceSettled, ticksAfter, giving-on-core, accepted-next, name-kept, source-first, source-settled}
+use Rattle.promises.proofs.TickRows.{other-next}
+use Rattle.promises.proofs.OpenTicks.{absent-before, not-target, until-event, unsettled, anew}
 
 sum-times : {A : Type 0} (k : ℕ) (g : A → ℕ) (xs : List A) → sumOver (λ x. k * g x) xs ≡ k * sumOver g xs
 sum-times k g [] = omega arith

@@ -24,12 +24,13 @@ use Rattle.tables.specs.Entry.{sinceAt}
 use Rattle.judge.specs.Feed.{Tables}
 use Rattle.promises.specs.Places.{rowOf}
 use Rattle.promises.specs.Shown.{Shown, CoreTicks, openTicks}
-use Rattle.promises.proofs.Grown.{name-kind, core-known}
+use Rattle.promises.proofs.Listed.{name-kind}
+use Rattle.promises.proofs.CoreNames.{core-known, idle-core, held-core, absent-unknown}
 use Rattle.promises.proofs.TickStores.{Sums, sumsAt}
 use Rattle.promises.proofs.TickEntries.{unknownBefore}
-use Rattle.promises.proofs.Turns.{Turn, first, took, gave, kept, turn, idle-core, held-core}
+use Rattle.promises.proofs.Turns.{Turn, first, took, gave, kept, turn}
 use Rattle.promises.proofs.TickRows.{ticksAfter, accepted-next, name-old, name-kept, source-first, source-settled}
-use Rattle.promises.proofs.OpenTicks.{absent-unknown, absent-before, not-target, until-event, unsettled, anew}
+use Rattle.promises.proofs.OpenTicks.{absent-before, not-target, until-event, unsettled, anew}
 
 -- ---- a sum x up to the last settling and the open ticks o that count v times, against the total; and both after a gap g
 

@@ -20,7 +20,8 @@ use Rattle.sheet.specs.Sheet.{sheetWritten, printedAnswer}
 use Rattle.run.specs.Report.{reportWritten}
 use Rattle.promises.specs.Answers.{readAnswers, writeAnswers, decideAnswers, freshAnswers, feedAnswers, judgeAnswers, printAnswers, writeNothing}
 use Rattle.promises.proofs.Refused.{OnlyVerdict, refused-spares, StopsAfter}
-use Rattle.promises.proofs.Calls.{reads, write-kept, freshens, decides, feeds, feed-still, chunks, chunk-still, chunk-stops, judges, judge-still, tells, sheets, reports}
+use Rattle.promises.proofs.Calls.{reads, write-kept, freshens, decides, feeds, feed-still, chunks, chunk-still, chunk-stops, judges, judge-still, tells}
+use Rattle.promises.proofs.Calls.{sheets, reports}
 
 pub record Demand1 : Type 0 where
   -- any bytes as a line

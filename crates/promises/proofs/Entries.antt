@@ -19,9 +19,10 @@ use Rattle.decide.specs.declared.look.LookedUp.{LookedUp}
 use Rattle.decide.specs.Known.{newCore, newName, newInstance}
 use Rattle.store.specs.Store.{coreRow, targetRow, instanceRow, storeInstance, withRows, withTarget, withCore, takenNums}
 use Rattle.store.proofs.Stores.{length-withRows, length-withTarget, length-withCore}
-use Rattle.promises.proofs.Columns.{isNewCore, isNewTarget, Fills, Counts, row-kind, row-length, row-standing, row-number, row-numbered, number-number, number-numbered}
-use Rattle.promises.proofs.Columns.{instance-owner, instance-number, instance-state, rows-stored, rows-beside, target-beside, target-standing, target-number, target-instance}
-use Rattle.promises.proofs.Columns.{core-beside, core-standing, core-number, counts-beside, counts-stored}
+use Rattle.promises.proofs.RowStores.{row-kind, row-length, row-standing, row-number, row-numbered, number-number, number-numbered, instance-owner}
+use Rattle.promises.proofs.RowStores.{instance-number, instance-state}
+use Rattle.promises.proofs.Columns.{isNewCore, isNewTarget, Fills, Counts, rows-stored, rows-beside, target-beside, target-standing, target-number}
+use Rattle.promises.proofs.Columns.{target-instance, core-beside, core-standing, core-number, counts-beside, counts-stored}
 
 -- ---- all the stores
 

@@ -26,7 +26,7 @@ use Rattle.store.specs.Store.{takenTables}
 use Rattle.judge.specs.Feed.{Tables, carried, judgedEvent}
 use Rattle.promises.specs.Shown.{Shown, Shows}
 use Rattle.promises.specs.Taken.{lookedUpIn}
-use Rattle.promises.proofs.Grown.{AllMet}
+use Rattle.promises.proofs.Listed.{AllMet}
 use Rattle.promises.proofs.Lookups.{looked-up-shown}
 use Rattle.promises.proofs.Later.{enters-shown}
 use Rattle.promises.proofs.Answers.{answers-agree}

@@ -30,9 +30,9 @@ use Rattle.sheet.specs.Figure.{openAt, heldIn, idleIn, holdsCore, chargeTo, cha
 use Rattle.promises.specs.Places.{place, rowOf}
 use Rattle.promises.specs.Shown.{Shown, CoreTicks, coreStanding, openTicks, openCharge}
 use Rattle.promises.proofs.Places.{place-one, Distinct, at-place}
-use Rattle.promises.proofs.Grown.{AllMet, names-distinct, core-unknown}
+use Rattle.promises.proofs.Listed.{AllMet, names-distinct}
+use Rattle.promises.proofs.CoreNames.{core-unknown, holder-named}
 use Rattle.promises.proofs.Bounds.{span-most}
-use Rattle.promises.proofs.Turns.{holder-named}
 
 -- ---- the rows of a list, one after the other
 

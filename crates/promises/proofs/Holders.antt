@@ -23,8 +23,8 @@ use Rattle.decide.proofs.Plans.{another-differs}
 use Rattle.promises.specs.Places.{seek, rowOf}
 use Rattle.promises.specs.Shown.{coreStanding}
 use Rattle.promises.proofs.Places.{one-row}
+use Rattle.promises.proofs.CoreNames.{holder-kind, holder-named}
 use Rattle.promises.proofs.Told.{Only}
-use Rattle.promises.proofs.Turns.{holder-kind, holder-named}
 
 -- two states name one row exactly if the rows are one
 standings-alike : (i j : ℕ) → eqb (i + 2) (j + 2) ≡ eqb i j

@@ -26,9 +26,11 @@ use Rattle.judge.specs.Feed.{Tables}
 use Rattle.promises.specs.Places.{rowOf}
 use Rattle.promises.specs.Shown.{InstanceShown, InstancesShown, Shown}
 use Rattle.promises.specs.Taken.{lookedUpIn, InstanceFound}
-use Rattle.promises.proofs.Grown.{newInstance, instances-tracked, instances-length, InstanceFrom, instance-from, instance-stays, instance-listed, row-stays}
-use Rattle.promises.proofs.Grown.{instance-kind, one-instance, AllMet}
-use Rattle.promises.proofs.Grown.InstanceFrom.{before, as-new}
+use Rattle.promises.proofs.KindTests.{instances-tracked}
+use Rattle.promises.proofs.Origins.{newInstance, InstanceFrom, instance-from, instance-stays, instance-listed}
+use Rattle.promises.proofs.Origins.InstanceFrom.{before, as-new}
+use Rattle.promises.proofs.Listed.{instance-kind, one-instance, AllMet}
+use Rattle.promises.proofs.Grown.{instances-length, row-stays}
 use Rattle.promises.proofs.Lookups.{looked-up-instance, target-row}
 use Rattle.promises.proofs.Entries.{isInstance, owner-taken, instance-taken, state-taken}
 use Rattle.promises.proofs.Rows.{room, target-bound}

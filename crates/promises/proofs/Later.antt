@@ -5,21 +5,19 @@ use mathlib.Core.Bool.{Bool, true, false, not, _&&_, cond}
 use mathlib.Core.Option.{Option, none}
 use mathlib.Core.List.{List, [], _∷_}
 use Prim.Native.Nat.{ℕ}
-use native.Mathlib.Omega.{arith}
 use lib.Dec.{eqb}
-use borrow.Author.Tests.{eqb-true, ne-eqb, not-false}
+use borrow.Author.Tests.{eqb-true, not-false}
 use Rattle.text.specs.Bytes.{sameBytes}
 use Rattle.rules.specs.Words.{runnable, semaphore}
 use Rattle.rules.specs.Chart.{stepFor, stateAfter, allowed}
 use Rattle.rules.specs.Charts.{isProcess, chartOf}
 use Rattle.rules.specs.Event.{Event, Instance, instanceOf, wordsOf, stateOf}
 use Rattle.rules.specs.Core.{takes, onCore, coreAt}
-use Rattle.rules.specs.History.{hasInstances, isTracked, names, instances, kindOf, activates, lastNumber, lastCount}
+use Rattle.rules.specs.History.{hasInstances, isTracked, names, kindOf, activates, lastNumber, lastCount}
 use Rattle.rules.specs.Refusals.{look, secondKind, offChart, isNext, notNext, unseen, serves, coreBroken, countFollows, countAllowed, countBroken}
 use Rattle.rules.specs.Rows.{opened, leadsTo, moveBy}
 use Rattle.rules.specs.Verdict.{Accepted}
 use Rattle.rules.proofs.Tests.{neither}
-use Rattle.rules.proofs.CoreWords.{on-process}
 use Rattle.rules.proofs.CoreClasses.{class-on}
 use Rattle.rules.proofs.Steps.{step-state}
 use Rattle.tables.specs.declared.find.Found.{Found}
@@ -28,21 +26,17 @@ use Rattle.tables.specs.Entry.{stateColumn}
 use Rattle.decide.specs.Known.{standingIn, numberIn, entryOf, stateIn, numberKnown, coreIn, knownBy}
 use Rattle.decide.specs.Decide.{enters}
 use Rattle.judge.specs.Feed.{Tables}
-use Rattle.rules.proofs.Tracked.{process-tracked, target-is, source-is}
+use Rattle.rules.proofs.Tracked.{target-is, source-is}
 use Rattle.promises.specs.Places.{seek}
 use Rattle.promises.specs.Shown.{Shown, theSemaphore, numberOf}
 use Rattle.promises.specs.Taken.{lookedUpIn}
-use Rattle.promises.proofs.Grown.{AllMet, instances-range, instances-tracked}
-use Rattle.promises.proofs.Untold.{semaphore-tracked, activates-instances}
+use Rattle.promises.proofs.KindTests.{instances-tracked, semaphore-tracked, activates-instances, no-semaphore, core-tracked}
+use Rattle.promises.proofs.Listed.{AllMet}
 use Rattle.promises.proofs.Lookups.{looked-up-instance}
 use Rattle.promises.proofs.Told.{all-worded, Only, core-told, holder-told, semaphore-told, number-told, state-told}
 use Rattle.promises.proofs.Holders.{serves-shown}
 
 -- ---- kinds
-
--- what has instances is no semaphore
-no-semaphore : (k : ℕ) → hasInstances k ≡ true → eqb k semaphore ≡ false
-no-semaphore k q = let r = instances-range k q in ne-eqb k semaphore (λ (p : k ≡ semaphore). omega arith)
 
 -- any other kind has no chart
 chartless : (k : ℕ) → eqb k semaphore ≡ false → hasInstances k ≡ false → chartOf k ≡ []
@@ -141,7 +135,7 @@ module _ (h : List Event) (a : Accepted h) (met : AllMet h) (t : Tables) (s : Sh
           (unseen (opened (stateIn (t .nums) (lookedUpIn h t e) (e .kind)))) x)
           ≡ b && not (serves (coreAt (e .source) h) (takes (e .word)) (unseen (stateOf x h)) x)
       by-test true o =
-          let k = process-tracked (e .kind) (on-process e o) in
+          let k = core-tracked e o in
           rw (state-shown, source-asked h t e o, core-told h a t s (e .source) (source-is h e f o), target-asked h t e k)
           (ap not (serves-shown h a x (target-is h e f k) (e .source) _ (holder-told h a t s (e .source)) (takes (e .word)) (unseen (stateOf x h))))
       by-test false o = refl

@@ -1,6 +1,10 @@
 -- The promises, `Demand1`, `Demand2` and `Demand3`, and the laws behind them, which tie the tables to the history of the lines taken.
 pub mod Places
+pub mod KindTests
+pub mod Origins
+pub mod Listed
 pub mod Grown
+pub mod CoreNames
 pub mod Lookups
 pub mod Untold
 pub mod Told
@@ -9,6 +13,7 @@ pub mod Later
 pub mod Answers
 pub mod Bounds
 pub mod Ranges
+pub mod RowStores
 pub mod Columns
 pub mod Entries
 pub mod NameEntries

@@ -35,7 +35,10 @@ use Rattle.promises.specs.Places.{place, seek, rowOf}
 use Rattle.promises.specs.Shown.{InstanceShown, Shown}
 use Rattle.promises.specs.Taken.{lookedUpIn, InstanceFound}
 use Rattle.promises.proofs.Places.{place-bound}
-use Rattle.promises.proofs.Grown.{newSource, newTarget, newInstance, instances-tracked, name-kind, row-stays, source-row-new, target-row-new, name-at, instance-kind, one-instance, AllMet, name-size}
+use Rattle.promises.proofs.KindTests.{instances-tracked}
+use Rattle.promises.proofs.Origins.{newSource, newTarget, newInstance}
+use Rattle.promises.proofs.Listed.{name-kind, name-at, instance-kind, one-instance, AllMet, name-size}
+use Rattle.promises.proofs.Grown.{row-stays, source-row-new, target-row-new}
 
 -- ---- a search over rows, where the rows are the places of a list
 

@@ -22,7 +22,8 @@ use Rattle.decide.specs.declared.look.LookedUp.{LookedUp}
 use Rattle.decide.specs.Known.{rowsAdded, newCore, newName}
 use Rattle.store.specs.Store.{rowOr, targetRow, storeName, takenNames, takenNums}
 use Rattle.store.proofs.Stores.{length-storeName}
-use Rattle.promises.proofs.Columns.{length-if, isNewCore, isNewTarget}
+use Rattle.promises.proofs.RowStores.{length-if}
+use Rattle.promises.proofs.Columns.{isNewCore, isNewTarget}
 use Rattle.promises.proofs.Entries.{length-taken}
 
 -- ---- the bytes of a name

@@ -31,16 +31,18 @@ use Rattle.judge.specs.Feed.{Tables}
 use Rattle.promises.specs.Places.{rowOf}
 use Rattle.promises.specs.Shown.{coreStanding, theSemaphore, StandingShown, numberOf, NameShown, Shown}
 use Rattle.promises.specs.Taken.{lookedUpIn}
-use Rattle.promises.proofs.Grown.{newTarget, instances-tracked, tracked-range, NameFrom, name-from, row-stays, source-row-new, AllMet, name-size}
-use Rattle.promises.proofs.Grown.NameFrom.{before, as-source, as-target}
+use Rattle.promises.proofs.KindTests.{instances-tracked, tracked-range, semaphore-tracked, activates-instances}
+use Rattle.promises.proofs.Origins.{newTarget, NameFrom, name-from}
+use Rattle.promises.proofs.Origins.NameFrom.{before, as-source, as-target}
+use Rattle.promises.proofs.Listed.{AllMet, name-size}
+use Rattle.promises.proofs.Grown.{row-stays, source-row-new}
+use Rattle.promises.proofs.CoreNames.{held-core, holder-named}
 use Rattle.promises.proofs.Lookups.{new-core, new-name, target-row}
-use Rattle.promises.proofs.Untold.{semaphore-tracked, activates-instances}
-use Rattle.promises.proofs.NameEntries.{name-kept, name-of-core, name-of-target}
-use Rattle.promises.proofs.Rows.{row-bound, at-new-core, at-new-target, orOld, kind-at, standing-at, number-at, numbered-at}
 use Rattle.promises.proofs.Untold.{core-unnumbered}
-use Rattle.promises.proofs.Turns.{held-core, holder-named}
-use Rattle.promises.proofs.Rows.{orGiven}
-use Rattle.promises.proofs.Ages.{not-new, old-same, new-source, new-target, Age, age, shownNumber, given-shown, unnumbered-any, none-shown, one-at-most, none-told, number-grows}
+use Rattle.promises.proofs.NameEntries.{name-kept, name-of-core, name-of-target}
+use Rattle.promises.proofs.Rows.{row-bound, at-new-core, at-new-target, orOld, kind-at, standing-at, number-at, numbered-at, orGiven}
+use Rattle.promises.proofs.Ages.{not-new, old-same, new-source, new-target, Age, age, shownNumber, given-shown, unnumbered-any, none-shown, one-at-most}
+use Rattle.promises.proofs.Ages.{none-told, number-grows}
 use Rattle.promises.proofs.Ages.Age.{old, new}
 
 module _ (h : List Event) (a : Accepted h) (m : AllMet h) (t : Tables) (s : Shown h t) (e : Event) (f : Passed h e) (o : Met e) (state : ℕ)

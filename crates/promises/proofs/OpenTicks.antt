@@ -11,19 +11,18 @@ use Rattle.text.proofs.Words.{same-eq}
 use Rattle.rules.specs.Lists.{any}
 use Rattle.rules.specs.Words.{core}
 use Rattle.rules.specs.Event.{Event}
-use Rattle.rules.specs.Core.{unknown, coreAt}
 use Rattle.rules.specs.History.{isTracked, named, names, kindOf}
 use Rattle.rules.specs.Verdict.{Accepted}
 use Rattle.rules.specs.Sheet.{gap}
 use Rattle.rules.proofs.Tests.{both, clash}
 use Rattle.rules.proofs.Sums.{any-more, any-less}
 use Rattle.rules.proofs.Answers.{Passed, neighbours}
-use Rattle.rules.proofs.Tracked.{kind-named, target-kind}
+use Rattle.rules.proofs.Tracked.{target-kind}
 use Rattle.tables.specs.Entry.{lastTime, sinceAt}
 use Rattle.judge.specs.Feed.{Tables}
 use Rattle.promises.specs.Places.{rowOf}
 use Rattle.promises.specs.Shown.{Shown, lastOf, openTicks}
-use Rattle.promises.proofs.Grown.{tracked-range, core-unknown}
+use Rattle.promises.proofs.KindTests.{tracked-range}
 use Rattle.promises.proofs.TickRows.{ticksAfter, accepted-next, last-next}
 
 -- where there was an event, the last time moves by the gap
@@ -31,10 +30,6 @@ moved : (h : List Event) → Accepted h → (e : Event) → Passed h e → (n : 
 unfolding names
 moved [] a e f n q = absurd (clash false q refl)
 moved (d ∷ h) a e f n q = omega (arith, neighbours e d h (accepted-next (d ∷ h) a e f))
-
--- a name that is not tracked is unknown as a core
-pub absent-unknown : (h : List Event) → Accepted h → (n : List ℕ) → any (sameBytes n) (names h) ≡ false → coreAt n h ≡ unknown
-absent-unknown h a n q = core-unknown n h a (λ k. let z = kind-named h n q in let w : _≡_ {A = ℕ} 0 1 = cc in omega arith)
 
 pub absent-before : (h : List Event) (e : Event) (n : List ℕ) → any (sameBytes n) (names (e ∷ h)) ≡ false → any (sameBytes n) (names h) ≡ false
 unfolding names

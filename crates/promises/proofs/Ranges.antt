@@ -36,9 +36,9 @@ use Rattle.judge.specs.Feed.{Tables}
 use Rattle.promises.specs.Places.{rowOf}
 use Rattle.promises.specs.Shown.{Shown, NameShown, InstanceShown, coreStanding, theSemaphore}
 use Rattle.promises.proofs.Places.{place-bound}
-use Rattle.promises.proofs.Grown.{AllMet, name-kind, name-at, instance-kind, core-known, named-well}
+use Rattle.promises.proofs.Listed.{AllMet, name-kind, name-at, instance-kind, named-well}
+use Rattle.promises.proofs.CoreNames.{core-known, holder-kind}
 use Rattle.promises.proofs.Told.{all-worded}
-use Rattle.promises.proofs.Turns.{holder-kind}
 use Rattle.promises.proofs.Bounds.{stored-state, started-one, first-last, last-most, span-most}
 
 -- ---- names

@@ -31,11 +31,11 @@ use Rattle.rules.specs.First.{firstRefusal}
 use Rattle.promises.specs.Fed.{joined}
 use Rattle.promises.proofs.Traces.{further}
 use Rattle.promises.proofs.Judged.{after-lines, shows-taken, never-16}
+use Rattle.promises.proofs.Printed.{printed, after-text, written-text}
 use Rattle.sheet.specs.declared.sheet.Printed.the-variants.{Done, NotPrinted}
 use Rattle.sheet.specs.Sheet.{sheeted}
 use Rattle.run.specs.Report.{reportWritten}
 use Rattle.run.specs.Chunk.{Progress, going, stopped, lastTaken, readOn, atInputEnd}
-use Rattle.promises.proofs.Printed.{printed, after-text, written-text}
 
 -- ---- tables after lines from a fresh start, fed one line more and one chunk more
 

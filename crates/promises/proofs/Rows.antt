@@ -17,19 +17,19 @@ use Rattle.rules.specs.History.{isTracked, names, activates}
 use Rattle.rules.specs.Lawful.{Fits}
 use Rattle.rules.proofs.Tests.{both, clash}
 use Rattle.rules.proofs.Answers.{Passed, room-fits}
-use Rattle.rules.proofs.CoreWords.{on-process, gives-only}
+use Rattle.rules.proofs.CoreWords.{gives-only}
 use Rattle.tables.specs.Entry.{nameRows, kindAt, standingAt, numberAt, numberedAt}
 use Rattle.rules.proofs.CoreClasses.{class-on}
 use Rattle.store.specs.Store.{coreRow, targetRow, takenNums}
-use Rattle.rules.proofs.Tracked.{process-tracked}
 use Rattle.judge.specs.Feed.{Tables}
 use Rattle.promises.specs.Places.{rowOf}
 use Rattle.promises.specs.Shown.{Shown}
 use Rattle.promises.specs.Taken.{lookedUpIn}
 use Rattle.promises.proofs.Places.{place-bound, one-row}
-use Rattle.promises.proofs.Grown.{newSource, newTarget, instances-tracked, source-named, target-named, source-row-new}
+use Rattle.promises.proofs.KindTests.{core-tracked, instances-tracked, semaphore-tracked, activates-instances}
+use Rattle.promises.proofs.Origins.{newSource, newTarget, source-named, target-named}
+use Rattle.promises.proofs.Grown.{source-row-new}
 use Rattle.promises.proofs.Lookups.{new-core, new-name, core-row, target-row}
-use Rattle.promises.proofs.Untold.{semaphore-tracked, activates-instances}
 use Rattle.promises.proofs.Columns.{isNewCore, isNewTarget}
 use Rattle.promises.proofs.Entries.{orNone, kind-taken, standing-taken, number-taken, numbered-taken}
 
@@ -116,7 +116,7 @@ module _ (h : List Event) (t : Tables) (s : Shown h t) (e : Event) (f : Passed h
 
   -- an event on a core is a process's, and its target has a row
   holder-bound : eqb (coreClass (e .kind) (e .word)) 0 ≡ false → targetRow (t .nums) (lookedUpIn h t e) < nameRows
-  holder-bound k = target-bound (process-tracked (e .kind) (on-process e (sym (class-on e) ∙ ap not k)))
+  holder-bound k = target-bound (core-tracked e (sym (class-on e) ∙ ap not k))
 
   module _ (n : List ℕ) (q : any (sameBytes n) (names (e ∷ h)) ≡ true) where
     abbrev row : ℕ
@@ -139,7 +139,7 @@ module _ (h : List Event) (t : Tables) (s : Shown h t) (e : Event) (f : Passed h
     standing-at =
         standing-taken (t .nums) (s .sized .nums-size) (lookedUpIn h t e) state e holder-bound row bound
         ∙ rw (at-core h t s e f n q, at-target h t s e f n q (eqb (e .kind) semaphore) (semaphore-tracked (e .kind)), new-or-old 0 0 (standingAt (t .nums) row))
-        (cond-first (on n e) _ _ _ (λ o. let c = both (onCore e) _ o .0 in rw (class-gives e c, target-row h t s e (f .kinds) (process-tracked (e .kind) (on-process e c)))))
+        (cond-first (on n e) _ _ _ (λ o. let c = both (onCore e) _ o .0 in rw (class-gives e c, target-row h t s e (f .kinds) (core-tracked e c))))
 
     given-or-old : (u v old : ℕ) →
         cond (eqb (e .kind) semaphore && eqb row (targetRow (t .nums) (lookedUpIn h t e))) u

@@ -24,7 +24,7 @@ use Rattle.judge.specs.Feed.{Tables}
 use Rattle.sheet.specs.Sheet.{belongs, rowIn, rowsTo, rowsIn, sheetIn}
 use Rattle.promises.specs.Places.{rowOf}
 use Rattle.promises.specs.Shown.{Shown, firstOf, lastOf}
-use Rattle.promises.proofs.Grown.{AllMet, names-distinct}
+use Rattle.promises.proofs.Listed.{AllMet, names-distinct}
 use Rattle.promises.proofs.Figures.{by-rows, held-shown, idle-shown, unknown-shown, charge-shown}
 
 -- ---- the names of a section and their rows, as the history has them

@@ -14,11 +14,12 @@ use Rattle.store.proofs.Stores.{length-takenNames, length-takenNums, length-tak
 use Rattle.judge.specs.Feed.{Tables}
 use Rattle.promises.specs.Shown.{firstOf, startedOf, SinglesShown, Shown}
 use Rattle.promises.specs.Taken.{lookedUpIn}
-use Rattle.promises.proofs.Grown.{AllMet, names-length, cores-length, instances-length}
+use Rattle.promises.proofs.Listed.{AllMet}
+use Rattle.promises.proofs.Grown.{names-length, cores-length, instances-length}
 use Rattle.promises.proofs.Lookups.{new-core, new-name, new-instance}
 use Rattle.promises.proofs.Entries.{started-taken, names-taken, cores-taken, instances-taken}
-use Rattle.promises.proofs.TickEntries.{first-taken, last-taken}
 use Rattle.promises.proofs.Rows.{room}
+use Rattle.promises.proofs.TickEntries.{first-taken, last-taken}
 
 -- the first time is that of the first event: of this one, where none was before
 first-time : (h : List Event) (e : Event) (started first : ℕ) → started ≡ startedOf h → first ≡ firstOf h → cond (eqb started 0) (e .time) first ≡ firstOf (e ∷ h)

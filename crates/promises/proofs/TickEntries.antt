@@ -16,7 +16,8 @@ use Rattle.decide.specs.declared.look.LookedUp.{LookedUp}
 use Rattle.decide.specs.Known.{rowsAdded, newCore, newName}
 use Rattle.store.specs.Store.{rowOr, coreRow, targetRow, storeSums, settled, withTimes, withSums, takenTicks}
 use Rattle.store.proofs.Stores.{length-storeSums, length-withSums, length-settled}
-use Rattle.promises.proofs.TickStores.{Sums, sums, sumsAt, begun, coreSettled, targetSettled, settled-off, settledAt, settled-sums, either-kept, first-begun, first-settled}
+use Rattle.promises.proofs.TickStores.{Sums, sums, sumsAt, begun, coreSettled, targetSettled, settled-off, settledAt, settled-sums, either-kept}
+use Rattle.promises.proofs.TickStores.{first-begun, first-settled}
 
 -- ---- what the tables must have for the stores to be made: rows in range, and the core's and the target's apart
 

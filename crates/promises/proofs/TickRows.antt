@@ -19,9 +19,8 @@ use Rattle.rules.specs.Refusals.{eventTests, answerTo}
 use Rattle.rules.specs.Verdict.{Accepted}
 use Rattle.rules.proofs.Tests.{both, and-true, clash}
 use Rattle.rules.proofs.Answers.{Passed}
-use Rattle.rules.proofs.CoreWords.{on-process}
 use Rattle.rules.proofs.CoreClasses.{class-on}
-use Rattle.rules.proofs.Tracked.{two-names, source-kind, process-tracked}
+use Rattle.rules.proofs.Tracked.{two-names, source-kind}
 use Rattle.tables.specs.Entry.{nameRows, lastTime, sinceAt}
 use Rattle.decide.specs.Known.{newCore, newName}
 use Rattle.store.specs.Store.{coreRow, targetRow, takenTicks}
@@ -30,13 +29,14 @@ use Rattle.promises.specs.Places.{rowOf}
 use Rattle.promises.specs.Shown.{Shown}
 use Rattle.promises.specs.Taken.{lookedUpIn}
 use Rattle.promises.proofs.Places.{place-one}
-use Rattle.promises.proofs.Grown.{NameFrom, before, as-source, as-target}
-use Rattle.promises.proofs.Grown.{newTarget, name-stays, source-named, target-named, name-from, row-stays}
+use Rattle.promises.proofs.KindTests.{core-tracked}
+use Rattle.promises.proofs.Origins.{NameFrom, newTarget, name-stays, source-named, target-named, name-from}
+use Rattle.promises.proofs.Origins.NameFrom.{before, as-source, as-target}
+use Rattle.promises.proofs.Grown.{row-stays}
 use Rattle.promises.proofs.Lookups.{new-core, new-name, core-row, target-row}
 use Rattle.promises.proofs.Rows.{row-bound}
 use Rattle.promises.proofs.TickStores.{Sums, sums, sumsAt, coreSettled, targetSettled}
-use Rattle.promises.proofs.TickEntries.{unknownBefore, Rows}
-use Rattle.promises.proofs.TickEntries.{last-taken, core-new, core-settled, target-settled, row-kept}
+use Rattle.promises.proofs.TickEntries.{unknownBefore, Rows, last-taken, core-new, core-settled, target-settled, row-kept}
 
 -- the ticks of a name, none where it is new
 abbrev pub ticksBefore : List Event → List ℕ → List ℕ → Sums
@@ -49,9 +49,6 @@ sinceSettled h e ticks = cond (any (sameBytes (e .source)) (names h)) (e .time -
 -- the ticks after the event
 abbrev pub ticksAfter : List Event → Tables → Event → List ℕ
 ticksAfter h t e = takenTicks (t .ticks) (t .nums) (lookedUpIn h t e) (e .kind) (e .time)
-
-pub core-tracked : (e : Event) → onCore e ≡ true → isTracked (e .kind) ≡ true
-core-tracked e o = process-tracked (e .kind) (on-process e o)
 
 pub giving-on-core : (e : Event) → eqb (coreClass (e .kind) (e .word)) 2 ≡ true → onCore e ≡ true
 giving-on-core e q = sym (class-on e) ∙ rw (eqb-true (coreClass (e .kind) (e .word)) 2 q)

@@ -4,10 +4,10 @@ use mathlib.Core.Path.{_≡_, refl, sym, ap, _∙_}
 use mathlib.Core.Bool.{Bool, true, false, not, cond}
 use mathlib.Core.Option.{Option, none, some}
 use mathlib.Core.List.{List, [], _∷_}
-use Prim.Native.Nat.{ℕ, zero, suc, _+_, _≤_, _<_}
+use Prim.Native.Nat.{ℕ, zero, suc, _≤_, _<_}
 use native.Mathlib.Omega.{arith}
 use lib.Dec.{eqb}
-use lib.ListN.{length, getD}
+use lib.ListN.{length}
 use borrow.Author.Tests.{eq-eqb, lt-ltb}
 use Rattle.text.specs.Bytes.{sameBytes}
 use Rattle.rules.specs.Lists.{any}
@@ -31,9 +31,10 @@ use Rattle.promises.specs.Places.{place, seek, rowOf}
 use Rattle.promises.specs.Shown.{Shown, coreStanding, theSemaphore, numberOf}
 use Rattle.promises.specs.Taken.{InstanceFound}
 use Rattle.promises.proofs.Places.{place-bound}
-use Rattle.promises.proofs.Grown.{AllMet, name-kind, core-unknown}
-use Rattle.promises.proofs.Turns.{held-core}
-use Rattle.promises.proofs.Untold.{semaphore-tracked, no-number, no-count, no-state}
+use Rattle.promises.proofs.KindTests.{semaphore-tracked}
+use Rattle.promises.proofs.Listed.{AllMet, name-kind}
+use Rattle.promises.proofs.CoreNames.{core-unknown, held-core}
+use Rattle.promises.proofs.Untold.{no-number, no-count, no-state}
 
 -- ---- an entry of the row that was found
 

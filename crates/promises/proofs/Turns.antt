@@ -1,15 +1,14 @@
 -- What an event that is taken does to its core: it is the core's first event, or it takes the core from idle, or it gives it back or keeps it as the
--- instance that holds it. And what a core that is idle or held says of the names.
-use mathlib.Core.Path.{_≡_, refl, ap, subst, _∙_}
+-- instance that holds it.
+use mathlib.Core.Path.{_≡_, refl, ap, _∙_}
 use mathlib.Core.Bool.{Bool, true, false}
 use mathlib.Core.Option.{some}
 use mathlib.Core.List.{List, _∷_}
-use Prim.Native.Nat.{ℕ}
 use Rattle.text.specs.Bytes.{sameBytes}
 use Rattle.rules.specs.Lists.{any}
 use Rattle.rules.specs.Words.{core}
 use Rattle.rules.specs.Charts.{isProcess}
-use Rattle.rules.specs.Event.{Event, Instance, instanceOf}
+use Rattle.rules.specs.Event.{Event, instanceOf}
 use Rattle.rules.specs.Core.{Core, unknown, idle, held, takes, gives, keeps, becomes, onCore, coreClass, coreAt, Free, free-unknown, free-idle, Own, own-held, own-first}
 use Rattle.rules.specs.History.{names, kindOf}
 use Rattle.rules.specs.Verdict.{Accepted}
@@ -17,8 +16,9 @@ use Rattle.rules.proofs.Answers.{Passed}
 use Rattle.rules.proofs.Changes.{core-own}
 use Rattle.rules.proofs.CoreWords.{on-process, Sort, taker, giver, keeper, sort}
 use Rattle.rules.proofs.CoreRuns.{served-free, served-own}
-use Rattle.rules.proofs.Tracked.{Tracked, tracked, named-kind, source-is}
-use Rattle.promises.proofs.Grown.{name-kind, core-known}
+use Rattle.rules.proofs.Tracked.{named-kind, source-is}
+use Rattle.promises.proofs.Listed.{name-kind}
+use Rattle.promises.proofs.CoreNames.{core-known, idle-core, held-core}
 
 -- with whether the core's name is there, and what the core was and is
 pub data Turn (h : List Event) (e : Event) : Type 0 where
@@ -29,19 +29,6 @@ pub data Turn (h : List Event) (e : Event) : Type 0 where
       coreAt (e .source) (e ∷ h) ≡ idle → Turn h e
   kept : any (sameBytes (e .source)) (names h) ≡ true → coreClass (e .kind) (e .word) ≡ 3 → coreAt (e .source) h ≡ held (instanceOf e) →
       coreAt (e .source) (e ∷ h) ≡ held (instanceOf e) → Turn h e
-
--- a name that is idle or held is a core's, and its holder's name is there
-pub idle-core : (h : List Event) → Accepted h → (c : List ℕ) → coreAt c h ≡ idle → kindOf c h ≡ some core
-idle-core h a c q = subst (Tracked c h) q (tracked c h a)
-
-pub held-core : (h : List Event) → Accepted h → (c : List ℕ) (x : Instance) → coreAt c h ≡ held x → kindOf c h ≡ some core
-held-core h a c x q = subst (Tracked c h) q (tracked c h a) .0
-
-pub holder-kind : (h : List Event) → Accepted h → (c : List ℕ) (x : Instance) → coreAt c h ≡ held x → kindOf (x .name) h ≡ some (x .kind)
-holder-kind h a c x q = subst (Tracked c h) q (tracked c h a) .1
-
-pub holder-named : (h : List Event) → Accepted h → (c : List ℕ) (x : Instance) → coreAt c h ≡ held x → any (sameBytes (x .name)) (names h) ≡ true
-holder-named h a c x q = named-kind h (x .name) (x .kind) (holder-kind h a c x q) _ refl
 
 module _ (h : List Event) (a : Accepted h) (e : Event) (f : Passed h e) (o : onCore e ≡ true) where
   -- a source that is unknown as a core is no name yet

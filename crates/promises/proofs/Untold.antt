@@ -1,6 +1,6 @@
 -- A name without a kind: no line told anything of it, so there is no number, no count and no state of it.
 use mathlib.Core.Path.{_≡_, refl, subst, _∙_}
-use mathlib.Core.Bool.{Bool, true, false, _&&_, _||_}
+use mathlib.Core.Bool.{Bool, true, false, _&&_}
 use mathlib.Core.Option.{Option, none, some}
 use mathlib.Core.List.{List, [], _∷_}
 use Prim.Native.Nat.{ℕ}
@@ -10,34 +10,14 @@ use borrow.Author.Tests.{eqb-true}
 use Rattle.text.specs.Bytes.{sameBytes}
 use Rattle.text.proofs.Bools.{is-false}
 use Rattle.text.proofs.Words.{same-refl}
-use Rattle.rules.specs.Lists.{member, when, orElse, latest}
-use Rattle.rules.specs.Words.{core, runnable, semaphore, activate, mtalimitexceeded, start}
-use Rattle.rules.specs.Charts.{isProcess}
+use Rattle.rules.specs.Lists.{when, orElse, latest}
+use Rattle.rules.specs.Words.{core, semaphore}
 use Rattle.rules.specs.Event.{Event, Instance, sameInstance, instanceOf, stateOf}
 use Rattle.rules.specs.Core.{on}
-use Rattle.rules.specs.History.{hasInstances, isTracked, kindIn, kindOf, activates, lastNumber, lastCount}
+use Rattle.rules.specs.History.{isTracked, kindIn, kindOf, activates, lastNumber, lastCount}
 use Rattle.rules.proofs.Tests.{both, and-true, clash, instance-true}
 use Rattle.rules.proofs.Changes.{state-other}
-use Rattle.promises.proofs.Grown.{instances-range, instances-tracked}
-
--- ---- events that speak of tracked names
-
-pub semaphore-tracked : (k : ℕ) → eqb k semaphore ≡ true → isTracked k ≡ true
-unfolding isTracked
-semaphore-tracked k q = rw q (by-test (hasInstances k))
-  where
-    by-test : (b : Bool) → b || true ≡ true
-    by-test true = refl
-    by-test false = refl
-
-pub activates-instances : (k a : ℕ) → activates k a ≡ true → hasInstances k ≡ true
-unfolding activates hasInstances
-activates-instances k a = by-test (isProcess k) (member a (activate ∷ mtalimitexceeded ∷ [])) (eqb k runnable) (eqb a start)
-  where
-    by-test : (p m r s : Bool) → (p && m) || (r && s) ≡ true → p || r ≡ true
-    by-test true m r s q = refl
-    by-test false m true s q = refl
-    by-test false m false s q = q
+use Rattle.promises.proofs.KindTests.{instances-range, instances-tracked, semaphore-tracked, activates-instances}
 
 -- ---- nothing was told
 

@@ -1,0 +1,83 @@
+-- The tests on kinds, against each other and by the numbers of the kinds: which have instances and which are tracked, of which an activation and an event on
+-- a core are, and what a semaphore is not.
+use mathlib.Core.Path.{_≡_, refl}
+use mathlib.Core.Bool.{Bool, true, false, _&&_, _||_, or-true}
+use mathlib.Core.List.{[], _∷_}
+use Prim.Native.Nat.{ℕ, _≤_}
+use native.Mathlib.Omega.{arith}
+use lib.Dec.{eqb}
+use borrow.Author.Tests.{eqb-true, ne-eqb}
+use Rattle.rules.specs.Words.{task, interrupt, runnable, semaphore, activate, mtalimitexceeded, start}
+use Rattle.rules.specs.Charts.{isProcess}
+use Rattle.rules.specs.Event.{Event}
+use Rattle.rules.specs.Core.{onCore}
+use Rattle.rules.specs.History.{hasInstances, isTracked, activates}
+use Rattle.rules.specs.Lists.{member}
+use Rattle.rules.proofs.Tracked.{process-tracked}
+use Rattle.rules.proofs.CoreWords.{on-process}
+
+-- either of two tests passes
+pub either-true : (a b : Bool) (P : Type 0) → (a ≡ true → P) → (b ≡ true → P) → a || b ≡ true → P
+either-true true b P f g q = f refl
+either-true false b P f g q = g q
+
+-- ---- what has instances, and what is tracked
+
+-- T, I and R have instances, and SEM is tracked too
+pub instances-range : (k : ℕ) → hasInstances k ≡ true → (task ≤ k) × (k ≤ runnable)
+unfolding hasInstances isProcess
+instances-range k =
+    either-true (isProcess k) (eqb k runnable) P
+    (either-true (eqb k task) (eqb k interrupt) P (is task (omega arith, omega arith)) (is interrupt (omega arith, omega arith)))
+    (is runnable (omega arith, omega arith))
+  where
+    P : Type 0
+    P = (task ≤ k) × (k ≤ runnable)
+
+    is : (j : ℕ) → (task ≤ j) × (j ≤ runnable) → eqb k j ≡ true → (task ≤ k) × (k ≤ runnable)
+    is j r q = rw (eqb-true k j q) r
+
+pub tracked-range : (k : ℕ) → isTracked k ≡ true → (task ≤ k) × (k ≤ semaphore)
+unfolding isTracked
+tracked-range k =
+    either-true (hasInstances k) (eqb k semaphore) ((task ≤ k) × (k ≤ semaphore))
+    (λ q. let r = instances-range k q in (r .0, omega arith))
+    (λ q. let r = eqb-true k semaphore q in (omega arith, omega arith))
+
+pub instances-tracked : (k : ℕ) → hasInstances k ≡ true → isTracked k ≡ true
+unfolding isTracked
+instances-tracked k q = rw q
+
+pub semaphore-tracked : (k : ℕ) → eqb k semaphore ≡ true → isTracked k ≡ true
+unfolding isTracked
+semaphore-tracked k q = rw q (or-true (hasInstances k))
+
+-- ---- events that speak of tracked names
+
+pub activates-instances : (k a : ℕ) → activates k a ≡ true → hasInstances k ≡ true
+unfolding activates hasInstances
+activates-instances k a = by-test (isProcess k) (member a (activate ∷ mtalimitexceeded ∷ [])) (eqb k runnable) (eqb a start)
+  where
+    by-test : (p m r s : Bool) → (p && m) || (r && s) ≡ true → p || r ≡ true
+    by-test true m r s q = refl
+    by-test false m true s q = refl
+    by-test false m false s q = q
+
+-- an event on a core is a process's
+pub core-tracked : (e : Event) → onCore e ≡ true → isTracked (e .kind) ≡ true
+core-tracked e o = process-tracked (e .kind) (on-process e o)
+
+-- ---- semaphores
+
+-- what has instances is no semaphore
+pub no-semaphore : (k : ℕ) → hasInstances k ≡ true → eqb k semaphore ≡ false
+no-semaphore k q = let r = instances-range k q in ne-eqb k semaphore (λ (p : k ≡ semaphore). omega arith)
+
+-- a semaphore has no instances, and its events are no activations
+pub no-instances : (k : ℕ) → eqb k semaphore ≡ true → hasInstances k ≡ false
+unfolding hasInstances isProcess
+no-instances k e = rw (eqb-true k semaphore e)
+
+pub no-activation : (k a : ℕ) → eqb k semaphore ≡ true → activates k a ≡ false
+unfolding activates isProcess
+no-activation k a e = rw (eqb-true k semaphore e)
