@@ -1,9 +1,8 @@
 -- An event line against tables that show a history: it is decided as the history says, and the tables after one that is taken show it too.
 use mathlib.Core.Path.{_≡_, refl, sym}
 use mathlib.Core.List.{List, [], _∷_}
-use Prim.Native.Nat.{ℕ, zero, suc, _<_}
+use Prim.Native.Nat.{ℕ, zero, suc}
 use native.Mathlib.Omega.{arith}
-use lib.ListN.{getD}
 use Rattle.line.specs.declared.event.Event.{Event as ReadEvent}
 use Rattle.line.specs.declared.reading.Reading.{Reading}
 use Rattle.line.specs.declared.reading.Reading.the-variants.{Version, Comment, TimeScale, Creator, CreationDate, EventLine, Refused}
@@ -35,7 +34,7 @@ use Rattle.promises.proofs.Names.{each-name-next}
 use Rattle.promises.proofs.Instances.{instances-next}
 use Rattle.promises.proofs.Sums.{each-ticks-next}
 use Rattle.promises.proofs.Sizes.{sized-next, singles-next}
-use Rattle.promises.proofs.Lines.{EventOutcome}
+use Rattle.promises.proofs.Lines.{LevelKept, EventOutcome}
 
 -- the events of lines that were read are as lines give them
 pub all-met : (h : List (List ℕ)) → AllMet (eventsOf h)
@@ -74,15 +73,14 @@ module _ (h : List Event) (a : Accepted h) (met : AllMet h) (t : Tables) (s : Sh
         each-ticks = each-ticks-next h a t s event f m state;
       }
 
-  -- the line level's entries but for the count of lines
-  level : (j : ℕ) → j < 6 → (j ≡ 2 → ⊥) → getD (next .nums) j 0 ≡ getD (t .nums) j 0
-  level zero l n = verdict-number-kept (t .nums) (s .sized .nums-size) (lookedUpIn h t event) state event
-  level (suc zero) l n = verdict-line-kept (t .nums) (s .sized .nums-size) (lookedUpIn h t event) state event
-  level (suc (suc zero)) l n = absurd (n refl)
-  level (suc (suc (suc zero))) l n = scale-kept (t .nums) (s .sized .nums-size) (lookedUpIn h t event) state event
-  level (suc (suc (suc (suc zero)))) l n = creator-kept (t .nums) (s .sized .nums-size) (lookedUpIn h t event) state event
-  level (suc (suc (suc (suc (suc zero))))) l n = date-kept (t .nums) (s .sized .nums-size) (lookedUpIn h t event) state event
-  level (suc (suc (suc (suc (suc (suc j)))))) l n = absurd (omega (arith, l))
+  level : LevelKept (t .nums) (next .nums)
+  level = record {
+    number = verdict-number-kept (t .nums) (s .sized .nums-size) (lookedUpIn h t event) state event;
+    line = verdict-line-kept (t .nums) (s .sized .nums-size) (lookedUpIn h t event) state event;
+    scale = scale-kept (t .nums) (s .sized .nums-size) (lookedUpIn h t event) state event;
+    creator = creator-kept (t .nums) (s .sized .nums-size) (lookedUpIn h t event) state event;
+    date = date-kept (t .nums) (s .sized .nums-size) (lookedUpIn h t event) state event;
+  }
 
   -- ---- the decision
 

@@ -31,6 +31,8 @@ pub mod ChargeSums
 pub mod Sums
 pub mod Sizes
 pub mod Singles
+pub mod LineEntries
+pub mod PlaceAnswers
 pub mod Lines
 pub mod Events
 pub mod Traces

@@ -18,7 +18,7 @@ use Rattle.rules.specs.Lists.{orElse, latest, ifZero}
 use Rattle.rules.specs.Event.{Event}
 use Rattle.rules.specs.Refusals.{Known, look, eventTests, answerTo}
 use Rattle.rules.specs.Lines.{eventOfLine, eventsOf}
-use Rattle.rules.specs.Trace.{scaleIn, orZero, placeOf, placeTests, answerInPlace, eventAnswer, answerAt, refusalOn}
+use Rattle.rules.specs.Trace.{scaleIn, orZero, placeOf, answerInPlace, eventAnswer, answerAt, refusalOn}
 use Rattle.rules.specs.First.{firstRefusal}
 use Rattle.rules.proofs.Traces.{Kept, kept-next}
 use Rattle.rules.specs.declared.place.Place.{Place}
@@ -28,14 +28,10 @@ use Rattle.tables.proofs.Valid.{answers}
 use Rattle.judge.specs.Feed.{Tables, placeIn}
 use Rattle.promises.specs.Shown.{Shows}
 use Rattle.promises.proofs.Ranges.{in-range}
+use Rattle.promises.proofs.PlaceAnswers.{place-most, lines-fit}
 use Rattle.promises.proofs.Events.{all-met}
-use Rattle.promises.proofs.Traces.{lines-fit}
 
--- ---- 1 to 7, and 8 to 14
-
-place-small : (p : Place) (l : List ℕ) → answerInPlace p l ≤ lastRefusal
-unfolding answerInPlace placeTests
-place-small p l = lowest-has (λ n. n ≤ 14) (placeTests p l) (omega arith) (omega arith)
+-- ---- 0 or 8 to 14 for an event
 
 event-small : (k : Known) (e : Event) → answerTo k e ≤ lastRefusal
 unfolding answerTo eventTests
@@ -45,7 +41,7 @@ event-small k e = lowest-has (λ n. n ≤ lastRefusal) (eventTests k e) (omega a
 
 pub answer-small : (h : List (List ℕ)) (l : List ℕ) → answerAt h l ≤ lastRefusal
 unfolding answerAt
-answer-small h l = by-place (answerInPlace (placeOf h) l) (place-small (placeOf h) l) (eventOfLine l)
+answer-small h l = by-place (answerInPlace (placeOf h) l) (omega (arith, place-most (placeOf h) l)) (eventOfLine l)
   where
     by-place : (n : ℕ) → n ≤ lastRefusal → (o : Option Event) → ifZero n (eventAnswer o (eventsOf h)) n ≤ lastRefusal
     by-place zero p none = p

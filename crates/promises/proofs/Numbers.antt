@@ -5,7 +5,7 @@ use mathlib.Core.Bool.{Bool, true, false, cond}
 use mathlib.Core.List.{List, [], _∷_}
 use Prim.Native.Nat.{ℕ, zero, suc, _≤_}
 use native.Mathlib.Omega.{arith}
-use lib.Dec.{eqb}
+use lib.Dec.{eqb, ltb}
 use lib.ListN.{length, set}
 use borrow.Author.Tests.{eqb-true}
 use Rattle.line.specs.declared.reading.Reading.{Reading}
@@ -17,12 +17,9 @@ use Rattle.rules.specs.Limits.{lastRefusal}
 use Rattle.rules.specs.declared.place.Place.{Place}
 use Rattle.rules.specs.Event.{Event}
 use Rattle.rules.specs.Lines.{eventFrom}
-use Rattle.rules.specs.Trace.{placeTests, answerInPlace}
 use Rattle.rules.proofs.Places.{by-reading-right}
-use Rattle.line.proofs.Lowest.{lowest-has}
 use Rattle.rules.specs.PlaceCode.{answerByReading}
-use Rattle.tables.specs.Entry.{numsSize, verdictNumber}
-use Rattle.tables.proofs.Stores.{other}
+use Rattle.tables.specs.Entry.{numsSize, verdictIndex, linesIndex, scaleIndex, creatorIndex, dateIndex, startedIndex, verdictNumber}
 use Rattle.decide.specs.declared.plan.Plan.{Plan}
 use Rattle.decide.specs.declared.plan.Plan.the-variants.{Refuse, Take}
 use Rattle.decide.specs.Decide.{planAnswer, planOf}
@@ -30,13 +27,13 @@ use Rattle.decide.proofs.Decided.{plan-refuses}
 use Rattle.judge.specs.Feed.{Tables, After, after, placeIn, remembered, counted, carried, judgedEvent, judgedReading, judgedInPlace, judgedLine, judgedLines}
 use Rattle.judge.proofs.Feeds.{judgedLine-alike}
 use Rattle.promises.proofs.Entries.{verdict-number-kept}
-use Rattle.promises.proofs.Traces.{remembered-number}
+use Rattle.promises.proofs.LineEntries.{counted-before, stored-before, remembered-number}
+use Rattle.promises.proofs.PlaceAnswers.{place-most}
 
 -- ---- 0 to 7 for a line in its place, and 8 to 14 for its event
 
 by-reading-most : (p : Place) (l : List ℕ) → answerByReading p (readLine l) ≤ 7
-unfolding answerInPlace placeTests
-by-reading-most p l = rw (by-reading-right p l) (lowest-has (λ n. n ≤ 7) (placeTests p l) (omega arith) (omega arith))
+by-reading-most p l = rw (by-reading-right p l) (place-most p l)
 
 plan-most : (names nums ticks : List ℕ) (e : Event) → planAnswer (planOf names nums ticks e) ≤ lastRefusal
 plan-most names nums ticks e = by-number (planAnswer (planOf names nums ticks e)) (plan-refuses names nums ticks e)
@@ -57,13 +54,12 @@ module _ (t : Tables) (z : length (t .nums) ≡ numsSize) where
   refusal-numbered n m = record { most = m; kept = remembered-number (t .nums) n z }
 
   module _ (v : verdictNumber (t .nums) ≡ 0) where
-    -- the line is counted, and an entry past the verdict's may be stored before
-    count-numbered : (nums : List ℕ) → verdictNumber nums ≡ 0 → AnswerKept (after 0 (t .names) (counted nums) (t .ticks))
-    unfolding counted
-    count-numbered nums e = record { most = omega arith; kept = other nums 2 0 _ (λ q. omega arith) ∙ e }
+    -- the line is counted, and a parameter's entry may be stored to before
+    counted-numbered : AnswerKept (after 0 (t .names) (counted (t .nums)) (t .ticks))
+    counted-numbered = record { most = omega arith; kept = counted-before (t .nums) verdictIndex (omega arith) ∙ v }
 
-    stored : (i n : ℕ) → 1 ≤ i → verdictNumber (set (t .nums) i n) ≡ 0
-    stored i n h = other (t .nums) i 0 n (λ q. omega arith) ∙ v
+    stored-numbered : (k n : ℕ) → ltb linesIndex k ≡ true → ltb k startedIndex ≡ true → AnswerKept (after 0 (t .names) (counted (set (t .nums) k n)) (t .ticks))
+    stored-numbered k n lo hi = record { most = omega arith; kept = stored-before (t .nums) k n lo hi verdictIndex (omega arith) ∙ v }
 
     carried-numbered : (p : Plan) → planAnswer p ≤ lastRefusal → (e : Event) → AnswerKept (carried p t e)
     unfolding planAnswer
@@ -73,20 +69,20 @@ module _ (t : Tables) (z : length (t .nums) ≡ numsSize) where
 
     read-numbered : (r : Reading) (l : List ℕ) → AnswerKept (judgedReading r t l)
     unfolding judgedEvent
-    read-numbered Version l = count-numbered (t .nums) v
-    read-numbered Comment l = count-numbered (t .nums) v
-    read-numbered (TimeScale s) l = count-numbered (set (t .nums) 3 (scaleNumber s)) (stored 3 (scaleNumber s) (omega arith))
-    read-numbered Creator l = count-numbered (set (t .nums) 4 1) (stored 4 1 (omega arith))
-    read-numbered CreationDate l = count-numbered (set (t .nums) 5 1) (stored 5 1 (omega arith))
+    read-numbered Version l = counted-numbered
+    read-numbered Comment l = counted-numbered
+    read-numbered (TimeScale s) l = stored-numbered scaleIndex (scaleNumber s) refl refl
+    read-numbered Creator l = stored-numbered creatorIndex 1 refl refl
+    read-numbered CreationDate l = stored-numbered dateIndex 1 refl refl
     read-numbered (EventLine e count) l =
         let event = eventFrom e (fieldOf l 2) (fieldOf l 5) count in
         carried-numbered (planOf (t .names) (t .nums) (t .ticks) event) (plan-most (t .names) (t .nums) (t .ticks) event) event
     read-numbered (Refused n) l = record { most = omega arith; kept = v }
 
-    placed-numbered : (n : ℕ) → n ≤ 7 → (l : List ℕ) → AnswerKept (judgedInPlace n t l)
+    in-place-numbered : (n : ℕ) → n ≤ 7 → (l : List ℕ) → AnswerKept (judgedInPlace n t l)
     unfolding judgedInPlace
-    placed-numbered zero m l = read-numbered (readLine l) l
-    placed-numbered (suc n) m l = refusal-numbered (suc n) (omega arith)
+    in-place-numbered zero m l = read-numbered (readLine l) l
+    in-place-numbered (suc n) m l = refusal-numbered (suc n) (omega arith)
 
   pub judged-numbered : verdictNumber (t .nums) ≤ lastRefusal → (l : List ℕ) → AnswerKept (judgedLine t l)
   unfolding judgedLine
@@ -97,7 +93,7 @@ module _ (t : Tables) (z : length (t .nums) ≡ numsSize) where
 
       by-verdict : (b : Bool) → eqb (verdictNumber (t .nums)) 0 ≡ b →
           AnswerKept (cond b (judgedInPlace (answerByReading p (readLine l)) t l) (after (verdictNumber (t .nums)) (t .names) (t .nums) (t .ticks)))
-      by-verdict true q = placed-numbered (eqb-true (verdictNumber (t .nums)) 0 q) (answerByReading p (readLine l)) (by-reading-most p l) l
+      by-verdict true q = in-place-numbered (eqb-true (verdictNumber (t .nums)) 0 q) (answerByReading p (readLine l)) (by-reading-most p l) l
       by-verdict false q = record { most = m; kept = refl }
 
 -- ---- many lines

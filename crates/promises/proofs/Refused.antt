@@ -18,7 +18,7 @@ use Rattle.rules.specs.Event.{Event}
 use Rattle.rules.specs.Lines.{eventFrom}
 use Rattle.rules.specs.Lists.{ifZero}
 use Rattle.rules.specs.PlaceCode.{answerByReading}
-use Rattle.tables.specs.Entry.{numsSize, verdictNumber}
+use Rattle.tables.specs.Entry.{numsSize, linesIndex, verdictNumber}
 use Rattle.tables.specs.Range.{tableAnswer}
 use Rattle.decide.specs.declared.plan.Plan.{Plan}
 use Rattle.decide.specs.declared.plan.Plan.the-variants.{Refuse, Take}
@@ -26,7 +26,8 @@ use Rattle.decide.specs.Decide.{planOf}
 use Rattle.judge.specs.Feed.{Tables, tables, After, after, placeIn, remembered, carried, judgedEvent, judgedReading, judgedInPlace, judgedLine, judgedLines, fedLine, AfterChunk, fedChunk, verdict, verdictOf, AfterTrace, judgedTrace}
 use Rattle.judge.proofs.Feeds.{judgedLine-alike, verdict-again}
 use Rattle.promises.proofs.Singles.{AgreeFrom}
-use Rattle.promises.proofs.Traces.{remembered-later, further}
+use Rattle.promises.proofs.LineEntries.{remembered-later}
+use Rattle.promises.proofs.Traces.{further}
 use Rattle.promises.proofs.Numbers.{judged-numbered}
 
 -- ---- 3: a refused line
@@ -34,7 +35,7 @@ use Rattle.promises.proofs.Numbers.{judged-numbered}
 -- nothing but the two entries of the remembered verdict
 pub record OnlyVerdict (t u : Tables) : Type 0 where
   pub names : u .names ≡ t .names
-  pub nums : AgreeFrom 2 (t .nums) (u .nums)
+  pub nums : AgreeFrom linesIndex (t .nums) (u .nums)
   pub ticks : u .ticks ≡ t .ticks
 
 unchanged : (t : Tables) → OnlyVerdict t t
@@ -64,10 +65,10 @@ module _ (t : Tables) where
       carried-spares (planOf (t .names) (t .nums) (t .ticks) event) event n
   read-spares (Refused m) l n = absurd (n refl)
 
-  placed-spares : (m : ℕ) (l : List ℕ) → Spares t (judgedInPlace m t l)
+  in-place-spares : (m : ℕ) (l : List ℕ) → Spares t (judgedInPlace m t l)
   unfolding judgedInPlace
-  placed-spares zero l = read-spares (readLine l) l
-  placed-spares (suc m) l = λ n. verdict-stored t (suc m)
+  in-place-spares zero l = read-spares (readLine l) l
+  in-place-spares (suc m) l = λ n. verdict-stored t (suc m)
 
   pub judged-spares : (l : List ℕ) → Spares t (judgedLine t l)
   unfolding judgedLine
@@ -75,7 +76,7 @@ module _ (t : Tables) where
     where
       by-verdict : (b : Bool) →
           Spares t (cond b (judgedInPlace (answerByReading (placeIn (t .nums)) (readLine l)) t l) (after (verdictNumber (t .nums)) (t .names) (t .nums) (t .ticks)))
-      by-verdict true = placed-spares (answerByReading (placeIn (t .nums)) (readLine l)) l
+      by-verdict true = in-place-spares (answerByReading (placeIn (t .nums)) (readLine l)) l
       by-verdict false = λ n. unchanged t
 
   pub refused-spares : (l : List ℕ) → Spares t (fedLine t l)

@@ -1,5 +1,4 @@
--- The line level. Tables that agree from the event level's entries on show the same events; and a line that is well formed and in its place, but for
--- an event line, changes only the line level's entries, as the place after it says.
+-- Tables whose nums agree from the event level's entries on show the same events: the entries before these, of the line level, say nothing of events.
 use mathlib.Core.Path.{_≡_, sym, ap, _∙_}
 use mathlib.Core.Option.{some}
 use mathlib.Core.List.{List}
@@ -18,7 +17,7 @@ use Rattle.promises.specs.Shown.{SinglesShown, NameShown, InstanceShown,
 abbrev pub AgreeFrom : ℕ → List ℕ → List ℕ → Type 0
 AgreeFrom i nums nums' = (j : ℕ) → i ≤ j → getD nums' j 0 ≡ getD nums j 0
 
-module _ (h : List Event) (names nums nums' ticks : List ℕ) (g : AgreeFrom 6 nums nums') where
+module _ (h : List Event) (names nums nums' ticks : List ℕ) (g : AgreeFrom startedIndex nums nums') where
   singles-later : SinglesShown h nums ticks → SinglesShown h nums' ticks
   singles-later s = record {
     started = g startedIndex (omega arith) ∙ s .started;

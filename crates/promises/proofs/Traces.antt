@@ -1,55 +1,38 @@
 -- Many lines from tables that show a history: the tables show the lines taken, and remember the first refusal and its line.
 use mathlib.Core.Path.{_≡_, refl, sym, ap, _∙_}
 use mathlib.Core.List.{List, [], _∷_}
-use Prim.Native.Nat.{ℕ, zero, suc, _+_, _%_, _^_, _≤_}
+use Prim.Native.Nat.{ℕ, zero, suc, _+_, _%_, _^_}
 use native.Mathlib.Omega.{arith}
-use lib.ListN.{length, set, length-set}
+use lib.ListN.{length}
 use Rattle.rules.specs.declared.place.Place.{Place}
 use Rattle.rules.specs.Lists.{ifZero}
 use Rattle.rules.specs.Lines.{eventsOf}
 use Rattle.rules.specs.First.{takenOf, firstRefusal}
-use Rattle.rules.specs.Trace.{placeOf, InPlace, answerAt, takenLines, refusalOn}
+use Rattle.rules.specs.Trace.{placeOf, answerAt, takenLines, refusalOn}
 use Rattle.rules.proofs.Traces.{Kept, kept-next}
-use Rattle.tables.specs.Entry.{numsSize, verdictNumber, verdictLine, lineCount}
-use Rattle.tables.proofs.Stores.{same, other}
+use Rattle.tables.specs.Entry.{linesIndex, scaleIndex, creatorIndex, dateIndex, startedIndex, verdictNumber, verdictLine, lineCount}
 use Rattle.judge.specs.Feed.{Tables, tables, After, placeIn, remembered, judgedLine, judgedLines}
 use Rattle.judge.proofs.Feeds.{length-remembered, verdict-again}
 use Rattle.promises.specs.Shown.{Shows}
 use Rattle.promises.specs.Fed.{rememberedIn}
-use Rattle.promises.proofs.Singles.{AgreeFrom, shown-later}
-use Rattle.promises.proofs.Lines.{few-short, LineOutcome, line-outcome}
+use Rattle.promises.proofs.Singles.{shown-later}
+use Rattle.promises.proofs.LineEntries.{remembered-later, remembered-number, remembered-line}
+use Rattle.promises.proofs.PlaceAnswers.{lines-fit}
+use Rattle.promises.proofs.Lines.{LineOutcome, line-outcome}
 use Rattle.promises.proofs.Events.{event-outcome}
 
--- ---- at most 1,000,000,000 lines are taken
-
-pub lines-fit : (h : List (List ℕ)) → InPlace h → length h ≤ 1000000000
-unfolding placeOf
-lines-fit [] p = omega arith
-lines-fit (l ∷ h) p = let k = few-short (placeOf h) l (p .0) .0 in omega arith
-
 -- ---- a refusal remembered
-
-module _ (nums : List ℕ) (n : ℕ) where
-  pub remembered-later : AgreeFrom 2 nums (remembered nums n)
-  unfolding remembered
-  remembered-later j h = other (set nums 0 n) 1 j _ (λ e. omega arith) ∙ other nums 0 j n (λ e. omega arith)
-
-  pub remembered-number : length nums ≡ numsSize → verdictNumber (remembered nums n) ≡ n
-  unfolding remembered
-  remembered-number z = other (set nums 0 n) 1 0 _ (λ e. omega arith) ∙ same nums 0 n (omega arith)
-
-  remembered-line : length nums ≡ numsSize → verdictLine (remembered nums n) ≡ (lineCount nums + 1) % 2 ^ 32
-  unfolding remembered
-  remembered-line z = same (set nums 0 n) 1 _ (omega (arith, length-set nums 0 n))
 
 pub shows-remembered : (h : List (List ℕ)) (t : Tables) (n : ℕ) → Shows h t → Shows h (tables (t .names) (remembered (t .nums) n) (t .ticks))
 unfolding placeIn
 shows-remembered h t n s =
     let g = remembered-later (t .nums) n in
     record {
-      place = rw (g 2 (omega arith), g 3 (omega arith), g 4 (omega arith), g 5 (omega arith), g 6 (omega arith)) (s .place);
-      creator = rw (g 4 (omega arith)) (s .creator);
-      date = rw (g 5 (omega arith)) (s .date);
+      place =
+          rw (g linesIndex (omega arith), g scaleIndex (omega arith), g creatorIndex (omega arith), g dateIndex (omega arith), g startedIndex (omega arith))
+          (s .place);
+      creator = rw (g creatorIndex (omega arith)) (s .creator);
+      date = rw (g dateIndex (omega arith)) (s .date);
       events =
           shown-later (eventsOf h) (t .names) (t .nums) (remembered (t .nums) n) (t .ticks) (λ j k. g j (omega arith)) (length-remembered (t .nums) n) (s .events);
     }

@@ -18,7 +18,8 @@ use Rattle.rules.proofs.Traces.{Kept}
 use Rattle.tables.specs.Entry.{verdictNumber, lineCount, scaleEntry, firstTime, lastTime}
 use Rattle.judge.specs.Feed.{Tables, placeIn, verdict, verdictIn}
 use Rattle.promises.specs.Shown.{SinglesShown, Shows}
-use Rattle.promises.proofs.Traces.{lines-fit, Both}
+use Rattle.promises.proofs.PlaceAnswers.{lines-fit}
+use Rattle.promises.proofs.Traces.{Both}
 
 span-shown : (es : List Event) (nums ticks : List ℕ) → SinglesShown es nums ticks → lastTime ticks - firstTime ticks ≡ span es
 span-shown [] nums ticks s = rw (s .last, s .first)
