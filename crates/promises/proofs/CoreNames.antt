@@ -1,4 +1,5 @@
--- A name as a core: it is unknown as one exactly if it is none, and what the history says of a core that is idle or held, and of the instance that holds it.
+-- A name as a core: it is unknown as one exactly if it is none; what the history says of a core that is idle or held, and of the instance that holds it; and
+-- what a core becomes by an event on it.
 use mathlib.Core.Path.{_≡_, refl, subst}
 use mathlib.Core.Bool.{Bool, true, false, _&&_}
 use mathlib.Core.Option.{some}
@@ -6,13 +7,15 @@ use mathlib.Core.List.{List, [], _∷_}
 use Prim.Native.Nat.{ℕ}
 use native.Mathlib.Omega.{arith}
 use Rattle.text.specs.Bytes.{sameBytes}
+use Rattle.text.proofs.Words.{same-eq}
 use Rattle.rules.specs.Lists.{any, when, orElse, latest}
 use Rattle.rules.specs.Words.{core}
 use Rattle.rules.specs.Event.{Event, Instance, instanceOf}
-use Rattle.rules.specs.Core.{Core, unknown, idle, held, becomes, gives, onCore, effectOn, orUnknown, coreAt}
+use Rattle.rules.specs.Core.{Core, unknown, idle, held, becomes, gives, onCore, on, effectOn, orUnknown, coreAt}
 use Rattle.rules.specs.History.{isTracked, names, kindIn, kindOf}
 use Rattle.rules.specs.Verdict.{Accepted}
 use Rattle.rules.proofs.Tests.{both}
+use Rattle.rules.proofs.Changes.{core-own}
 use Rattle.rules.proofs.Tracked.{Tracked, tracked, named-kind, kind-named}
 use Rattle.promises.proofs.KindTests.{tracked-range}
 
@@ -63,3 +66,8 @@ holder-kind h a c x q = subst (Tracked c h) q (tracked c h a) .1
 
 pub holder-named : (h : List Event) → Accepted h → (c : List ℕ) (x : Instance) → coreAt c h ≡ held x → any (sameBytes (x .name)) (names h) ≡ true
 holder-named h a c x q = named-kind h (x .name) (x .kind) (holder-kind h a c x q) _ refl
+
+-- ---- an event on a core
+
+pub becomes-own : (n : List ℕ) (e : Event) (h : List Event) → on n e ≡ true → coreAt n (e ∷ h) ≡ becomes (gives (e .word)) (instanceOf e)
+becomes-own n e h o = let p = both (onCore e) (sameBytes n (e .source)) o in rw (same-eq n (e .source) (p .1)) (core-own e h (p .0))

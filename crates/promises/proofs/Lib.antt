@@ -19,6 +19,9 @@ pub mod Entries
 pub mod NameEntries
 pub mod Rows
 pub mod Ages
+pub mod NameKinds
+pub mod NameNumbers
+pub mod Standings
 pub mod Names
 pub mod Instances
 pub mod TickStores
