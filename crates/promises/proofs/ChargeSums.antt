@@ -11,7 +11,7 @@ use Rattle.text.proofs.Words.{same-eq, same-refl}
 use Rattle.rules.specs.Lists.{any, sumOver, oneIf, addAll}
 use Rattle.rules.specs.Words.{core}
 use Rattle.rules.specs.Event.{Event, Instance, instanceOf}
-use Rattle.rules.specs.Core.{Core, unknown, idle, held, onCore, coreClass, on, coreAt}
+use Rattle.rules.specs.Core.{Core, unknown, idle, held, onCore, coreClass, on, coreAt, gives-core}
 use Rattle.rules.specs.History.{isTracked, named, names, cores, kindOf}
 use Rattle.rules.specs.Verdict.{Accepted}
 use Rattle.rules.specs.Sheet.{gap, ticks, isHeldBy, holding, charge}
@@ -85,7 +85,7 @@ handed v v' o o' g d p q = rw (p, q) (omega arith)
 
 -- the ticks that the event's target gets, where it gives a core back
 abbrev givenBack : List Event → Event → List ℕ → ℕ
-givenBack h e ticks = cond (eqb (coreClass (e .kind) (e .word)) 2) (sinceSettled h e ticks) 0
+givenBack h e ticks = cond (eqb (coreClass (e .kind) (e .word)) gives-core) (sinceSettled h e ticks) 0
 
 abbrev share : List Event → Event → List ℕ → List ℕ → ℕ
 share h e ticks p = oneIf (sameBytes p (e .target)) * givenBack h e ticks
@@ -93,14 +93,14 @@ share h e ticks p = oneIf (sameBytes p (e .target)) * givenBack h e ticks
 module _ (h : List Event) (a : Accepted h) (t : Tables) (s : Shown h t) (e : Event) (f : Passed h e) (p : List ℕ) where
   -- where the event is on no core, or its core is new, nothing is given back
   none-given : onCore e ≡ false → givenBack h e (t .ticks) ≡ 0
-  none-given o = rw (class-zero (eqb (coreClass (e .kind) (e .word)) 2) refl)
+  none-given o = rw (class-zero (eqb (coreClass (e .kind) (e .word)) gives-core) refl)
     where
-      class-zero : (b : Bool) → eqb (coreClass (e .kind) (e .word)) 2 ≡ b → b ≡ false
+      class-zero : (b : Bool) → eqb (coreClass (e .kind) (e .word)) gives-core ≡ b → b ≡ false
       class-zero false q = refl
       class-zero true q = absurd (clash (onCore e) (giving-on-core e q) o)
 
   none-new : any (sameBytes (e .source)) (names h) ≡ false → givenBack h e (t .ticks) ≡ 0
-  none-new q = rw q (by-test (eqb (coreClass (e .kind) (e .word)) 2))
+  none-new q = rw q (by-test (eqb (coreClass (e .kind) (e .word)) gives-core))
     where
       by-test : (b : Bool) → cond {A = ℕ} b 0 0 ≡ 0
       by-test true = refl
@@ -230,12 +230,12 @@ module _ (h : List Event) (a : Accepted h) (t : Tables) (s : Shown h t) (e : Eve
   given : (u : Sums) → u .held + share h e (t .ticks) p < 2 ^ 64 →
       cond (isTracked (e .kind) && sameBytes p (e .target)) (targetSettled (coreClass (e .kind) (e .word)) (sinceSettled h e (t .ticks)) u) u
       ≡ sums (u .held + share h e (t .ticks) p) (u .idle) (u .unknown) (u .since)
-  given u = by-tests (isTracked (e .kind)) refl (sameBytes p (e .target)) (eqb (coreClass (e .kind) (e .word)) 2) refl
+  given u = by-tests (isTracked (e .kind)) refl (sameBytes p (e .target)) (eqb (coreClass (e .kind) (e .word)) gives-core) refl
     where
       with-held : {m n : ℕ} → m ≡ n → sums m (u .idle) (u .unknown) (u .since) ≡ sums n (u .idle) (u .unknown) (u .since)
       with-held q = ap (λ (m : ℕ). sums m (u .idle) (u .unknown) (u .since)) q
 
-      by-tests : (w : Bool) → isTracked (e .kind) ≡ w → (x y : Bool) → eqb (coreClass (e .kind) (e .word)) 2 ≡ y →
+      by-tests : (w : Bool) → isTracked (e .kind) ≡ w → (x y : Bool) → eqb (coreClass (e .kind) (e .word)) gives-core ≡ y →
           u .held + oneIf x * cond y (sinceSettled h e (t .ticks)) 0 < 2 ^ 64 →
           cond (w && x) (cond y (sums ((u .held + sinceSettled h e (t .ticks)) % 2 ^ 64) (u .idle) (u .unknown) (u .since)) u) u
           ≡ sums (u .held + oneIf x * cond y (sinceSettled h e (t .ticks)) 0) (u .idle) (u .unknown) (u .since)

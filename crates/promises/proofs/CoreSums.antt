@@ -10,7 +10,7 @@ use Rattle.text.proofs.Words.{same-eq}
 use Rattle.rules.specs.Lists.{any}
 use Rattle.rules.specs.Words.{core}
 use Rattle.rules.specs.Event.{Event, instanceOf}
-use Rattle.rules.specs.Core.{Core, unknown, idle, held, onCore, coreClass, on, coreAt}
+use Rattle.rules.specs.Core.{Core, unknown, idle, held, onCore, coreClass, on, coreAt, takes-core, gives-core}
 use Rattle.rules.specs.History.{names, kindOf}
 use Rattle.rules.specs.Verdict.{Accepted}
 use Rattle.rules.specs.Sheet.{gap, ticks, isHeld, isIdle, isUnknown, heldTicks, idleTicks, span}
@@ -103,7 +103,7 @@ module _ (h : List Event) (a : Accepted h) (t : Tables) (s : Shown h t) (e : Eve
     until : e .time - sinceAt (t .ticks) (rowOf h (e .source)) ≡ openTicks h (t .ticks) (e .source) + gap e h
     until = until-event h a t s e f (e .source) q k
 
-    on-taking : coreClass (e .kind) (e .word) ≡ 1 → coreAt (e .source) h ≡ idle → coreAt (e .source) (e ∷ h) ≡ held (instanceOf e) → Next (e .source)
+    on-taking : coreClass (e .kind) (e .word) ≡ takes-core → coreAt (e .source) h ≡ idle → coreAt (e .source) (e ∷ h) ≡ held (instanceOf e) → Next (e .source)
     unfolding ticks
     on-taking c was is =
         let r = source-settled h a t s e f o q c in
@@ -116,7 +116,7 @@ module _ (h : List Event) (a : Accepted h) (t : Tables) (s : Shown h t) (e : Eve
           since = n .1;
         }
 
-    on-giving : coreClass (e .kind) (e .word) ≡ 2 → coreAt (e .source) h ≡ held (instanceOf e) → coreAt (e .source) (e ∷ h) ≡ idle → Next (e .source)
+    on-giving : coreClass (e .kind) (e .word) ≡ gives-core → coreAt (e .source) h ≡ held (instanceOf e) → coreAt (e .source) (e ∷ h) ≡ idle → Next (e .source)
     unfolding ticks
     on-giving c was is =
         let r = source-settled h a t s e f o q c in

@@ -9,6 +9,7 @@ use lib.Dec.{eqb}
 use lib.ListN.{length, getD}
 use Rattle.rules.specs.Words.{core, semaphore}
 use Rattle.rules.specs.Event.{Event}
+use Rattle.rules.specs.Core.{no-core, gives-core}
 use Rattle.rules.specs.History.{hasInstances, activates}
 use Rattle.tables.specs.Entry.{verdictIndex, verdictLineIndex, linesIndex, scaleIndex, creatorIndex, dateIndex, startedIndex, namesIndex, coresIndex, instancesIndex}
 use Rattle.tables.specs.Entry.{nameRows, instanceRows, kindColumn, lengthColumn, standingColumn, numberColumn, numberedColumn, ownerColumn, instanceColumn, stateColumn}
@@ -77,9 +78,9 @@ module _ (nums : List ℕ) (z : length nums ≡ numsSize) (s : LookedUp) (t : �
       lengthAt (takenNums nums s t e) r ≡ cond (isNewTarget nums s (e .kind) r) (length (e .target) % 2 ^ 32) (cond (isNewCore nums s r) (length (e .source) % 2 ^ 32) (lengthAt nums r))
   length-taken r h = from-filled (lengthColumn .base + r) (omega arith) (omega arith) ∙ rows-stored nums z s (e .kind) (length (e .source)) (length (e .target)) (lengthColumn .base) (λ k c. c % 2 ^ 32) row-length r h
 
-  pub standing-taken : (eqb (s .class) 0 ≡ false → targetRow nums s < nameRows) → (r : ℕ) → r < nameRows →
+  pub standing-taken : (eqb (s .class) no-core ≡ false → targetRow nums s < nameRows) → (r : ℕ) → r < nameRows →
       standingAt (takenNums nums s t e) r
-      ≡ cond (not (eqb (s .class) 0) && eqb r (coreRow nums s)) (cond (eqb (s .class) 2) 1 (targetRow nums s + 2))
+      ≡ cond (not (eqb (s .class) no-core) && eqb r (coreRow nums s)) (cond (eqb (s .class) gives-core) 1 (targetRow nums s + 2))
       (cond (eqb (e .kind) semaphore && eqb r (targetRow nums s)) t (orNone nums s (e .kind) r (standingAt nums r)))
   standing-taken k r h =
       from-cored (standingColumn .base + r) (omega arith)
@@ -98,9 +99,9 @@ module _ (nums : List ℕ) (z : length nums ≡ numsSize) (s : LookedUp) (t : �
       target-number filled filled-size (targetRow nums s) (instanceRow nums s) t (e .kind) (e .word) (e .targetInstance) (e .count) d value c lo hi r h
       ∙ rw (rows-stored nums z s (e .kind) (length (e .source)) (length (e .target)) d (λ k c. 0) f r h)
 
-  pub number-taken : (eqb (s .class) 0 ≡ false → targetRow nums s < nameRows) → (r : ℕ) → r < nameRows →
+  pub number-taken : (eqb (s .class) no-core ≡ false → targetRow nums s < nameRows) → (r : ℕ) → r < nameRows →
       let old = given r (e .count) (e .targetInstance) (numberAt nums r) in
-      numberAt (takenNums nums s t e) r ≡ cond (not (eqb (s .class) 0) && eqb r (coreRow nums s)) (cond (eqb (s .class) 2) old (e .targetInstance)) old
+      numberAt (takenNums nums s t e) r ≡ cond (not (eqb (s .class) no-core) && eqb r (coreRow nums s)) (cond (eqb (s .class) gives-core) old (e .targetInstance)) old
   number-taken k r h =
       from-cored (numberColumn .base + r) (omega arith)
       ∙ core-number aimed (s .class) (coreRow nums s) (targetRow nums s) (e .targetInstance) aimed-size k r h

@@ -14,6 +14,7 @@ use Rattle.text.specs.Bytes.{sameBytes}
 use Rattle.text.proofs.Words.{same-eq, same-refl, eq-same}
 use Rattle.rules.specs.Lists.{any, sumOver, oneIf}
 use Rattle.rules.specs.Words.{core}
+use Rattle.rules.specs.Limits.{coreLimit}
 use Rattle.rules.specs.Charts.{isProcess}
 use Rattle.rules.specs.Event.{Event, Instance}
 use Rattle.rules.specs.Core.{Core, unknown, idle, held, coreAt}
@@ -107,7 +108,7 @@ module _ (h : List Event) (a : Accepted h) (t : Tables) (s : Shown h t) (p : Lis
 
 module _ (h : List Event) (a : Accepted h) (met : AllMet h) (t : Tables) (s : Shown h t) where
   -- what is stored, with the open ticks where the test says so: no such sum reaches the width of an entry
-  sum-shown : (b : Bool) (i v w u : ℕ) → oneIf b ≡ i → v + i * w ≡ u → u ≤ 64 * span h → cond b ((v + w) % 2 ^ 64) v ≡ u
+  sum-shown : (b : Bool) (i v w u : ℕ) → oneIf b ≡ i → v + i * w ≡ u → u ≤ coreLimit * span h → cond b ((v + w) % 2 ^ 64) v ≡ u
   sum-shown true i v w u p e l =
       let z = rw (← p) at e in
       let m = span-most h met in
@@ -163,7 +164,7 @@ module _ (h : List Event) (a : Accepted h) (met : AllMet h) (t : Tables) (s : Sh
 
       -- the rows from j on, with the names cs, are still to be added; the bound on the whole sum is a bound on each before it
       P : ℕ → List (List ℕ) → Type 0
-      P j cs = upTo j + sumOver F cs ≤ 64 * span h → upTo (length (names h)) ≡ upTo j + sumOver F cs
+      P j cs = upTo j + sumOver F cs ≤ coreLimit * span h → upTo (length (names h)) ≡ upTo j + sumOver F cs
 
       step : (c : List ℕ) → any (sameBytes c) (names h) ≡ true → (cs : List (List ℕ)) → P (suc (rowOf h c)) cs → P (rowOf h c) (c ∷ cs)
       step c l cs i b =

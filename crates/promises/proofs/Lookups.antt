@@ -13,7 +13,7 @@ use Rattle.text.specs.Bytes.{sameBytes}
 use Rattle.text.proofs.Bools.{is-false}
 use Rattle.rules.specs.Lists.{any, oneIf}
 use Rattle.rules.specs.Event.{Event, Instance, sameInstance, instanceOf}
-use Rattle.rules.specs.Core.{onCore, coreClass}
+use Rattle.rules.specs.Core.{onCore, coreClass, no-core}
 use Rattle.rules.specs.History.{hasInstances, isTracked, names, kindOf, instances}
 use Rattle.rules.specs.Refusals.{look, secondKind}
 use Rattle.rules.specs.Verdict.{Accepted}
@@ -114,7 +114,7 @@ module _ (h : List Event) (a : Accepted h) (m : AllMet h) (t : Tables) (s : Show
 
   pub looked-up-source : (e : Event) → (lookedUp (t .names) (t .nums) e) .source ≡ (lookedUpIn h t e) .source
   unfolding lookedUp lookedUpIn
-  looked-up-source e = ap (lookIf (not (eqb (coreClass (e .kind) (e .word)) 0))) (found-name (e .source))
+  looked-up-source e = ap (lookIf (not (eqb (coreClass (e .kind) (e .word)) no-core))) (found-name (e .source))
 
   pub looked-up-target : (e : Event) → (lookedUp (t .names) (t .nums) e) .target ≡ (lookedUpIn h t e) .target
   unfolding lookedUp lookedUpIn
@@ -189,7 +189,7 @@ module _ (h : List Event) (t : Tables) (e : Event) where
   pub new-core : newCore (lookedUpIn h t e) ≡ oneIf (newSource h e)
   unfolding lookedUpIn
   new-core =
-      sought-new (sameBytes (e .source)) (names h) (not (eqb (coreClass (e .kind) (e .word)) 0))
+      sought-new (sameBytes (e .source)) (names h) (not (eqb (coreClass (e .kind) (e .word)) no-core))
       ∙ ap (λ (b : Bool). oneIf (b && not (any (sameBytes (e .source)) (names h)))) (class-on e)
 
   pub new-name : newName (lookedUpIn h t e) (e .kind) ≡ oneIf (newTarget h e)

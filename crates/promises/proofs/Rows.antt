@@ -12,7 +12,7 @@ use Rattle.rules.specs.Lists.{any, oneIf}
 use Rattle.rules.specs.Words.{core, semaphore}
 use Rattle.rules.specs.Charts.{isProcess}
 use Rattle.rules.specs.Event.{Event}
-use Rattle.rules.specs.Core.{takes, gives, keeps, onCore, coreClass, on}
+use Rattle.rules.specs.Core.{takes, gives, keeps, onCore, coreClass, on, no-core, takes-core, gives-core, keeps-core}
 use Rattle.rules.specs.History.{isTracked, names, activates}
 use Rattle.rules.specs.Lawful.{Fits}
 use Rattle.rules.proofs.Tests.{both, clash}
@@ -43,13 +43,13 @@ where-true : (b x y : Bool) → (b ≡ true → x ≡ y) → b && x ≡ b && y
 where-true true x y f = f refl
 where-true false x y f = refl
 
--- an event on a core is of class 2 exactly if it gives the core back
-class-gives : (e : Event) → onCore e ≡ true → eqb (coreClass (e .kind) (e .word)) 2 ≡ gives (e .word)
+-- an event on a core is of the class that gives the core back exactly if its word does
+class-gives : (e : Event) → onCore e ≡ true → eqb (coreClass (e .kind) (e .word)) gives-core ≡ gives (e .word)
 unfolding coreClass onCore
 class-gives e o = by-test (isProcess (e .kind)) (takes (e .word)) refl (gives (e .word)) refl (keeps (e .word)) o
   where
     by-test : (p t : Bool) → takes (e .word) ≡ t → (g : Bool) → gives (e .word) ≡ g → (k : Bool) → p && (t || (g || k)) ≡ true →
-        eqb (cond p (cond t 1 (cond g 2 (cond k 3 0))) 0) 2 ≡ g
+        eqb (cond p (cond t takes-core (cond g gives-core (cond k keeps-core no-core))) no-core) gives-core ≡ g
     by-test false t u g v k o = cc
     by-test true true u true v k o = absurd (clash (takes (e .word)) u (gives-only (e .word) v .0))
     by-test true true u false v k o = refl
@@ -70,7 +70,7 @@ module _ (h : List Event) (t : Tables) (s : Shown h t) (e : Event) (f : Passed h
         (λ u. ap (eqb (rowOf (e ∷ h) n)) (target-row h t s e (f .kinds) (k u))
         ∙ one-row sameBytes same-eq same-refl n (e .target) (names (e ∷ h)) q (target-named h e (k u)))
 
-    at-core : not (eqb (coreClass (e .kind) (e .word)) 0) && eqb (rowOf (e ∷ h) n) (coreRow (t .nums) (lookedUpIn h t e)) ≡ on n e
+    at-core : not (eqb (coreClass (e .kind) (e .word)) no-core) && eqb (rowOf (e ∷ h) n) (coreRow (t .nums) (lookedUpIn h t e)) ≡ on n e
     at-core =
         rw (class-on e)
         (where-true (onCore e) _ _
@@ -115,7 +115,7 @@ module _ (h : List Event) (t : Tables) (s : Shown h t) (e : Event) (f : Passed h
   target-bound k = rw (target-row h t s e (f .kinds) k) (row-bound h t s e f (e .target) (target-named h e k))
 
   -- an event on a core is a process's, and its target has a row
-  holder-bound : eqb (coreClass (e .kind) (e .word)) 0 ≡ false → targetRow (t .nums) (lookedUpIn h t e) < nameRows
+  holder-bound : eqb (coreClass (e .kind) (e .word)) no-core ≡ false → targetRow (t .nums) (lookedUpIn h t e) < nameRows
   holder-bound k = target-bound (core-tracked e (sym (class-on e) ∙ ap not k))
 
   module _ (n : List ℕ) (q : any (sameBytes n) (names (e ∷ h)) ≡ true) where

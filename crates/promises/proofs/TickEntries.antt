@@ -8,6 +8,7 @@ use native.Mathlib.Omega.{arith}
 use lib.Dec.{eqb}
 use lib.ListN.{length, set, length-set}
 use borrow.Author.Tests.{eqb-true, eq-eqb, ne-eqb}
+use Rattle.rules.specs.Core.{no-core, takes-core, gives-core}
 use Rattle.tables.specs.declared.find.Found.{Found}
 use Rattle.tables.specs.declared.find.Found.the-variants.{At, Nothing}
 use Rattle.tables.specs.Entry.{nameRows, ticksSize, firstIndex, lastIndex, startedEntry, nameCount, firstTime, lastTime, sinceAt}
@@ -22,15 +23,15 @@ use Rattle.promises.proofs.TickStores.{first-begun, first-settled}
 -- ---- what the tables must have for the stores to be made: rows in range, and the core's and the target's apart
 
 pub record Rows (nums : List ℕ) (s : LookedUp) (kind : ℕ) : Type 0 where
-  pub core : eqb (s .class) 0 ≡ false → coreRow nums s < nameRows
-  pub target : eqb (s .class) 0 ≡ false → targetRow nums s < nameRows
-  pub apart : eqb (s .class) 0 ≡ false → coreRow nums s ≡ targetRow nums s → ⊥
+  pub core : eqb (s .class) no-core ≡ false → coreRow nums s < nameRows
+  pub target : eqb (s .class) no-core ≡ false → targetRow nums s < nameRows
+  pub apart : eqb (s .class) no-core ≡ false → coreRow nums s ≡ targetRow nums s → ⊥
   pub new-name : newName s kind ≡ 1 → targetRow nums s < nameRows
 
 -- a new core is the next name
-new-core : (nums : List ℕ) (s : LookedUp) → newCore s ≡ 1 → (eqb (s .class) 0 ≡ false) × (coreRow nums s ≡ nameCount nums)
+new-core : (nums : List ℕ) (s : LookedUp) → newCore s ≡ 1 → (eqb (s .class) no-core ≡ false) × (coreRow nums s ≡ nameCount nums)
 unfolding coreRow
-new-core nums s q = by-case (eqb (s .class) 0) (s .source) q
+new-core nums s q = by-case (eqb (s .class) no-core) (s .source) q
   where
     by-case : (b : Bool) (f : Found) → rowsAdded (not b) f ≡ 1 → (b ≡ false) × (rowOr f (nameCount nums) ≡ nameCount nums)
     by-case true f q = absurd (omega (arith, q))
@@ -113,7 +114,7 @@ module _ (ticks nums : List ℕ) (z : length ticks ≡ ticksSize) (s : LookedUp)
         by-name false q one w = w .1
 
     -- the core's row before it is settled
-    core-begun : eqb (s .class) 0 ≡ false → sumsAt (withSums ticks nums s kind time) (coreRow nums s)
+    core-begun : eqb (s .class) no-core ≡ false → sumsAt (withSums ticks nums s kind time) (coreRow nums s)
         ≡ cond (eqb (newCore s) 1) (sums 0 0 (unknownBefore ticks nums time) time) (sumsAt ticks (coreRow nums s))
     core-begun c =
         new-sums (coreRow nums s) (rows .core c)
@@ -127,7 +128,7 @@ module _ (ticks nums : List ℕ) (z : length ticks ≡ ticksSize) (s : LookedUp)
         by-tests false true = refl
         by-tests false false = refl
 
-    settled-row : eqb (s .class) 0 ≡ false → (r : ℕ) → r < nameRows → sumsAt (takenTicks ticks nums s kind time) r
+    settled-row : eqb (s .class) no-core ≡ false → (r : ℕ) → r < nameRows → sumsAt (takenTicks ticks nums s kind time) r
         ≡ settledAt (withSums ticks nums s kind time) (s .class) (coreRow nums s) (targetRow nums s) time r
     unfolding summed
     settled-row c r k =
@@ -135,16 +136,16 @@ module _ (ticks nums : List ℕ) (z : length ticks ≡ ticksSize) (s : LookedUp)
         ∙ settled-sums (withSums ticks nums s kind time) (length-withSums ticks nums s kind time ∙ z) (coreRow nums s) (targetRow nums s) time r
         (rows .core c) (rows .target c) k (s .class) (rows .apart c)
 
-    unsettled-row : eqb (s .class) 0 ≡ true → (r : ℕ) → sumsAt (takenTicks ticks nums s kind time) r ≡ sumsAt (withSums ticks nums s kind time) r
+    unsettled-row : eqb (s .class) no-core ≡ true → (r : ℕ) → sumsAt (takenTicks ticks nums s kind time) r ≡ sumsAt (withSums ticks nums s kind time) r
     unfolding summed
     unsettled-row c r =
-        let class-zero = eqb-true (s .class) 0 c in
+        let class-zero = eqb-true (s .class) no-core c in
         let l = withSums ticks nums s kind time in
-        let not-taken = ne-eqb (s .class) 1 (λ q. omega arith) in
-        let not-given = ne-eqb (s .class) 2 (λ q. omega arith) in
+        let not-taken = ne-eqb (s .class) takes-core (λ q. omega arith) in
+        let not-given = ne-eqb (s .class) gives-core (λ q. omega arith) in
         times-sums r ∙ ap (λ (m : List ℕ). sumsAt m r) (settled-off l (s .class) (coreRow nums s) (targetRow nums s) time not-taken not-given)
 
-    settled-core : eqb (s .class) 0 ≡ false → sumsAt (takenTicks ticks nums s kind time) (coreRow nums s)
+    settled-core : eqb (s .class) no-core ≡ false → sumsAt (takenTicks ticks nums s kind time) (coreRow nums s)
         ≡ coreSettled (s .class) time (cond (eqb (newCore s) 1) (sums 0 0 (unknownBefore ticks nums time) time) (sumsAt ticks (coreRow nums s)))
     settled-core c =
         settled-row c (coreRow nums s) (rows .core c)
@@ -154,7 +155,7 @@ module _ (ticks nums : List ℕ) (z : length ticks ≡ ticksSize) (s : LookedUp)
     pub core-new : newCore s ≡ 1 → sumsAt (takenTicks ticks nums s kind time) (coreRow nums s) ≡ sums 0 0 (unknownBefore ticks nums time) time
     core-new n =
         settled-core (new-core nums s n .0)
-        ∙ rw (eq-eqb (newCore s) 1 n) (by-class (eqb (s .class) 1) (eqb (s .class) 2))
+        ∙ rw (eq-eqb (newCore s) 1 n) (by-class (eqb (s .class) takes-core) (eqb (s .class) gives-core))
       where
         none : (0 + (time - time)) % 2 ^ 64 ≡ 0
         none = omega arith
@@ -166,7 +167,7 @@ module _ (ticks nums : List ℕ) (z : length ticks ≡ ticksSize) (s : LookedUp)
         by-class false true = rw none
         by-class false false = refl
 
-    pub core-settled : eqb (s .class) 0 ≡ false → newCore s ≡ 0 →
+    pub core-settled : eqb (s .class) no-core ≡ false → newCore s ≡ 0 →
         sumsAt (takenTicks ticks nums s kind time) (coreRow nums s) ≡ coreSettled (s .class) time (sumsAt ticks (coreRow nums s))
     core-settled c n = settled-core c ∙ rw n
 
@@ -188,19 +189,19 @@ module _ (ticks nums : List ℕ) (z : length ticks ≡ ticksSize) (s : LookedUp)
     pub target-settled : targetRow nums s < nameRows → sumsAt (takenTicks ticks nums s kind time) (targetRow nums s)
         ≡ targetSettled (s .class) (cond (eqb (newCore s) 1) 0 (time - sinceAt ticks (coreRow nums s)))
         (cond (eqb (newName s kind) 1) (sums 0 0 0 0) (sumsAt ticks (targetRow nums s)))
-    target-settled k = by-class (eqb (s .class) 0) refl
+    target-settled k = by-class (eqb (s .class) no-core) refl
       where
         by-new : (b : Bool) → time - cond b (sums 0 0 (unknownBefore ticks nums time) time) (sumsAt ticks (coreRow nums s)) .since
             ≡ cond b 0 (time - sinceAt ticks (coreRow nums s))
         by-new true = omega arith
         by-new false = refl
 
-        by-class : (b : Bool) → eqb (s .class) 0 ≡ b → sumsAt (takenTicks ticks nums s kind time) (targetRow nums s)
+        by-class : (b : Bool) → eqb (s .class) no-core ≡ b → sumsAt (takenTicks ticks nums s kind time) (targetRow nums s)
             ≡ targetSettled (s .class) (cond (eqb (newCore s) 1) 0 (time - sinceAt ticks (coreRow nums s)))
             (cond (eqb (newName s kind) 1) (sums 0 0 0 0) (sumsAt ticks (targetRow nums s)))
         by-class true q =
-            let class-zero = eqb-true (s .class) 0 q in
-            unsettled-row q (targetRow nums s) ∙ target-begun k ∙ rw (ne-eqb (s .class) 2 (λ e. omega arith))
+            let class-zero = eqb-true (s .class) no-core q in
+            unsettled-row q (targetRow nums s) ∙ target-begun k ∙ rw (ne-eqb (s .class) gives-core (λ e. omega arith))
         by-class false q =
             settled-row q (targetRow nums s) k
             ∙ rw (ne-eqb (targetRow nums s) (coreRow nums s) (λ e. rows .apart q (sym e)), eq-eqb (targetRow nums s) (targetRow nums s) refl)
@@ -209,10 +210,10 @@ module _ (ticks nums : List ℕ) (z : length ticks ≡ ticksSize) (s : LookedUp)
             (ap (λ (u : Sums). time - u .since) (core-begun q) ∙ by-new (eqb (newCore s) 1)))
 
     -- every other row
-    pub row-kept : (r : ℕ) → r < nameRows → (eqb (s .class) 0 ≡ false → (coreRow nums s ≡ r → ⊥) × (targetRow nums s ≡ r → ⊥)) →
+    pub row-kept : (r : ℕ) → r < nameRows → (eqb (s .class) no-core ≡ false → (coreRow nums s ≡ r → ⊥) × (targetRow nums s ≡ r → ⊥)) →
         (newName s kind ≡ 1 → targetRow nums s ≡ r → ⊥) →
         sumsAt (takenTicks ticks nums s kind time) r ≡ sumsAt ticks r
-    row-kept r k f g = by-class (eqb (s .class) 0) refl
+    row-kept r k f g = by-class (eqb (s .class) no-core) refl
       where
         not-begun : sumsAt (withSums ticks nums s kind time) r ≡ sumsAt ticks r
         not-begun = new-sums r k ∙ rw (no-target (eqb (newName s kind) 1) refl, no-core (eqb (newCore s) 1) refl)
@@ -225,6 +226,6 @@ module _ (ticks nums : List ℕ) (z : length ticks ≡ ticksSize) (s : LookedUp)
             no-core true q = ne-eqb r (coreRow nums s) (λ e. f (new-core nums s (eqb-true (newCore s) 1 q) .0) .0 (sym e))
             no-core false q = refl
 
-        by-class : (b : Bool) → eqb (s .class) 0 ≡ b → sumsAt (takenTicks ticks nums s kind time) r ≡ sumsAt ticks r
+        by-class : (b : Bool) → eqb (s .class) no-core ≡ b → sumsAt (takenTicks ticks nums s kind time) r ≡ sumsAt ticks r
         by-class true q = unsettled-row q r ∙ not-begun
         by-class false q = settled-row q r k ∙ rw (ne-eqb r (coreRow nums s) (λ e. f q .0 (sym e)), ne-eqb r (targetRow nums s) (λ e. f q .1 (sym e))) not-begun

@@ -13,7 +13,7 @@ use Rattle.text.proofs.Words.{same-eq, same-refl, eq-same}
 use Rattle.rules.specs.Lists.{any, oneIf}
 use Rattle.rules.specs.Words.{core}
 use Rattle.rules.specs.Event.{Event}
-use Rattle.rules.specs.Core.{onCore, coreClass, on}
+use Rattle.rules.specs.Core.{onCore, coreClass, on, no-core, gives-core}
 use Rattle.rules.specs.History.{isTracked, names, kindOf}
 use Rattle.rules.specs.Refusals.{eventTests, answerTo}
 use Rattle.rules.specs.Verdict.{Accepted}
@@ -50,8 +50,8 @@ sinceSettled h e ticks = cond (any (sameBytes (e .source)) (names h)) (e .time -
 abbrev pub ticksAfter : List Event → Tables → Event → List ℕ
 ticksAfter h t e = takenTicks (t .ticks) (t .nums) (lookedUpIn h t e) (e .kind) (e .time)
 
-pub giving-on-core : (e : Event) → eqb (coreClass (e .kind) (e .word)) 2 ≡ true → onCore e ≡ true
-giving-on-core e q = sym (class-on e) ∙ rw (eqb-true (coreClass (e .kind) (e .word)) 2 q)
+pub giving-on-core : (e : Event) → eqb (coreClass (e .kind) (e .word)) gives-core ≡ true → onCore e ≡ true
+giving-on-core e q = sym (class-on e) ∙ rw (eqb-true (coreClass (e .kind) (e .word)) gives-core q)
 
 -- an event that breaks no rule is answered 0
 pub accepted-next : (h : List Event) → Accepted h → (e : Event) → Passed h e → Accepted (e ∷ h)
@@ -64,11 +64,11 @@ module _ (h : List Event) (a : Accepted h) (t : Tables) (s : Shown h t) (e : Eve
 
   -- ---- the rows stand as the stores want them
 
-  classed : eqb ((lookedUpIn h t e) .class) 0 ≡ false → onCore e ≡ true
+  classed : eqb ((lookedUpIn h t e) .class) no-core ≡ false → onCore e ≡ true
   unfolding lookedUpIn
   classed q = sym (class-on e) ∙ rw q
 
-  class-some : onCore e ≡ true → eqb ((lookedUpIn h t e) .class) 0 ≡ false
+  class-some : onCore e ≡ true → eqb ((lookedUpIn h t e) .class) no-core ≡ false
   unfolding lookedUpIn
   class-some o = not-true _ (class-on e ∙ o)
 
@@ -171,8 +171,8 @@ module _ (h : List Event) (a : Accepted h) (t : Tables) (s : Shown h t) (e : Eve
       ∙ target-settled (t .ticks) (t .nums) (s .sized .ticks-size) (lookedUpIn h t e) (e .kind) (e .time) rows (rw r (row-bound h t s e f (e .target) (target-named h e w)))
       ∙ settled-with (coreClass (e .kind) (e .word)) (λ q. source-had (giving-on-core e q)) (target-had w)
     where
-      settled-with : (class : ℕ) {u v : ℕ} {x y : Sums} → (eqb class 2 ≡ true → u ≡ v) → x ≡ y → targetSettled class u x ≡ targetSettled class v y
-      settled-with class {u} {v} {x} {y} p q = by-test (eqb class 2) p
+      settled-with : (class : ℕ) {u v : ℕ} {x y : Sums} → (eqb class gives-core ≡ true → u ≡ v) → x ≡ y → targetSettled class u x ≡ targetSettled class v y
+      settled-with class {u} {v} {x} {y} p q = by-test (eqb class gives-core) p
         where
           by-test : (b : Bool) → (b ≡ true → u ≡ v) → cond b (sums ((x .held + u) % 2 ^ 64) (x .idle) (x .unknown) (x .since)) x
               ≡ cond b (sums ((y .held + v) % 2 ^ 64) (y .idle) (y .unknown) (y .since)) y

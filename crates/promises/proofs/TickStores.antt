@@ -8,6 +8,7 @@ use native.Mathlib.Omega.{arith}
 use lib.Dec.{eqb, ltb}
 use lib.ListN.{length, length-set}
 use borrow.Author.Tests.{eqb-true, ne-eqb, lt-ltb, ltb-true}
+use Rattle.rules.specs.Core.{takes-core, gives-core}
 use Rattle.rules.proofs.Tests.{both}
 use Rattle.tables.specs.Entry.{nameRows, ticksSize, heldColumn, sinceColumn, firstTime, heldAt, idleAt, unknownAt, sinceAt}
 use Rattle.tables.proofs.Stores.{cell, Outside, beside}
@@ -48,14 +49,14 @@ begun l z i unknown since r p q = rw (lt-ltb i nameRows p) (simp (cell ticksSize
 -- the line's core: its ticks from `since` on
 abbrev pub coreSettled : ℕ → ℕ → Sums → Sums
 coreSettled class time s =
-    cond (eqb class 1) (sums (s .held) ((s .idle + (time - s .since)) % 2 ^ 64) (s .unknown) time)
-    (cond (eqb class 2) (sums ((s .held + (time - s .since)) % 2 ^ 64) (s .idle) (s .unknown) time) s)
+    cond (eqb class takes-core) (sums (s .held) ((s .idle + (time - s .since)) % 2 ^ 64) (s .unknown) time)
+    (cond (eqb class gives-core) (sums ((s .held + (time - s .since)) % 2 ^ 64) (s .idle) (s .unknown) time) s)
 
 -- its target: the ticks of the core that it gives back
 abbrev pub targetSettled : ℕ → ℕ → Sums → Sums
-targetSettled class ticks s = cond (eqb class 2) (sums ((s .held + ticks) % 2 ^ 64) (s .idle) (s .unknown) (s .since)) s
+targetSettled class ticks s = cond (eqb class gives-core) (sums ((s .held + ticks) % 2 ^ 64) (s .idle) (s .unknown) (s .since)) s
 
-pub settled-off : (l : List ℕ) (class i p time : ℕ) → eqb class 1 ≡ false → eqb class 2 ≡ false → settled l class i p time ≡ l
+pub settled-off : (l : List ℕ) (class i p time : ℕ) → eqb class takes-core ≡ false → eqb class gives-core ≡ false → settled l class i p time ≡ l
 unfolding settled
 settled-off l class i p time q u = rw (q, u, alike (ltb i nameRows && ltb p nameRows) l)
 
@@ -65,18 +66,18 @@ settledAt l class i p time r =
     cond (eqb r i) (coreSettled class time (sumsAt l r)) (cond (eqb r p) (targetSettled class (time - sinceAt l i) (sumsAt l r)) (sumsAt l r))
 
 module _ (l : List ℕ) (z : length l ≡ ticksSize) (i p time r : ℕ) (n : i < nameRows) (m : p < nameRows) (k : r < nameRows) where
-  by-taking : sumsAt (settled l 1 i p time) r ≡ settledAt l 1 i p time r
+  by-taking : sumsAt (settled l takes-core i p time) r ≡ settledAt l takes-core i p time r
   unfolding settled
   by-taking = rw (lt-ltb i nameRows n, lt-ltb p nameRows m) (simp (cell ticksSize nameRows, length-set, z) (by-row (eqb r i) refl (eqb r p)))
     where
       by-row : (b : Bool) → eqb r i ≡ b → (d : Bool) →
           sums (heldAt l r) (cond b ((idleAt l i + (time - sinceAt l i)) % 2 ^ 64) (idleAt l r)) (unknownAt l r) (cond b time (sinceAt l r))
-          ≡ cond b (coreSettled 1 time (sumsAt l r)) (cond d (sumsAt l r) (sumsAt l r))
+          ≡ cond b (coreSettled takes-core time (sumsAt l r)) (cond d (sumsAt l r) (sumsAt l r))
       by-row true q d = rw (← (eqb-true r i q))
       by-row false q true = refl
       by-row false q false = refl
 
-  by-giving : (i ≡ p → ⊥) → sumsAt (settled l 2 i p time) r ≡ settledAt l 2 i p time r
+  by-giving : (i ≡ p → ⊥) → sumsAt (settled l gives-core i p time) r ≡ settledAt l gives-core i p time r
   unfolding settled
   by-giving d =
       rw (lt-ltb i nameRows n, lt-ltb p nameRows m)
@@ -85,18 +86,18 @@ module _ (l : List ℕ) (z : length l ≡ ticksSize) (i p time r : ℕ) (n : i <
       by-row : (b : Bool) → eqb r i ≡ b → (c : Bool) → eqb r p ≡ c →
           sums (cond c ((heldAt l p + (time - sinceAt l i)) % 2 ^ 64) (cond b ((heldAt l i + (time - sinceAt l i)) % 2 ^ 64) (heldAt l r))) (idleAt l r) (unknownAt l r)
           (cond b time (sinceAt l r))
-          ≡ cond b (coreSettled 2 time (sumsAt l r)) (cond c (targetSettled 2 (time - sinceAt l i) (sumsAt l r)) (sumsAt l r))
+          ≡ cond b (coreSettled gives-core time (sumsAt l r)) (cond c (targetSettled gives-core (time - sinceAt l i) (sumsAt l r)) (sumsAt l r))
       by-row true q true u = absurd (d (sym (eqb-true r i q) ∙ eqb-true r p u))
       by-row true q false u = rw (← (eqb-true r i q))
       by-row false q true u = rw (← (eqb-true r p u))
       by-row false q false u = refl
 
   pub settled-sums : (class : ℕ) → (i ≡ p → ⊥) → sumsAt (settled l class i p time) r ≡ settledAt l class i p time r
-  settled-sums class d = by-class (eqb class 1) refl (eqb class 2) refl
+  settled-sums class d = by-class (eqb class takes-core) refl (eqb class gives-core) refl
     where
-      by-class : (x : Bool) → eqb class 1 ≡ x → (y : Bool) → eqb class 2 ≡ y → sumsAt (settled l class i p time) r ≡ settledAt l class i p time r
-      by-class true q y u = rw (eqb-true class 1 q) by-taking
-      by-class false q true u = rw (eqb-true class 2 u) (by-giving d)
+      by-class : (x : Bool) → eqb class takes-core ≡ x → (y : Bool) → eqb class gives-core ≡ y → sumsAt (settled l class i p time) r ≡ settledAt l class i p time r
+      by-class true q y u = rw (eqb-true class takes-core q) by-taking
+      by-class false q true u = rw (eqb-true class gives-core u) (by-giving d)
       by-class false q false u = rw (settled-off l class i p time q u, q, u, alike (eqb r p) (sumsAt l r), alike (eqb r i) (sumsAt l r))
 
 -- ---- the first time: no sum is stored there
@@ -121,6 +122,6 @@ first-settled l class i p time =
     let out = no-sum in
     let h = ltb-true i nameRows (both (ltb i nameRows) (ltb p nameRows) t .0) in
     let k = ltb-true p nameRows (both (ltb i nameRows) (ltb p nameRows) t .1) in
-    either-kept (eqb class 1) l _ _ (λ a. simp (beside heldColumn sinceColumn nameRows))
-    (λ a. either-kept (eqb class 2) l _ l (λ b. simp (beside heldColumn sinceColumn nameRows)) (λ b. refl)))
+    either-kept (eqb class takes-core) l _ _ (λ a. simp (beside heldColumn sinceColumn nameRows))
+    (λ a. either-kept (eqb class gives-core) l _ l (λ b. simp (beside heldColumn sinceColumn nameRows)) (λ b. refl)))
     (λ f. refl)

@@ -9,7 +9,7 @@ use Rattle.rules.specs.Lists.{any}
 use Rattle.rules.specs.Words.{core}
 use Rattle.rules.specs.Charts.{isProcess}
 use Rattle.rules.specs.Event.{Event, instanceOf}
-use Rattle.rules.specs.Core.{Core, unknown, idle, held, takes, gives, keeps, becomes, onCore, coreClass, coreAt, Free, free-unknown, free-idle, Own, own-held, own-first}
+use Rattle.rules.specs.Core.{Core, unknown, idle, held, takes, gives, keeps, becomes, onCore, coreClass, coreAt, Free, free-unknown, free-idle, Own, own-held, own-first, takes-core, gives-core, keeps-core}
 use Rattle.rules.specs.History.{names, kindOf}
 use Rattle.rules.specs.Verdict.{Accepted}
 use Rattle.rules.proofs.Answers.{Passed}
@@ -23,11 +23,11 @@ use Rattle.promises.proofs.CoreNames.{core-known, idle-core, held-core}
 -- with whether the core's name is there, and what the core was and is
 pub data Turn (h : List Event) (e : Event) : Type 0 where
   first : any (sameBytes (e .source)) (names h) ≡ false → coreAt (e .source) h ≡ unknown → Turn h e
-  took : any (sameBytes (e .source)) (names h) ≡ true → coreClass (e .kind) (e .word) ≡ 1 → coreAt (e .source) h ≡ idle →
+  took : any (sameBytes (e .source)) (names h) ≡ true → coreClass (e .kind) (e .word) ≡ takes-core → coreAt (e .source) h ≡ idle →
       coreAt (e .source) (e ∷ h) ≡ held (instanceOf e) → Turn h e
-  gave : any (sameBytes (e .source)) (names h) ≡ true → coreClass (e .kind) (e .word) ≡ 2 → coreAt (e .source) h ≡ held (instanceOf e) →
+  gave : any (sameBytes (e .source)) (names h) ≡ true → coreClass (e .kind) (e .word) ≡ gives-core → coreAt (e .source) h ≡ held (instanceOf e) →
       coreAt (e .source) (e ∷ h) ≡ idle → Turn h e
-  kept : any (sameBytes (e .source)) (names h) ≡ true → coreClass (e .kind) (e .word) ≡ 3 → coreAt (e .source) h ≡ held (instanceOf e) →
+  kept : any (sameBytes (e .source)) (names h) ≡ true → coreClass (e .kind) (e .word) ≡ keeps-core → coreAt (e .source) h ≡ held (instanceOf e) →
       coreAt (e .source) (e ∷ h) ≡ held (instanceOf e) → Turn h e
 
 module _ (h : List Event) (a : Accepted h) (e : Event) (f : Passed h e) (o : onCore e ≡ true) where
