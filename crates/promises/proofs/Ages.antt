@@ -1,7 +1,7 @@
 -- What a line that is taken makes of a name: it was there and keeps what it had, or it is new and has nothing yet. And the number that two entries show,
 -- with what the line gives it.
-use mathlib.Core.Path.{_≡_, refl, subst}
-use mathlib.Core.Bool.{Bool, true, false, not, _&&_, cond}
+use mathlib.Core.Path.{_≡_, refl, sym, subst}
+use mathlib.Core.Bool.{Bool, true, false, not, _&&_, cond, and-false}
 use mathlib.Core.Option.{Option, none, some}
 use mathlib.Core.List.{List, _∷_}
 use Prim.Native.Nat.{ℕ, _≤_}
@@ -19,6 +19,7 @@ use Rattle.rules.specs.History.{isTracked, names, activates, lastNumber, lastCo
 use Rattle.rules.proofs.Tests.{both, clash}
 use Rattle.rules.proofs.Tracked.{kind-named}
 use Rattle.promises.specs.Shown.{numberOf}
+use Rattle.promises.proofs.Choices.{same-choice}
 use Rattle.promises.proofs.KindTests.{instances-tracked, semaphore-tracked, activates-instances}
 use Rattle.promises.proofs.Origins.{newSource, newTarget, NameFrom}
 use Rattle.promises.proofs.Origins.NameFrom.{before, as-source, as-target}
@@ -45,11 +46,7 @@ module _ (h : List Event) (e : Event) (n : List ℕ) where
   pub new-source : sameBytes (e .source) (e .target) ≡ false → newSource h e ≡ true → n ≡ e .source → (u v was : ℕ) → orOld h e n u v was ≡ v
   new-source d w p u v was =
       let x : sameBytes n (e .target) ≡ false = rw p d in
-      rw (x, w, eq-same n (e .source) p) (by-test (newTarget h e))
-    where
-      by-test : (b : Bool) → cond (b && false) u v ≡ v
-      by-test true = refl
-      by-test false = refl
+      rw (x, w, eq-same n (e .source) p, and-false (newTarget h e))
 
   pub new-target : newTarget h e ≡ true → n ≡ e .target → (u v was : ℕ) → orOld h e n u v was ≡ u
   new-target w p u v was = rw (w, eq-same n (e .target) p)
@@ -89,11 +86,7 @@ one-at-most false false x h = h
 
 -- a name that is not listed has none
 pub none-told : (h : List Event) (n : List ℕ) (k : ℕ) → any (sameBytes n) (names h) ≡ false → none ≡ numberOf h n k
-none-told h n k q = let z = kind-named h n q in rw (no-count n h z, no-number k n h z) (by-test (eqb k semaphore))
-  where
-    by-test : (b : Bool) → _≡_ {A = Option ℕ} none (cond b none none)
-    by-test true = refl
-    by-test false = refl
+none-told h n k q = let z = kind-named h n q in rw (no-count n h z, no-number k n h z) (sym (same-choice (eqb k semaphore) none))
 
 -- an event gives a number of its kind
 pub number-grows : (h : List Event) (e : Event) (n : List ℕ) (k : ℕ) → (isTracked (e .kind) ≡ true → sameBytes n (e .target) ≡ true → k ≡ e .kind) →

@@ -1,8 +1,8 @@
--- What the numbers of a history get to be that its tables hold: the states of its charts, and its times.
+-- What the numbers of a history get to be that its tables hold: the states of its charts, and its times. And its span, by the two times in the tables.
 use mathlib.Core.Path.{_≡_, refl, sym}
 use mathlib.Core.Bool.{true, _||_, or-true}
 use mathlib.Core.List.{List, [], _∷_}
-use Prim.Native.Nat.{ℕ, zero, suc, _≤_}
+use Prim.Native.Nat.{ℕ, zero, suc, _-_, _≤_}
 use native.Mathlib.Omega.{arith}
 use lib.Dec.{eqb}
 use Rattle.line.specs.Event.{maxTime}
@@ -13,7 +13,8 @@ use Rattle.rules.specs.Verdict.{Accepted}
 use Rattle.rules.specs.Sheet.{span}
 use Rattle.rules.proofs.States.{state-after-state}
 use Rattle.rules.proofs.Totals.{first-le}
-use Rattle.promises.specs.Shown.{startedOf, firstOf, lastOf}
+use Rattle.tables.specs.Entry.{firstTime, lastTime}
+use Rattle.promises.specs.Shown.{startedOf, firstOf, lastOf, SinglesShown}
 use Rattle.promises.proofs.Listed.{AllMet}
 
 -- ---- a state as it is stored: none yet, or one of its chart's
@@ -39,3 +40,8 @@ last-most (e ∷ h) m = m .0 .time-size
 pub span-most : (h : List Event) → AllMet h → span h ≤ maxTime
 span-most [] m = omega arith
 span-most (e ∷ h) m = omega (arith, m .0 .time-size)
+
+-- the span is told by the two times
+pub span-shown : (h : List Event) (nums ticks : List ℕ) → SinglesShown h nums ticks → lastTime ticks - firstTime ticks ≡ span h
+span-shown [] nums ticks s = rw (s .last, s .first)
+span-shown (e ∷ h) nums ticks s = rw (s .last, s .first)

@@ -26,6 +26,7 @@ use Rattle.tables.specs.Entry.{sinceAt}
 use Rattle.judge.specs.Feed.{Tables}
 use Rattle.promises.specs.Places.{rowOf}
 use Rattle.promises.specs.Shown.{Shown, OtherTicks, openTicks, openCharge}
+use Rattle.promises.proofs.Choices.{same-choice}
 use Rattle.promises.proofs.KindTests.{core-tracked}
 use Rattle.promises.proofs.CoreNames.{held-core, holder-named, absent-unknown}
 use Rattle.promises.proofs.TickStores.{Sums, sums, sumsAt, targetSettled}
@@ -100,11 +101,7 @@ module _ (h : List Event) (a : Accepted h) (t : Tables) (s : Shown h t) (e : Eve
       class-zero true q = absurd (clash (onCore e) (giving-on-core e q) o)
 
   none-new : any (sameBytes (e .source)) (names h) ≡ false → givenBack h e (t .ticks) ≡ 0
-  none-new q = rw q (by-test (eqb (coreClass (e .kind) (e .word)) gives-core))
-    where
-      by-test : (b : Bool) → cond {A = ℕ} b 0 0 ≡ 0
-      by-test true = refl
-      by-test false = refl
+  none-new q = rw q (same-choice (eqb (coreClass (e .kind) (e .word)) gives-core) 0)
 
   -- the process's ticks of the core c
   abbrev Counted : List ℕ → Type 0
@@ -132,7 +129,7 @@ module _ (h : List Event) (a : Accepted h) (t : Tables) (s : Shown h t) (e : Eve
       by-core (held x) q =
           let k = held-core h a c x q in
           let w = named-kind h c core k _ refl in
-          let r = name-kept h a t s e f c w o (not-target h e c (kind-stays h e (f .kinds) c core k) _ refl) in
+          let r = name-kept h t s e f c w o (not-target h e c (kind-stays h e (f .kinds) c core k) _ refl) in
           longer _ _ _ _ _ _ same (unsettled h a t s e f c w k (ap (λ (u : Sums). u .since) r) .0) (unshared (onCore e) refl o)
 
   -- the event's own
@@ -146,16 +143,16 @@ module _ (h : List Event) (a : Accepted h) (t : Tables) (s : Shown h t) (e : Eve
 
     at-source : Turn h e → Counted (e .source)
     at-source (first q was) =
-        none-then _ _ _ _ _ _ (ap (isHeldBy p) was) (begins (ap (λ (u : Sums). u .since) (source-first h a t s e f o q))) (unshared (none-new q))
+        none-then _ _ _ _ _ _ (ap (isHeldBy p) was) (begins (ap (λ (u : Sums). u .since) (source-first h t s e f o q))) (unshared (none-new q))
     at-source (took q c was is) =
-        none-then _ _ _ _ _ _ (ap (isHeldBy p) was) (begins (ap (λ (u : Sums). u .since) (source-settled h a t s e f o q c))) (unshared (rw c))
+        none-then _ _ _ _ _ _ (ap (isHeldBy p) was) (begins (ap (λ (u : Sums). u .since) (source-settled h t s e f o q c))) (unshared (rw c))
     at-source (gave q c was is) =
         let k = held-core h a (e .source) (instanceOf e) was in
         let w = until-event h a t s e f (e .source) q k in
         handed _ _ _ _ _ _ (ap (isHeldBy p) is) (rw (same-refl (e .source), c, q, w, was) (omega arith))
     at-source (kept q c was is) =
         let k = held-core h a (e .source) (instanceOf e) was in
-        let r = source-settled h a t s e f o q c in
+        let r = source-settled h t s e f o q c in
         longer _ _ _ _ _ _ (ap (isHeldBy p) (is ∙ sym was)) (unsettled h a t s e f (e .source) q k (ap (λ (u : Sums). u .since) r) .0) (unshared (rw c))
 
   counted : (c : List ℕ) → Counted c
@@ -253,7 +250,7 @@ module _ (h : List Event) (a : Accepted h) (t : Tables) (s : Shown h t) (e : Eve
       let before = ticksBefore h (t .ticks) p .held in
       let total : before + share h e (t .ticks) p + openCharge (e ∷ h) (ticksAfter h t e) p ≡ charge p (e ∷ h) = omega (arith, u .charged, open-next) in
       let fits = charge-at-most (e ∷ h) (accepted-next h a e f) p in
-      let r = other-next h a t s e f p q k ∙ given (ticksBefore h (t .ticks) p) (omega (arith, total, fits, m .time-size)) in
+      let r = other-next h t s e f p q k ∙ given (ticksBefore h (t .ticks) p) (omega (arith, total, fits, m .time-size)) in
       record {
         charge-ticks = omega (arith, ap (λ (v : Sums). v .held) r, total);
         no-idle = ap (λ (v : Sums). v .idle) r ∙ u .idle-none;

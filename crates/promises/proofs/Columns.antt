@@ -1,6 +1,6 @@
 -- The stores of an event line to nums, one after another: new rows, the target's state, number and instance, the core's state and its holder's number, and the
 -- counts. Each entry has the value that is stored to it, and every other one is as it was.
-use mathlib.Core.Path.{_≡_, refl, ap, _∙_}
+use mathlib.Core.Path.{_≡_, refl, sym, ap, _∙_}
 use mathlib.Core.Bool.{Bool, true, false, not, _&&_, cond}
 use mathlib.Core.List.{List}
 use Prim.Native.Nat.{ℕ, _+_, _%_, _^_, _≤_, _<_}
@@ -20,6 +20,7 @@ use Rattle.decide.specs.declared.look.LookedUp.{LookedUp}
 use Rattle.decide.specs.Known.{newCore, newName}
 use Rattle.store.specs.Store.{targetRow, storeRow, storeInstance, storeStanding, storeHolder, storeNumber, withRows, withTarget, withCore, withCounts}
 use Rattle.store.proofs.Stores.{length-storeRow, length-storeStanding, length-storeInstance}
+use Rattle.promises.proofs.Choices.{same-choice}
 use Rattle.promises.proofs.KindTests.{no-instances, no-activation}
 use Rattle.promises.proofs.RowStores.{length-if, entry-if, kept-if, made, standing-standing, holder-standing, holder-number, row-beside, standing-beside}
 use Rattle.promises.proofs.RowStores.{holder-beside, number-beside, instance-beside}
@@ -147,12 +148,8 @@ module _ (nums : List ℕ) (class i p n : ℕ) where
     pub core-number : numberAt (withCore nums class i p n) r ≡ cond (not (eqb class no-core) && eqb r i) (cond (eqb class gives-core) (numberAt nums r) n) (numberAt nums r)
     core-number =
         core-column (numberColumn .base) (numberAt nums r) n
-        (standing-beside nums i (numberColumn .base + r) 1 (λ l u. omega arith) ∙ either-way (eqb r i))
+        (standing-beside nums i (numberColumn .base + r) 1 (λ l u. omega arith) ∙ sym (same-choice (eqb r i) (numberAt nums r)))
         (λ o. holder-number nums z i p n r o h)
-      where
-        either-way : (b : Bool) → numberAt nums r ≡ cond b (numberAt nums r) (numberAt nums r)
-        either-way true = refl
-        either-way false = refl
 
 -- ---- the single entries
 

@@ -106,7 +106,7 @@ module _ (h : List Event) (a : Accepted h) (t : Tables) (s : Shown h t) (e : Eve
     on-taking : coreClass (e .kind) (e .word) ≡ takes-core → coreAt (e .source) h ≡ idle → coreAt (e .source) (e ∷ h) ≡ held (instanceOf e) → Next (e .source)
     unfolding ticks
     on-taking c was is =
-        let r = source-settled h a t s e f o q c in
+        let r = source-settled h t s e f o q c in
         let n = anew h a t s e f (e .source) (ap (λ (u : Sums). u .since) r) in
         record {
           held-ticks = opened-now _ _ _ _ _ _ _ _ (ap isHeld was) (ap (λ (u : Sums). u .held) r) (n .0) (had .held-ticks);
@@ -119,7 +119,7 @@ module _ (h : List Event) (a : Accepted h) (t : Tables) (s : Shown h t) (e : Eve
     on-giving : coreClass (e .kind) (e .word) ≡ gives-core → coreAt (e .source) h ≡ held (instanceOf e) → coreAt (e .source) (e ∷ h) ≡ idle → Next (e .source)
     unfolding ticks
     on-giving c was is =
-        let r = source-settled h a t s e f o q c in
+        let r = source-settled h t s e f o q c in
         let n = anew h a t s e f (e .source) (ap (λ (u : Sums). u .since) r) in
         record {
           held-ticks =
@@ -133,7 +133,7 @@ module _ (h : List Event) (a : Accepted h) (t : Tables) (s : Shown h t) (e : Eve
   at-first : onCore e ≡ true → any (sameBytes (e .source)) (names h) ≡ false → coreAt (e .source) h ≡ unknown → Next (e .source)
   unfolding ticks
   at-first o q was =
-      let r = source-first h a t s e f o q in
+      let r = source-first h t s e f o q in
       let n = anew h a t s e f (e .source) (ap (λ (u : Sums). u .since) r) in
       let no-held = absent-ticks h a (e .source) q isHeld refl in
       let no-idle = absent-ticks h a (e .source) q isIdle refl in
@@ -154,7 +154,7 @@ module _ (h : List Event) (a : Accepted h) (t : Tables) (s : Shown h t) (e : Eve
   on-source o (gave q c was is) = on-giving o q (held-core h a (e .source) (instanceOf e) was) c was is
   on-source o (kept q c was is) =
       let k = held-core h a (e .source) (instanceOf e) was in
-      stays (e .source) q k (is ∙ sym was) (source-settled h a t s e f o q c)
+      stays (e .source) q k (is ∙ sym was) (source-settled h t s e f o q c)
 
   pub core-next : (n : List ℕ) → any (sameBytes n) (names (e ∷ h)) ≡ true → kindOf n (e ∷ h) ≡ some core → CoreTicks (e ∷ h) (ticksAfter h t e) (rowOf (e ∷ h) n) n
   core-next n q k = by-test (on n e) refl
@@ -168,5 +168,5 @@ module _ (h : List Event) (a : Accepted h) (t : Tables) (s : Shown h t) (e : Eve
           subst Next (sym (same-eq n (e .source) (p .1))) (on-source (p .0) (turn h a e f (p .0)))
       by-test false o =
           let b = not-target h e n k _ refl in
-          let w = name-old h a t s e f n q o b in
-          stays n w (was-core w) (core-other n e h o) (name-kept h a t s e f n w o b)
+          let w = name-old h t s e f n q o b in
+          stays n w (was-core w) (core-other n e h o) (name-kept h t s e f n w o b)

@@ -1,14 +1,13 @@
 -- The figures of tables that show a history are the history's own: a core's ticks, and a process's charge. No sum reaches the width of an entry.
-use mathlib.Core.Path.{_≡_, refl, sym, ap, subst, _∙_}
-use mathlib.Core.Bool.{Bool, true, false, not, _&&_, _||_, cond}
+use mathlib.Core.Path.{_≡_, refl, sym, ap, _∙_}
+use mathlib.Core.Bool.{Bool, true, false, not, _&&_, cond}
 use mathlib.Core.Option.{some}
-use mathlib.Core.List.{List, [], _∷_}
-use Prim.Native.Nat.{ℕ, zero, suc, _+_, _*_, _%_, _^_, _≤_}
+use mathlib.Core.List.{List, _∷_}
+use Prim.Native.Nat.{ℕ, suc, _+_, _*_, _%_, _^_, _≤_}
 use native.Mathlib.Nat.{mod-eq-of-lt}
 use native.Mathlib.Omega.{arith}
 use lib.Dec.{eqb, ltb}
-use lib.ListN.{length, drop}
-use lib.Seq.{drop-length}
+use lib.ListN.{length}
 use borrow.Author.Tests.{eqb-false, eq-eqb, ne-eqb, le-ltb}
 use Rattle.text.specs.Bytes.{sameBytes}
 use Rattle.text.proofs.Words.{same-eq, same-refl, eq-same}
@@ -28,40 +27,12 @@ use Rattle.rules.proofs.Charges.{charge-at-most}
 use Rattle.tables.specs.Entry.{kindAt, standingAt, heldAt, unknownAt}
 use Rattle.judge.specs.Feed.{Tables}
 use Rattle.sheet.specs.Figure.{openAt, heldIn, idleIn, holdsCore, chargeTo, chargeIn}
-use Rattle.promises.specs.Places.{place, rowOf}
+use Rattle.promises.specs.Places.{rowOf}
 use Rattle.promises.specs.Shown.{Shown, CoreTicks, coreStanding, openTicks, openCharge}
-use Rattle.promises.proofs.Places.{place-one, Distinct, at-place}
+use Rattle.promises.proofs.Places.{place-one, by-rows}
 use Rattle.promises.proofs.Listed.{AllMet, names-distinct}
 use Rattle.promises.proofs.CoreNames.{core-unknown, holder-named}
 use Rattle.promises.proofs.Bounds.{span-most}
-
--- ---- the rows of a list, one after the other
-
-module _ {A : Type 0} (eq : A → A → Bool) (eq-true : (x y : A) → eq x y ≡ true → x ≡ y) (eq-refl : (x : A) → eq x x ≡ true) where
-  -- from its place on a list is the element and those after it
-  back-place : (x : A) (xs : List A) → any (eq x) xs ≡ true → drop (place (eq x) xs) xs ≡ x ∷ drop (suc (place (eq x) xs)) xs
-  unfolding place
-  back-place x [] q = absurd (clash false q refl)
-  back-place x (y ∷ ys) q = by-test (eq x y) refl q (back-place x ys)
-    where
-      by-test : (b : Bool) → eq x y ≡ b → b || any (eq x) ys ≡ true → (any (eq x) ys ≡ true → drop (place (eq x) ys) ys ≡ x ∷ drop (suc (place (eq x) ys)) ys) →
-          drop (cond b 0 (suc (place (eq x) ys))) (y ∷ ys) ≡ x ∷ drop (suc (cond b 0 (suc (place (eq x) ys)))) (y ∷ ys)
-      by-test true t q r = ap {B = List A} (λ z. z ∷ ys) (sym (eq-true x y t))
-      by-test false t q r = r q
-
-  -- To show something of a walk over all rows, by what is left to do: it holds behind the last row with nothing left, and if behind the row of an
-  -- element with some left, then before that row with the element in front of them.
-  pub by-rows : (xs : List A) → Distinct eq eq-true eq-refl xs → (P : ℕ → List A → Type 0) → P (length xs) [] →
-      ((x : A) → any (eq x) xs ≡ true → (ys : List A) → P (suc (place (eq x) xs)) ys → P (place (eq x) xs) (x ∷ ys)) → P 0 xs
-  by-rows xs d P end step = from (length xs) 0 (omega arith)
-    where
-      from : (m k : ℕ) → m + k ≡ length xs → P k (drop k xs)
-      from zero k l = rw (let z : k ≡ length xs = omega arith in z, drop-length xs) end
-      from (suc m) k l =
-          let r = at-place eq eq-true eq-refl xs d k (omega arith) in
-          subst (λ (j : ℕ). P j (drop j xs)) (r .2)
-          (rw (back-place (r .0) xs (r .1))
-          (step (r .0) (r .1) (drop (suc (place (eq (r .0)) xs)) xs) (subst (λ (j : ℕ). P (suc j) (drop (suc j) xs)) (sym (r .2)) (from m (suc k) (omega arith)))))
 
 -- ---- what the state of a core says in the tables
 

@@ -1,7 +1,7 @@
 -- A core's state in the tables names the row of its holder's name, and its number is the holder's. So it serves an instance exactly if the core of
 -- the history does.
 use mathlib.Core.Path.{_≡_, refl, sym, ap, subst, _∙_}
-use mathlib.Core.Bool.{Bool, true, false, not, _&&_, cond}
+use mathlib.Core.Bool.{Bool, true, false, not, _&&_, cond, and-false}
 use mathlib.Core.List.{List}
 use Prim.Native.Nat.{ℕ, _+_}
 use native.Mathlib.Omega.{arith}
@@ -48,11 +48,7 @@ module _ (h : List Event) (a : Accepted h) (x : Instance) (only : Only (kindOf (
       by-name true r =
           let k = only (y .kind) (ap (λ (n : List ℕ). kindOf n h) (sym (same-eq (y .name) (x .name) r)) ∙ holder-kind h a c y p) in
           rw (eq-eqb (y .kind) (x .kind) k)
-      by-name false r = by-kind (eqb (y .kind) (x .kind))
-        where
-          by-kind : (k : Bool) → false ≡ k && false
-          by-kind true = refl
-          by-kind false = refl
+      by-name false r = sym (and-false (eqb (y .kind) (x .kind)))
 
       by-row : (b : Bool) → any (sameBytes (x .name)) (names h) ≡ b →
           isHolder (rowOf h (y .name) + 2) (y .number) (cond b (At (rowOf h (x .name))) Nothing) (x .number) ≡ sameInstance y x

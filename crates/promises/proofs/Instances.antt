@@ -94,7 +94,7 @@ module _ (h : List Event) (a : Accepted h) (met : AllMet h) (t : Tables) (s : Sh
 
   module _ (j : ℕ) (b : j < instanceCount (after .nums)) where
     bound : hasInstances (e .kind) ≡ true → targetRow (t .nums) (lookedUpIn h t e) < nameRows
-    bound i = target-bound h t s e f state (instances-tracked (e .kind) i)
+    bound i = target-bound h t s e f (instances-tracked (e .kind) i)
 
     owner-at : ownerAt (after .nums) j ≡ cond (isOwn j) (targetRow (t .nums) (lookedUpIn h t e)) (ownerAt (t .nums) j)
     owner-at = owner-taken (t .nums) (s .sized .nums-size) (lookedUpIn h t e) state e bound j (small j b)

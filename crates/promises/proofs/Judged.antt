@@ -14,8 +14,8 @@ use Rattle.rules.specs.Trace.{takenLines, refusalOn, verdictOn, Sound}
 use Rattle.rules.proofs.Traces.{nothing-kept, number-sound, Names, verdict-names-first, taken-sound}
 use Rattle.tables.specs.Sized.{isSized}
 use Rattle.tables.specs.Range.{tableAnswer}
-use Rattle.judge.specs.Feed.{Tables, After, judgedLine, fedLine, judgedLines, fedChunk, verdictIn, verdictOf, freshTables, judgedTrace}
-use Rattle.judge.proofs.Feeds.{judgedLines-append}
+use Rattle.judge.specs.Feed.{Tables, After, fedLine, judgedLines, fedChunk, verdictIn, verdictOf, freshTables, judgedTrace}
+use Rattle.judge.proofs.Feeds.{judgedLines-append, judged-fed}
 use Rattle.promises.specs.Fed.{allFed, chunksFed, joined, AtLineEnds}
 use Rattle.promises.proofs.Traces.{Followed, followed}
 use Rattle.promises.proofs.Limits.{refusal-small, shows-valid}
@@ -64,17 +64,17 @@ module _ (t : Tables) (fits : isSized (length (t .names)) (length (t .nums)) (le
 
 -- ---- 5: however the lines come
 
--- line by line, the tables tested at each
-fed-judged : (t : Tables) (l : List ℕ) → tableAnswer (t .names) (t .nums) (t .ticks) ≡ 0 → fedLine t l ≡ judgedLine t l
-unfolding fedLine
-fed-judged t l q = rw q
+-- line by line, the tables tested at each: they are in range, so the line is judged
+pub fed-one : (ks : List (List ℕ)) (l : List ℕ) → fedLine (after-lines ks) l .left ≡ after-lines (ks ++ l ∷ [])
+unfolding judgedLines
+fed-one ks l =
+    ap (λ (x : After). x .left) (sym (judged-fed (after-lines ks) l (sym (never-16 ks)) refl refl)) ∙ sym (judgedLines-append freshTables ks (l ∷ []))
 
 from-fed : (ls ks : List (List ℕ)) → allFed (after-lines ks) ls ≡ after-lines (ks ++ ls)
 unfolding allFed judgedLines
 from-fed [] ks = ap after-lines (sym (append-nil ks))
 from-fed (l ∷ ls) ks =
-    ap (λ (x : After). allFed (x .left) ls) (fed-judged (after-lines ks) l (never-16 ks))
-    ∙ ap (λ (u : Tables). allFed u ls) (sym (judgedLines-append freshTables ks (l ∷ [])))
+    ap (λ (u : Tables). allFed u ls) (fed-one ks l)
     ∙ from-fed ls (ks ++ (l ∷ []))
     ∙ ap after-lines (append-assoc ks (l ∷ []) ls)
 

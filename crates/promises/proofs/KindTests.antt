@@ -15,11 +15,7 @@ use Rattle.rules.specs.History.{hasInstances, isTracked, activates}
 use Rattle.rules.specs.Lists.{member}
 use Rattle.rules.proofs.Tracked.{process-tracked}
 use Rattle.rules.proofs.CoreWords.{on-process}
-
--- either of two tests passes
-pub either-true : (a b : Bool) (P : Type 0) → (a ≡ true → P) → (b ≡ true → P) → a || b ≡ true → P
-either-true true b P f g q = f refl
-either-true false b P f g q = g q
+use Rattle.promises.proofs.Choices.{either-true}
 
 -- ---- what has instances, and what is tracked
 

@@ -1,4 +1,5 @@
 -- The promises, `Demand1`, `Demand2` and `Demand3`, and the laws behind them, which tie the tables to the history of the lines taken.
+pub mod Choices
 pub mod Places
 pub mod KindTests
 pub mod Origins

@@ -61,10 +61,10 @@ module _ (h : List Event) (a : Accepted h) (t : Tables) (s : Shown h t) (e : Eve
   unsettled n q k r =
       let time-moved = moved h a e f n q in
       let last-before = s .singles .last in
-      let last-after = last-next h a t s e f in
+      let last-after = last-next h t s e f in
       let since-before = s .each-ticks n q .of-core k .since in
       (omega (arith, until-event n q k), omega arith)
 
   pub anew : (n : List ℕ) → sinceAt (ticksAfter h t e) (rowOf (e ∷ h) n) ≡ e .time →
       (openTicks (e ∷ h) (ticksAfter h t e) n ≡ 0) × (sinceAt (ticksAfter h t e) (rowOf (e ∷ h) n) ≤ lastTime (ticksAfter h t e))
-  anew n r = let last-after = last-next h a t s e f in (omega arith, omega arith)
+  anew n r = let last-after = last-next h t s e f in (omega arith, omega arith)

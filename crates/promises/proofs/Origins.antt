@@ -13,7 +13,7 @@ use Rattle.rules.specs.History.{hasInstances, isTracked, named, names, instance
 use Rattle.rules.proofs.Tests.{clash, instance-true, instance-refl}
 use Rattle.rules.proofs.Sums.{any-more, any-added}
 use Rattle.promises.proofs.Places.{any-keep, any-added-only, let-in}
-use Rattle.promises.proofs.KindTests.{either-true}
+use Rattle.promises.proofs.Choices.{either-true}
 
 -- ---- what is new
 

@@ -1,12 +1,13 @@
 -- Places in a list that grows at its end by what is new: an element keeps its place, what is new stands at the end, two elements do not share a
--- place, and each place has its element.
+-- place, and each place has its element. And a walk over all places.
 use mathlib.Core.Path.{_≡_, refl, sym, ap, subst, _∙_}
-use mathlib.Core.Bool.{Bool, true, false, not, _&&_, _||_, cond}
+use mathlib.Core.Bool.{Bool, true, false, not, _&&_, _||_, cond, or-false}
 use mathlib.Core.List.{List, [], _∷_, _++_, append-nil, append-assoc}
 use Prim.Native.Nat.{ℕ, zero, suc, _+_, _<_}
 use native.Mathlib.Omega.{arith}
 use lib.Dec.{eqb}
-use lib.ListN.{length}
+use lib.ListN.{length, drop}
+use lib.Seq.{drop-length}
 use borrow.Author.Tests.{eq-eqb, ne-eqb}
 use Rattle.rules.specs.Lists.{any, only, keep, addUnless, addNew, addAll}
 use Rattle.rules.proofs.Tests.{both, neither, clash}
@@ -94,10 +95,6 @@ module _ {A : Type 0} (eq : A → A → Bool) (eq-true : (x y : A) → eq x y �
       ∙ rw (any-new eq eq-true eq-refl xs x y, other-way eq eq-true eq-refl x y (q refl), or-false (any (eq y) xs), one-more xs x, append-assoc)
       (ap {B = List A} (λ l. xs ++ l) (by-test (not (any (eq x) xs))))
     where
-      or-false : (c : Bool) → c || false ≡ c
-      or-false true = refl
-      or-false false = refl
-
       by-test : (c : Bool) → keep c x [] ++ keep (b && not (any (eq y) xs)) y [] ≡ keep c x (keep (b && not (any (eq y) xs)) y [])
       by-test true = refl
       by-test false = refl
@@ -161,3 +158,30 @@ module _ {A : Type 0} (eq : A → A → Bool) (eq-true : (x y : A) → eq x y �
           (z : A) × (any (eq z) (x ∷ xs) ≡ true) × (place (eq z) (x ∷ xs) ≡ suc k)
       by-test y true t a p = absurd (clash (any (eq x) xs) (subst (λ (z : A). any (eq z) xs ≡ true) (eq-true y x t) a) (d .0))
       by-test y false t a p = (y, rw (t, a), rw (t, p))
+
+  -- ---- the places of a list, one after the other
+
+  -- from its place on a list is the element and those after it
+  back-place : (x : A) (xs : List A) → any (eq x) xs ≡ true → drop (place (eq x) xs) xs ≡ x ∷ drop (suc (place (eq x) xs)) xs
+  unfolding place
+  back-place x [] q = absurd (clash false q refl)
+  back-place x (y ∷ ys) q = by-test (eq x y) refl q (back-place x ys)
+    where
+      by-test : (b : Bool) → eq x y ≡ b → b || any (eq x) ys ≡ true → (any (eq x) ys ≡ true → drop (place (eq x) ys) ys ≡ x ∷ drop (suc (place (eq x) ys)) ys) →
+          drop (cond b 0 (suc (place (eq x) ys))) (y ∷ ys) ≡ x ∷ drop (suc (cond b 0 (suc (place (eq x) ys)))) (y ∷ ys)
+      by-test true t q r = ap {B = List A} (λ z. z ∷ ys) (sym (eq-true x y t))
+      by-test false t q r = r q
+
+  -- To show something of a walk over all places, by what is left to do: it holds behind the last one with nothing left, and if behind the place of an
+  -- element with some left, then before that place with the element in front of them.
+  pub by-rows : (xs : List A) → Distinct xs → (P : ℕ → List A → Type 0) → P (length xs) [] →
+      ((x : A) → any (eq x) xs ≡ true → (ys : List A) → P (suc (place (eq x) xs)) ys → P (place (eq x) xs) (x ∷ ys)) → P 0 xs
+  by-rows xs d P end step = from (length xs) 0 (omega arith)
+    where
+      from : (m k : ℕ) → m + k ≡ length xs → P k (drop k xs)
+      from zero k l = rw (let z : k ≡ length xs = omega arith in z, drop-length xs) end
+      from (suc m) k l =
+          let r = at-place xs d k (omega arith) in
+          subst (λ (j : ℕ). P j (drop j xs)) (r .2)
+          (rw (back-place (r .0) xs (r .1))
+          (step (r .0) (r .1) (drop (suc (place (eq (r .0)) xs)) xs) (subst (λ (j : ℕ). P (suc j) (drop (suc j) xs)) (sym (r .2)) (from m (suc k) (omega arith)))))

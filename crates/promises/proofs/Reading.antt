@@ -26,24 +26,18 @@ use Rattle.rules.specs.Trace.{tooMuch, placeTests, answerInPlace, answerAt, ref
 use Rattle.rules.specs.Text.{traceText}
 use Rattle.tables.specs.Entry.{verdictNumber}
 use Rattle.judge.specs.Feed.{Tables, After, judgedInPlace, judgedLine, judgedLines, fedLine, fedChunk, freshTables}
-use Rattle.judge.proofs.Feeds.{judgedLines-append, judged-fed, judged-chunk}
+use Rattle.judge.proofs.Feeds.{judgedLines-append, judged-chunk}
 use Rattle.rules.specs.First.{firstRefusal}
 use Rattle.promises.specs.Fed.{joined}
 use Rattle.promises.proofs.Traces.{further}
-use Rattle.promises.proofs.Judged.{after-lines, shows-taken, never-16}
+use Rattle.promises.proofs.Judged.{after-lines, shows-taken, never-16, fed-one}
 use Rattle.promises.proofs.Printed.{printed, after-text, written-text}
 use Rattle.sheet.specs.declared.sheet.Printed.the-variants.{Done, NotPrinted}
 use Rattle.sheet.specs.Sheet.{sheeted}
 use Rattle.run.specs.Report.{reportWritten}
 use Rattle.run.specs.Chunk.{Progress, going, stopped, lastTaken, readOn, atInputEnd}
 
--- ---- tables after lines from a fresh start, fed one line more and one chunk more
-
--- they are in range, so the line is judged
-fed-one : (ks : List (List ℕ)) (l : List ℕ) → fedLine (after-lines ks) l .left ≡ after-lines (ks ++ l ∷ [])
-unfolding judgedLines
-fed-one ks l =
-    ap (λ (x : After). x .left) (sym (judged-fed (after-lines ks) l (sym (never-16 ks)) refl refl)) ∙ sym (judgedLines-append freshTables ks (l ∷ []))
+-- ---- tables after lines from a fresh start, fed the last line and one chunk more
 
 -- what is carried over is a line at the end of input, and nothing is none
 last-fed : (ks : List (List ℕ)) (rest : List ℕ) → lastTaken (after-lines ks) rest (length rest) ≡ after-lines (ks ++ lastLine rest)

@@ -25,6 +25,7 @@ use Rattle.judge.specs.Feed.{Tables}
 use Rattle.promises.specs.Places.{rowOf}
 use Rattle.promises.specs.Shown.{Shown}
 use Rattle.promises.specs.Taken.{lookedUpIn}
+use Rattle.promises.proofs.Choices.{where-true, first-choice}
 use Rattle.promises.proofs.Places.{place-bound, one-row}
 use Rattle.promises.proofs.KindTests.{core-tracked, instances-tracked, semaphore-tracked, activates-instances}
 use Rattle.promises.proofs.Origins.{newSource, newTarget, source-named, target-named}
@@ -37,11 +38,6 @@ use Rattle.promises.proofs.Entries.{orNone, kind-taken, standing-taken,
 
 pub room : (h : List Event) (e : Event) → Passed h e → Fits (e ∷ h)
 room h e f = room-fits h e (f .room)
-
--- a row matters only where a test passes
-where-true : (b x y : Bool) → (b ≡ true → x ≡ y) → b && x ≡ b && y
-where-true true x y f = f refl
-where-true false x y f = refl
 
 -- an event on a core is of the class that gives the core back exactly if its word does
 class-gives : (e : Event) → onCore e ≡ true → eqb (coreClass (e .kind) (e .word)) gives-core ≡ gives (e .word)
@@ -62,6 +58,13 @@ class-gives e o = by-test (isProcess (e .kind)) (takes (e .word)) refl (gives (e
 module _ (h : List Event) (t : Tables) (s : Shown h t) (e : Event) (f : Passed h e) where
   pub row-bound : (n : List ℕ) → any (sameBytes n) (names (e ∷ h)) ≡ true → rowOf (e ∷ h) n < nameRows
   row-bound n q = omega (arith, place-bound (sameBytes n) (names (e ∷ h)) q, room h e f .names-fit)
+
+  pub target-bound : isTracked (e .kind) ≡ true → targetRow (t .nums) (lookedUpIn h t e) < nameRows
+  target-bound k = rw (target-row h t s e (f .kinds) k) (row-bound (e .target) (target-named h e k))
+
+  -- an event on a core is a process's, and its target has a row
+  holder-bound : eqb (coreClass (e .kind) (e .word)) no-core ≡ false → targetRow (t .nums) (lookedUpIn h t e) < nameRows
+  holder-bound k = target-bound (core-tracked e (sym (class-on e) ∙ ap not k))
 
   module _ (n : List ℕ) (q : any (sameBytes n) (names (e ∷ h)) ≡ true) where
     at-target : (b : Bool) → (b ≡ true → isTracked (e .kind) ≡ true) → b && eqb (rowOf (e ∷ h) n) (targetRow (t .nums) (lookedUpIn h t e)) ≡ b && sameBytes n (e .target)
@@ -103,20 +106,9 @@ abbrev pub orGiven : Event → List ℕ → ℕ → ℕ → ℕ → ℕ
 orGiven e n u v old =
     cond (eqb (e .kind) semaphore && sameBytes n (e .target)) u (cond (activates (e .kind) (e .word) && sameBytes n (e .target)) v old)
 
-cond-first : (b : Bool) (x y z : ℕ) → (b ≡ true → x ≡ y) → cond b x z ≡ cond b y z
-cond-first true x y z f = f refl
-cond-first false x y z f = refl
-
 module _ (h : List Event) (t : Tables) (s : Shown h t) (e : Event) (f : Passed h e) (state : ℕ) where
   abbrev next : List ℕ
   next = takenNums (t .nums) (lookedUpIn h t e) state e
-
-  pub target-bound : isTracked (e .kind) ≡ true → targetRow (t .nums) (lookedUpIn h t e) < nameRows
-  target-bound k = rw (target-row h t s e (f .kinds) k) (row-bound h t s e f (e .target) (target-named h e k))
-
-  -- an event on a core is a process's, and its target has a row
-  holder-bound : eqb (coreClass (e .kind) (e .word)) no-core ≡ false → targetRow (t .nums) (lookedUpIn h t e) < nameRows
-  holder-bound k = target-bound (core-tracked e (sym (class-on e) ∙ ap not k))
 
   module _ (n : List ℕ) (q : any (sameBytes n) (names (e ∷ h)) ≡ true) where
     abbrev row : ℕ
@@ -137,9 +129,9 @@ module _ (h : List Event) (t : Tables) (s : Shown h t) (e : Event) (f : Passed h
         (cond (eqb (e .kind) semaphore && sameBytes n (e .target)) state (orOld h e n 0 0 (standingAt (t .nums) row)))
     unfolding lookedUpIn
     standing-at =
-        standing-taken (t .nums) (s .sized .nums-size) (lookedUpIn h t e) state e holder-bound row bound
+        standing-taken (t .nums) (s .sized .nums-size) (lookedUpIn h t e) state e (holder-bound h t s e f) row bound
         ∙ rw (at-core h t s e f n q, at-target h t s e f n q (eqb (e .kind) semaphore) (semaphore-tracked (e .kind)), new-or-old 0 0 (standingAt (t .nums) row))
-        (cond-first (on n e) _ _ _ (λ o. let c = both (onCore e) _ o .0 in rw (class-gives e c, target-row h t s e (f .kinds) (core-tracked e c))))
+        (first-choice (on n e) _ _ _ (λ o. let c = both (onCore e) _ o .0 in rw (class-gives e c, target-row h t s e (f .kinds) (core-tracked e c))))
 
     given-or-old : (u v old : ℕ) →
         cond (eqb (e .kind) semaphore && eqb row (targetRow (t .nums) (lookedUpIn h t e))) u
@@ -157,9 +149,9 @@ module _ (h : List Event) (t : Tables) (s : Shown h t) (e : Event) (f : Passed h
         numberAt next row ≡ cond (on n e) (cond (gives (e .word)) old (e .targetInstance)) old
     unfolding lookedUpIn
     number-at =
-        number-taken (t .nums) (s .sized .nums-size) (lookedUpIn h t e) state e holder-bound row bound
+        number-taken (t .nums) (s .sized .nums-size) (lookedUpIn h t e) state e (holder-bound h t s e f) row bound
         ∙ rw (at-core h t s e f n q, given-or-old (e .count) (e .targetInstance) (numberAt (t .nums) row))
-        (cond-first (on n e) _ _ _ (λ o. rw (class-gives e (both (onCore e) _ o .0))))
+        (first-choice (on n e) _ _ _ (λ o. rw (class-gives e (both (onCore e) _ o .0))))
 
     pub numbered-at : numberedAt next row ≡ orGiven e n 1 1 (orOld h e n 0 0 (numberedAt (t .nums) row))
     numbered-at =

@@ -1,5 +1,5 @@
 -- The sheet of tables that show a history is the history's sheet: its span, and a row for each core and each process with its own figures.
-use mathlib.Core.Path.{_≡_, refl, sym, ap, ap₂, _∙_}
+use mathlib.Core.Path.{_≡_, refl, sym, ap, _∙_}
 use mathlib.Core.Bool.{Bool, true, false}
 use mathlib.Core.Option.{some}
 use mathlib.Core.List.{List, [], _∷_, _++_, append-nil, append-assoc}
@@ -19,13 +19,15 @@ use Rattle.rules.specs.Event.{Event}
 use Rattle.rules.specs.History.{names, kindOf, isKind}
 use Rattle.rules.specs.Verdict.{Accepted}
 use Rattle.rules.specs.Sheet.{coreRows, processRows, span, sheet}
-use Rattle.tables.specs.Entry.{kindAt, firstTime, lastTime}
+use Rattle.tables.specs.Entry.{kindAt}
 use Rattle.judge.specs.Feed.{Tables}
 use Rattle.sheet.specs.Sheet.{belongs, rowIn, rowsTo, rowsIn, sheetIn}
 use Rattle.promises.specs.Places.{rowOf}
-use Rattle.promises.specs.Shown.{Shown, firstOf, lastOf}
+use Rattle.promises.specs.Shown.{Shown}
+use Rattle.promises.proofs.Places.{by-rows}
 use Rattle.promises.proofs.Listed.{AllMet, names-distinct}
-use Rattle.promises.proofs.Figures.{by-rows, held-shown, idle-shown, unknown-shown, charge-shown}
+use Rattle.promises.proofs.Bounds.{span-shown}
+use Rattle.promises.proofs.Figures.{held-shown, idle-shown, unknown-shown, charge-shown}
 
 -- ---- the names of a section and their rows, as the history has them
 
@@ -44,10 +46,6 @@ kind-belongs Cores h n k q = turned (eqb k core) refl ∙ sym (ap (isKind (eqb c
     turned true e = rw (eqb-true k core e)
     turned false e = sym (ne-eqb core k (λ z. eqb-false k core e (sym z)))
 kind-belongs Processes h n k q = sym (ap (isKind isProcess) q)
-
-span-of : (h : List Event) → lastOf h - firstOf h ≡ span h
-span-of [] = refl
-span-of (e ∷ h) = refl
 
 module _ (h : List Event) (a : Accepted h) (met : AllMet h) (t : Tables) (s : Shown h t) where
   -- the row of a name that belongs to the section
@@ -92,7 +90,6 @@ module _ (h : List Event) (a : Accepted h) (met : AllMet h) (t : Tables) (s : Sh
 
   pub sheet-shown : sheetIn (t .names) (t .nums) (t .ticks) ≡ sheet h
   unfolding sheetIn sheet
-  sheet-shown = λ i. record { span = whole i; cores = rows-shown Cores i; processes = rows-shown Processes i }
-    where
-      whole : lastTime (t .ticks) - firstTime (t .ticks) ≡ span h
-      whole = ap₂ _-_ (s .singles .last) (s .singles .first) ∙ span-of h
+  sheet-shown =
+      let whole = span-shown h (t .nums) (t .ticks) (s .singles) in
+      λ i. record { span = whole i; cores = rows-shown Cores i; processes = rows-shown Processes i }

@@ -4,7 +4,7 @@ use mathlib.Core.Path.{_≡_, refl, sym, ap, _∙_}
 use mathlib.Core.Bool.{Bool, true, false, _&&_, cond}
 use mathlib.Core.Option.{some}
 use mathlib.Core.List.{List, _∷_}
-use Prim.Native.Nat.{ℕ, _+_, _-_, _%_, _^_, _<_}
+use Prim.Native.Nat.{ℕ, _+_, _-_, _%_, _^_}
 use native.Mathlib.Omega.{arith}
 use lib.Dec.{eqb}
 use borrow.Author.Tests.{eqb-true, not-true}
@@ -21,7 +21,7 @@ use Rattle.rules.proofs.Tests.{both, and-true, clash}
 use Rattle.rules.proofs.Answers.{Passed}
 use Rattle.rules.proofs.CoreClasses.{class-on}
 use Rattle.rules.proofs.Tracked.{two-names, source-kind}
-use Rattle.tables.specs.Entry.{nameRows, lastTime, sinceAt}
+use Rattle.tables.specs.Entry.{lastTime, sinceAt}
 use Rattle.decide.specs.Known.{newCore, newName}
 use Rattle.store.specs.Store.{coreRow, targetRow, takenTicks}
 use Rattle.judge.specs.Feed.{Tables}
@@ -34,7 +34,7 @@ use Rattle.promises.proofs.Origins.{NameFrom, newTarget, name-stays, so
 use Rattle.promises.proofs.Origins.NameFrom.{before, as-source, as-target}
 use Rattle.promises.proofs.Grown.{row-stays}
 use Rattle.promises.proofs.Lookups.{new-core, new-name, core-row, target-row}
-use Rattle.promises.proofs.Rows.{row-bound}
+use Rattle.promises.proofs.Rows.{row-bound, target-bound}
 use Rattle.promises.proofs.TickStores.{Sums, sums, sumsAt, coreSettled, targetSettled}
 use Rattle.promises.proofs.TickEntries.{unknownBefore, Rows, last-taken, core-new, core-settled, target-settled, row-kept}
 
@@ -58,7 +58,7 @@ pub accepted-next : (h : List Event) → Accepted h → (e : Event) → Passed h
 unfolding answerTo eventTests
 accepted-next h a e f = (rw (f .time, f .kinds, f .room, f .chart, f .number, f .core, f .count), a)
 
-module _ (h : List Event) (a : Accepted h) (t : Tables) (s : Shown h t) (e : Event) (f : Passed h e) where
+module _ (h : List Event) (t : Tables) (s : Shown h t) (e : Event) (f : Passed h e) where
   pub last-next : lastTime (ticksAfter h t e) ≡ e .time
   last-next = last-taken (t .ticks) (t .nums) (s .sized .ticks-size) (lookedUpIn h t e) (e .kind) (e .time)
 
@@ -79,17 +79,14 @@ module _ (h : List Event) (a : Accepted h) (t : Tables) (s : Shown h t) (e : Eve
   rows : Rows (t .nums) (lookedUpIn h t e) (e .kind)
   rows = record {
     core = λ q. let o = classed q in rw (core-row h t s e (f .kinds) o) (row-bound h t s e f (e .source) (source-named h e o));
-    target = λ q. target-small (core-tracked e (classed q));
+    target = λ q. target-bound h t s e f (core-tracked e (classed q));
     apart = λ q p. let o = classed q in
         let w = core-tracked e o in
         let same = place-one sameBytes same-eq same-refl (e .source) (e .target) (names (e ∷ h)) (source-named h e o) (target-named h e w)
         (sym (core-row h t s e (f .kinds) o) ∙ p ∙ target-row h t s e (f .kinds) w) in
         clash (sameBytes (e .source) (e .target)) (eq-same (e .source) (e .target) same) (two-names h e (f .kinds) o);
-    new-name = λ q. target-small (tracked-new q (newTarget h e) refl);
+    new-name = λ q. target-bound h t s e f (tracked-new q (newTarget h e) refl);
   }
-    where
-      target-small : isTracked (e .kind) ≡ true → targetRow (t .nums) (lookedUpIn h t e) < nameRows
-      target-small w = rw (target-row h t s e (f .kinds) w) (row-bound h t s e f (e .target) (target-named h e w))
 
   -- ---- a name that is neither the event's core nor its target
 
@@ -168,7 +165,7 @@ module _ (h : List Event) (a : Accepted h) (t : Tables) (s : Shown h t) (e : Eve
   target-next w =
       let r = target-row h t s e (f .kinds) w in
       ap (sumsAt (ticksAfter h t e)) (sym r)
-      ∙ target-settled (t .ticks) (t .nums) (s .sized .ticks-size) (lookedUpIn h t e) (e .kind) (e .time) rows (rw r (row-bound h t s e f (e .target) (target-named h e w)))
+      ∙ target-settled (t .ticks) (t .nums) (s .sized .ticks-size) (lookedUpIn h t e) (e .kind) (e .time) rows (target-bound h t s e f w)
       ∙ settled-with (coreClass (e .kind) (e .word)) (λ q. source-had (giving-on-core e q)) (target-had w)
     where
       settled-with : (class : ℕ) {u v : ℕ} {x y : Sums} → (eqb class gives-core ≡ true → u ≡ v) → x ≡ y → targetSettled class u x ≡ targetSettled class v y

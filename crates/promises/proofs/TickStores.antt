@@ -10,13 +10,10 @@ use lib.ListN.{length, length-set}
 use borrow.Author.Tests.{eqb-true, ne-eqb, lt-ltb, ltb-true}
 use Rattle.rules.specs.Core.{takes-core, gives-core}
 use Rattle.rules.proofs.Tests.{both}
-use Rattle.tables.specs.Entry.{nameRows, ticksSize, heldColumn, sinceColumn, firstTime, heldAt, idleAt, unknownAt, sinceAt}
+use Rattle.tables.specs.Entry.{nameRows, ticksSize, firstIndex, heldColumn, sinceColumn, firstTime, heldAt, idleAt, unknownAt, sinceAt}
 use Rattle.tables.proofs.Stores.{cell, Outside, beside}
 use Rattle.store.specs.Store.{storeSums, settled}
-
-alike : {A : Type 0} (b : Bool) (x : A) → cond b x x ≡ x
-alike true x = refl
-alike false x = refl
+use Rattle.promises.proofs.Choices.{same-choice}
 
 -- ---- the four sums of a row
 
@@ -58,7 +55,7 @@ targetSettled class ticks s = cond (eqb class gives-core) (sums ((s .held + tick
 
 pub settled-off : (l : List ℕ) (class i p time : ℕ) → eqb class takes-core ≡ false → eqb class gives-core ≡ false → settled l class i p time ≡ l
 unfolding settled
-settled-off l class i p time q u = rw (q, u, alike (ltb i nameRows && ltb p nameRows) l)
+settled-off l class i p time q u = rw (q, u, same-choice (ltb i nameRows && ltb p nameRows) l)
 
 -- the row r of a list after another is settled to the rows i and p
 abbrev pub settledAt : List ℕ → ℕ → ℕ → ℕ → ℕ → ℕ → Sums
@@ -98,11 +95,11 @@ module _ (l : List ℕ) (z : length l ≡ ticksSize) (i p time r : ℕ) (n : i <
       by-class : (x : Bool) → eqb class takes-core ≡ x → (y : Bool) → eqb class gives-core ≡ y → sumsAt (settled l class i p time) r ≡ settledAt l class i p time r
       by-class true q y u = rw (eqb-true class takes-core q) by-taking
       by-class false q true u = rw (eqb-true class gives-core u) (by-giving d)
-      by-class false q false u = rw (settled-off l class i p time q u, q, u, alike (eqb r p) (sumsAt l r), alike (eqb r i) (sumsAt l r))
+      by-class false q false u = rw (settled-off l class i p time q u, q, u, same-choice (eqb r p) (sumsAt l r), same-choice (eqb r i) (sumsAt l r))
 
 -- ---- the first time: no sum is stored there
 
-no-sum : Outside heldColumn sinceColumn 0
+no-sum : Outside heldColumn sinceColumn firstIndex
 no-sum l u = omega arith
 
 pub either-kept : (b : Bool) (l m n : List ℕ) → (b ≡ true → firstTime m ≡ firstTime l) → (b ≡ false → firstTime n ≡ firstTime l) → firstTime (cond b m n) ≡ firstTime l

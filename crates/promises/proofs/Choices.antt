@@ -1,0 +1,23 @@
+-- What is chosen by a test: laws of tests and of `cond`, whatever they are of.
+use mathlib.Core.Path.{_≡_, refl}
+use mathlib.Core.Bool.{Bool, true, false, _&&_, _||_, cond}
+
+-- either of two tests passes
+pub either-true : (a b : Bool) (P : Type 0) → (a ≡ true → P) → (b ≡ true → P) → a || b ≡ true → P
+either-true true b P f g q = f refl
+either-true false b P f g q = g q
+
+-- what comes after a test matters only where it passes
+pub where-true : (b x y : Bool) → (b ≡ true → x ≡ y) → b && x ≡ b && y
+where-true true x y f = f refl
+where-true false x y f = refl
+
+-- a choice between two that are the same
+pub same-choice : {A : Type 0} (b : Bool) (x : A) → cond b x x ≡ x
+same-choice true x = refl
+same-choice false x = refl
+
+-- and one whose first matters only where the test passes
+pub first-choice : {A : Type 0} (b : Bool) (x y z : A) → (b ≡ true → x ≡ y) → cond b x z ≡ cond b y z
+first-choice true x y z f = f refl
+first-choice false x y z f = refl
