@@ -1,6 +1,9 @@
--- What is chosen by a test: laws of tests and of `cond`, whatever they are of.
-use mathlib.Core.Path.{_≡_, refl}
+-- What is chosen by a test: laws of tests and of `cond`, whatever they test and choose.
+use mathlib.Core.Path.{_≡_, refl, sym}
 use mathlib.Core.Bool.{Bool, true, false, _&&_, _||_, cond}
+use Prim.Native.Nat.{ℕ}
+use lib.Dec.{eqb}
+use borrow.Author.Tests.{eq-eqb, eqb-true, eqb-false, ne-eqb}
 
 -- either of two tests passes
 pub either-true : (a b : Bool) (P : Type 0) → (a ≡ true → P) → (b ≡ true → P) → a || b ≡ true → P
@@ -21,3 +24,11 @@ same-choice false x = refl
 pub first-choice : {A : Type 0} (b : Bool) (x y z : A) → (b ≡ true → x ≡ y) → cond b x z ≡ cond b y z
 first-choice true x y z f = f refl
 first-choice false x y z f = refl
+
+-- a test of two numbers, turned round
+pub eqb-turned : (m n : ℕ) → eqb m n ≡ eqb n m
+eqb-turned m n = by-test (eqb m n) refl
+  where
+    by-test : (b : Bool) → eqb m n ≡ b → b ≡ eqb n m
+    by-test true q = sym (eq-eqb n m (sym (eqb-true m n q)))
+    by-test false q = sym (ne-eqb n m (λ e. eqb-false m n q (sym e)))

@@ -10,7 +10,7 @@ use lib.Dec.{eqb, ltb}
 use lib.ListN.{length}
 use borrow.Author.Tests.{eqb-false, eq-eqb, ne-eqb, le-ltb}
 use Rattle.text.specs.Bytes.{sameBytes}
-use Rattle.text.proofs.Words.{same-eq, same-refl, eq-same}
+use Rattle.text.proofs.Words.{same-eq, same-refl}
 use Rattle.rules.specs.Lists.{any, sumOver, oneIf}
 use Rattle.rules.specs.Words.{core}
 use Rattle.rules.specs.Limits.{coreLimit}
@@ -29,9 +29,11 @@ use Rattle.judge.specs.Feed.{Tables}
 use Rattle.sheet.specs.Figure.{openAt, heldIn, idleIn, holdsCore, chargeTo, chargeIn}
 use Rattle.promises.specs.Places.{rowOf}
 use Rattle.promises.specs.Shown.{Shown, CoreTicks, coreStanding, openTicks, openCharge}
-use Rattle.promises.proofs.Places.{place-one, by-rows}
+use Rattle.promises.proofs.Choices.{eqb-turned}
+use Rattle.promises.proofs.Places.{one-row, by-rows}
 use Rattle.promises.proofs.Listed.{AllMet, names-distinct}
 use Rattle.promises.proofs.CoreNames.{core-unknown, holder-named}
+use Rattle.promises.proofs.Holders.{standings-alike}
 use Rattle.promises.proofs.Bounds.{span-most}
 
 -- ---- what the state of a core says in the tables
@@ -49,13 +51,8 @@ held-standing h (held x) = rw (le-ltb (rowOf h (x .name) + 2) 2 (omega arith))
 module _ (h : List Event) (a : Accepted h) (t : Tables) (s : Shown h t) (p : List ℕ) (listed : any (sameBytes p) (names h) ≡ true) where
   -- two states name one row exactly if it is of one name
   own-row : (n : List ℕ) → any (sameBytes n) (names h) ≡ true → eqb (rowOf h n + 2) (rowOf h p + 2) ≡ sameBytes p n
-  own-row n q = by-same (sameBytes p n) refl
-    where
-      by-same : (b : Bool) → sameBytes p n ≡ b → eqb (rowOf h n + 2) (rowOf h p + 2) ≡ b
-      by-same true r = eq-eqb _ _ (ap (λ (m : List ℕ). rowOf h m + 2) (sym (same-eq p n r)))
-      by-same false r =
-          ne-eqb _ _ (λ (e : rowOf h n + 2 ≡ rowOf h p + 2).
-          clash _ (eq-same p n (place-one sameBytes same-eq same-refl p n (names h) listed q (omega arith))) r)
+  own-row n q =
+      standings-alike (rowOf h n) (rowOf h p) ∙ eqb-turned (rowOf h n) (rowOf h p) ∙ one-row sameBytes same-eq same-refl p n (names h) listed q
 
   -- the state of a core names the row of its holder's name
   holder-standing : (c : Core) → ((x : Instance) → c ≡ held x → any (sameBytes (x .name)) (names h) ≡ true) → oneIf (eqb (coreStanding h c) (rowOf h p + 2)) ≡ isHeldBy p c

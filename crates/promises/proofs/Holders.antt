@@ -27,7 +27,7 @@ use Rattle.promises.proofs.CoreNames.{holder-kind, holder-named}
 use Rattle.promises.proofs.Told.{Only}
 
 -- two states name one row exactly if the rows are one
-standings-alike : (i j : ℕ) → eqb (i + 2) (j + 2) ≡ eqb i j
+pub standings-alike : (i j : ℕ) → eqb (i + 2) (j + 2) ≡ eqb i j
 standings-alike i j = by-test (eqb i j) refl
   where
     by-test : (b : Bool) → eqb i j ≡ b → eqb (i + 2) (j + 2) ≡ b

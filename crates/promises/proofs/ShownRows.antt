@@ -6,7 +6,7 @@ use mathlib.Core.List.{List, [], _∷_, _++_, append-nil, append-assoc}
 use Prim.Native.Nat.{ℕ, suc, _-_}
 use lib.Dec.{eqb}
 use lib.ListN.{length}
-use borrow.Author.Tests.{eqb-true, eqb-false, ne-eqb}
+use borrow.Author.Tests.{eqb-true}
 use Rattle.text.specs.Bytes.{sameBytes}
 use Rattle.text.proofs.Words.{same-eq, same-refl}
 use Rattle.bill.specs.declared.section.Section.{Section}
@@ -24,6 +24,7 @@ use Rattle.judge.specs.Feed.{Tables}
 use Rattle.sheet.specs.Sheet.{belongs, rowIn, rowsTo, rowsIn, sheetIn}
 use Rattle.promises.specs.Places.{rowOf}
 use Rattle.promises.specs.Shown.{Shown}
+use Rattle.promises.proofs.Choices.{eqb-turned}
 use Rattle.promises.proofs.Places.{by-rows}
 use Rattle.promises.proofs.Listed.{AllMet, names-distinct}
 use Rattle.promises.proofs.Bounds.{span-shown}
@@ -40,11 +41,7 @@ sectionRows Cores ns h = coreRows ns h
 sectionRows Processes ns h = processRows ns h
 
 kind-belongs : (x : Section) (h : List Event) (n : List ℕ) (k : ℕ) → kindOf n h ≡ some k → belongs x k ≡ isIn x h n
-kind-belongs Cores h n k q = turned (eqb k core) refl ∙ sym (ap (isKind (eqb core)) q)
-  where
-    turned : (b : Bool) → eqb k core ≡ b → b ≡ eqb core k
-    turned true e = rw (eqb-true k core e)
-    turned false e = sym (ne-eqb core k (λ z. eqb-false k core e (sym z)))
+kind-belongs Cores h n k q = eqb-turned k core ∙ sym (ap (isKind (eqb core)) q)
 kind-belongs Processes h n k q = sym (ap (isKind isProcess) q)
 
 module _ (h : List Event) (a : Accepted h) (met : AllMet h) (t : Tables) (s : Shown h t) where
