@@ -42,7 +42,7 @@ module _ (h : List Event) (e : Event) where
 -- ---- an event that does not break 9
 
 module _ (h : List Event) (e : Event) (k : secondKind (look h e) e ≡ false) where
-  pub names-grow : names (e ∷ h) ≡ names h ++ keep (newSource h e) (e .source) (keep (newTarget h e) (e .target) [])
+  names-grow : names (e ∷ h) ≡ names h ++ keep (newSource h e) (e .source) (keep (newTarget h e) (e .target) [])
   unfolding names named
   names-grow = grown-two sameBytes same-eq same-refl (onCore e) (isTracked (e .kind)) (names h) (e .source) (e .target) (two-names h e k)
 
@@ -98,7 +98,7 @@ module _ (h : List Event) (e : Event) (k : secondKind (look h e) e ≡ false) wh
   new-cores false true p q = rw (other-target q)
   new-cores false false p q = refl
 
-  pub cores-grow : cores (e ∷ h) ≡ cores h ++ keep (newSource h e) (e .source) []
+  cores-grow : cores (e ∷ h) ≡ cores h ++ keep (newSource h e) (e .source) []
   unfolding isCore
   cores-grow =
       ap (only isCore) names-grow

@@ -39,7 +39,7 @@ event-small k e = lowest-has (λ n. n ≤ lastRefusal) (eventTests k e) (omega a
 
 -- ---- a line, and the refusal of a list of lines
 
-pub answer-small : (h : List (List ℕ)) (l : List ℕ) → answerAt h l ≤ lastRefusal
+answer-small : (h : List (List ℕ)) (l : List ℕ) → answerAt h l ≤ lastRefusal
 unfolding answerAt
 answer-small h l = by-place (answerInPlace (placeOf h) l) (omega (arith, place-most (placeOf h) l)) (eventOfLine l)
   where

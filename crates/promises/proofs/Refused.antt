@@ -70,7 +70,7 @@ module _ (t : Tables) where
   in-place-spares zero l = read-spares (readLine l) l
   in-place-spares (suc m) l = λ n. verdict-stored t (suc m)
 
-  pub judged-spares : (l : List ℕ) → Spares t (judgedLine t l)
+  judged-spares : (l : List ℕ) → Spares t (judgedLine t l)
   unfolding judgedLine
   judged-spares l = by-verdict (eqb (verdictNumber (t .nums)) 0)
     where

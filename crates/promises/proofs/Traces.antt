@@ -23,7 +23,7 @@ use Rattle.promises.proofs.Events.{event-outcome}
 
 -- ---- a refusal remembered
 
-pub shows-remembered : (h : List (List ℕ)) (t : Tables) (n : ℕ) → Shows h t → Shows h (tables (t .names) (remembered (t .nums) n) (t .ticks))
+shows-remembered : (h : List (List ℕ)) (t : Tables) (n : ℕ) → Shows h t → Shows h (tables (t .names) (remembered (t .nums) n) (t .ticks))
 unfolding placeIn
 shows-remembered h t n s =
     let g = remembered-later (t .nums) n in
