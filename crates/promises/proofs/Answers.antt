@@ -14,7 +14,8 @@ use Rattle.rules.specs.Words.{core}
 use Rattle.rules.specs.Event.{Event}
 use Rattle.rules.specs.Core.{onCore}
 use Rattle.rules.specs.History.{isTracked, names, cores, instances, kindOf, lastTime as timeBefore}
-use Rattle.rules.specs.Refusals.{Known, look, less, differs, timeFalls, sourceClash, targetClash, secondKind, noRoom, offChart, notNext, coreBroken, countBroken, eventTests, answerTo}
+use Rattle.rules.specs.Refusals.{Known, look, less, differs, timeFalls, sourceClash, targetClash, secondKind}
+use Rattle.rules.specs.Refusals.{noRoom, offChart, notNext, coreBroken, countBroken, eventTests, answerTo}
 use Rattle.rules.specs.Rows.{opened}
 use Rattle.rules.specs.Verdict.{answer, Accepted}
 use Rattle.tables.specs.Entry.{startedEntry, nameCount, coreCount, instanceCount, lastTime}
@@ -31,7 +32,8 @@ use Rattle.promises.proofs.Told.{kind-told}
 use Rattle.promises.proofs.Later.{source-asked, target-asked, chart-agrees, number-agrees, core-agrees, count-agrees}
 
 -- the time of the event line before
-time-told : (h : List Event) (nums ticks : List ℕ) → startedEntry nums ≡ startedOf h → lastTime ticks ≡ lastOf h → cond (eqb (startedEntry nums) 0) none (some (lastTime ticks)) ≡ timeBefore h
+time-told : (h : List Event) (nums ticks : List ℕ) → startedEntry nums ≡ startedOf h → lastTime ticks ≡ lastOf h →
+    cond (eqb (startedEntry nums) 0) none (some (lastTime ticks)) ≡ timeBefore h
 time-told [] nums ticks p q = rw p
 time-told (e ∷ h) nums ticks p q = rw (p, q)
 
@@ -57,7 +59,8 @@ module _ (h : List Event) (a : Accepted h) (met : AllMet h) (t : Tables) (s : Sh
   source-agrees v q = by-test (onCore e) refl
     where
       by-test : (b : Bool) → onCore e ≡ b →
-          b && (differs (opened (kindIn (t .nums) (v .source))) core || sameBytes (e .source) (e .target)) ≡ b && (differs (kindOf (e .source) h) core || sameBytes (e .source) (e .target))
+          b && (differs (opened (kindIn (t .nums) (v .source))) core || sameBytes (e .source) (e .target))
+          ≡ b && (differs (kindOf (e .source) h) core || sameBytes (e .source) (e .target))
       by-test true o = rw (q, source-asked h t e o, kind-told h a t s (e .source))
       by-test false o = refl
 
@@ -65,7 +68,8 @@ module _ (h : List Event) (a : Accepted h) (met : AllMet h) (t : Tables) (s : Sh
   unfolding targetClash knownBy
   target-agrees v q = by-test (isTracked (e .kind)) refl
     where
-      by-test : (b : Bool) → isTracked (e .kind) ≡ b → b && differs (opened (kindIn (t .nums) (v .target))) (e .kind) ≡ b && differs (kindOf (e .target) h) (e .kind)
+      by-test : (b : Bool) → isTracked (e .kind) ≡ b →
+          b && differs (opened (kindIn (t .nums) (v .target))) (e .kind) ≡ b && differs (kindOf (e .target) h) (e .kind)
       by-test true k = rw (q, target-asked h t e k, kind-told h a t s (e .target))
       by-test false k = refl
 

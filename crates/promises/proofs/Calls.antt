@@ -32,7 +32,8 @@ use Rattle.tables.proofs.Valid.{valid, three-answers}
 use Rattle.tables.proofs.Zeros.{clear-answers}
 use Rattle.decide.specs.Decide.{planAnswer, decided}
 use Rattle.decide.proofs.Decided.{ruled, plan-answer, decided-answer, plan-refuses}
-use Rattle.judge.specs.Feed.{Tables, After, after, judgedLine, judgedLines, fedLine, AfterChunk, fedChunk, verdict, verdictIn, verdictOf, AfterTrace, freshTables, judgedTrace}
+use Rattle.judge.specs.Feed.{Tables, After, after, judgedLine, judgedLines, fedLine, AfterChunk, fedChunk}
+use Rattle.judge.specs.Feed.{verdict, verdictIn, verdictOf, AfterTrace, freshTables, judgedTrace}
 use Rattle.promises.proofs.Judged.{never-16}
 use Rattle.promises.proofs.Numbers.{judged-numbered, lines-most}
 use Rattle.promises.proofs.Refused.{StopsAfter, lines-spare}
@@ -135,7 +136,10 @@ module _ (t : Tables) where
     abbrev many : ℕ → AfterChunk
     many n =
         ifZero n
-        (record { fed = record { answer = verdictNumber (judgedLines t (wholeLines chunk) .nums); used = usedUp chunk }; left = judgedLines t (wholeLines chunk) })
+        (record {
+          fed = record { answer = verdictNumber (judgedLines t (wholeLines chunk) .nums); used = usedUp chunk };
+          left = judgedLines t (wholeLines chunk);
+        })
         (record { fed = record { answer = n; used = 0 }; left = t })
 
     chunk-most : tableAnswer (t .names) (t .nums) (t .ticks) ≡ 0 → verdictNumber (judgedLines t (wholeLines chunk) .nums) ≤ lastRefusal
@@ -153,7 +157,8 @@ module _ (t : Tables) where
         by-own (λ n. member (many n .fed .answer) writeNothing ≡ true → many n .left ≡ t)
         (λ e q. let z = remembers (verdictNumber (judgedLines t (wholeLines chunk) .nums)) (chunk-most e) in cc) (λ q. refl) (λ q. refl)
 
-    pub chunk-stops : member (fedChunk t chunk .fed .answer) writeNothing ≡ false → (fedChunk t chunk .left ≡ judgedLines t (wholeLines chunk)) × StopsAfter t (wholeLines chunk)
+    pub chunk-stops : member (fedChunk t chunk .fed .answer) writeNothing ≡ false →
+        (fedChunk t chunk .left ≡ judgedLines t (wholeLines chunk)) × StopsAfter t (wholeLines chunk)
     unfolding fedChunk
     chunk-stops =
         by-own (λ n. member (many n .fed .answer) writeNothing ≡ false → (many n .left ≡ judgedLines t (wholeLines chunk)) × StopsAfter t (wholeLines chunk))
@@ -202,7 +207,9 @@ pub record Printing (x : Sheeted) (out : List ℕ) : Type 0 where
 
 module _ (names nums ticks out text : List ℕ) where
   abbrev print : ℕ → Sheeted
-  print n = ifZero n (cond (leb (length text) (length out)) (sheeted (Done (length text)) (written out 0 text)) (sheeted (NotPrinted 15) out)) (sheeted (NotPrinted n) out)
+  print n =
+      ifZero n (cond (leb (length text) (length out)) (sheeted (Done (length text)) (written out 0 text)) (sheeted (NotPrinted 15) out))
+      (sheeted (NotPrinted n) out)
 
   prints : Printing (print (tableAnswer names nums ticks)) out
   unfolding printedAnswer

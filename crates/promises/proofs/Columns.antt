@@ -48,7 +48,8 @@ module _ (nums : List ℕ) (z : length nums ≡ numsSize) (s : LookedUp) (kind n
       let first = storeRow nums (nameCount nums) core n in
       let one = cond (eqb (newCore s) 1) first nums in
       let y : length one ≡ numsSize = length-if (eqb (newCore s) 1) first nums (length-storeRow nums (nameCount nums) core n) ∙ z in
-      made (eqb (newName s kind) 1) (eqb r (targetRow nums s)) (storeRow one (targetRow nums s) kind m) one (d + r) (value kind m) (λ t. f one y (targetRow nums s) r h kind m)
+      made (eqb (newName s kind) 1) (eqb r (targetRow nums s)) (storeRow one (targetRow nums s) kind m) one (d + r) (value kind m)
+      (λ t. f one y (targetRow nums s) r h kind m)
       ∙ ap (cond (isNewTarget nums s kind r) (value kind m))
       (made (eqb (newCore s) 1) (eqb r (nameCount nums)) first nums (d + r) (value core n) (λ t. f nums z (nameCount nums) r h core n))
 
@@ -87,7 +88,8 @@ module _ (nums : List ℕ) (z : length nums ≡ numsSize) (i j t kind word n c :
   unfolding withTarget
   target-beside x out =
       entry-if (eqb kind semaphore) (storeNumber (storeStanding nums i t) i c) two x
-      (λ e. number-beside (storeStanding nums i t) i x c (λ l u. out (omega arith) (omega arith)) ∙ standing-beside nums i x t (λ l u. out (omega arith) (omega arith)))
+      (λ e. number-beside (storeStanding nums i t) i x c (λ l u. out (omega arith) (omega arith))
+      ∙ standing-beside nums i x t (λ l u. out (omega arith) (omega arith)))
       (λ e. two-beside x (λ l u. out (omega arith) (omega arith)) ∙ one-beside x (λ l u. out (omega arith) (omega arith)))
 
   pub target-standing : (r : ℕ) → r < nameRows → standingAt (withTarget nums i j t kind word n c) r ≡ cond (eqb kind semaphore && eqb r i) t (standingAt nums r)
@@ -142,10 +144,12 @@ module _ (nums : List ℕ) (class i p n : ℕ) where
         entry-if (eqb class no-core) nums _ (d + r) (λ e. rw e)
         (λ e. rw e (entry-if (eqb class gives-core) (storeStanding nums i 1) (storeHolder nums i p n) (d + r) (λ t. rw t f) (λ t. rw t (g (k e)))))
 
-    pub core-standing : standingAt (withCore nums class i p n) r ≡ cond (not (eqb class no-core) && eqb r i) (cond (eqb class gives-core) 1 (p + 2)) (standingAt nums r)
+    pub core-standing : standingAt (withCore nums class i p n) r
+        ≡ cond (not (eqb class no-core) && eqb r i) (cond (eqb class gives-core) 1 (p + 2)) (standingAt nums r)
     core-standing = core-column (standingColumn .base) 1 (p + 2) (standing-standing nums z i r h 1) (λ o. holder-standing nums z i p n r o h)
 
-    pub core-number : numberAt (withCore nums class i p n) r ≡ cond (not (eqb class no-core) && eqb r i) (cond (eqb class gives-core) (numberAt nums r) n) (numberAt nums r)
+    pub core-number : numberAt (withCore nums class i p n) r
+        ≡ cond (not (eqb class no-core) && eqb r i) (cond (eqb class gives-core) (numberAt nums r) n) (numberAt nums r)
     core-number =
         core-column (numberColumn .base) (numberAt nums r) n
         (standing-beside nums i (numberColumn .base + r) 1 (λ l u. omega arith) ∙ sym (same-choice (eqb r i) (numberAt nums r)))

@@ -111,7 +111,8 @@ module _ (h : List Event) (a : Accepted h) (t : Tables) (s : Shown h t) (e : Eve
         record {
           held-ticks = opened-now _ _ _ _ _ _ _ _ (ap isHeld was) (ap (λ (u : Sums). u .held) r) (n .0) (had .held-ticks);
           idle-ticks =
-              now-settled _ _ _ _ _ _ _ _ _ (ap isIdle was) (ap isIdle is) until (had .idle-ticks) (omega (arith, small (e .source))) (ap (λ (u : Sums). u .idle) r);
+              now-settled _ _ _ _ _ _ _ _ _ (ap isIdle was) (ap isIdle is) until (had .idle-ticks) (omega (arith, small (e .source)))
+              (ap (λ (u : Sums). u .idle) r);
           unknown-ticks = uncounted _ _ _ _ _ (ap (λ (u : Sums). u .unknown) r) (not-unknown (e .source) h k) (had .unknown-ticks);
           since = n .1;
         }
@@ -123,7 +124,8 @@ module _ (h : List Event) (a : Accepted h) (t : Tables) (s : Shown h t) (e : Eve
         let n = anew h a t s e f (e .source) (ap (λ (u : Sums). u .since) r) in
         record {
           held-ticks =
-              now-settled _ _ _ _ _ _ _ _ _ (ap isHeld was) (ap isHeld is) until (had .held-ticks) (omega (arith, small (e .source))) (ap (λ (u : Sums). u .held) r);
+              now-settled _ _ _ _ _ _ _ _ _ (ap isHeld was) (ap isHeld is) until (had .held-ticks) (omega (arith, small (e .source)))
+              (ap (λ (u : Sums). u .held) r);
           idle-ticks = opened-now _ _ _ _ _ _ _ _ (ap isIdle was) (ap (λ (u : Sums). u .idle) r) (n .0) (had .idle-ticks);
           unknown-ticks = uncounted _ _ _ _ _ (ap (λ (u : Sums). u .unknown) r) (not-unknown (e .source) h k) (had .unknown-ticks);
           since = n .1;
@@ -156,7 +158,8 @@ module _ (h : List Event) (a : Accepted h) (t : Tables) (s : Shown h t) (e : Eve
       let k = held-core h a (e .source) (instanceOf e) was in
       stays (e .source) q k (is ∙ sym was) (source-settled h t s e f o q c)
 
-  pub core-next : (n : List ℕ) → any (sameBytes n) (names (e ∷ h)) ≡ true → kindOf n (e ∷ h) ≡ some core → CoreTicks (e ∷ h) (ticksAfter h t e) (rowOf (e ∷ h) n) n
+  pub core-next : (n : List ℕ) → any (sameBytes n) (names (e ∷ h)) ≡ true → kindOf n (e ∷ h) ≡ some core →
+      CoreTicks (e ∷ h) (ticksAfter h t e) (rowOf (e ∷ h) n) n
   core-next n q k = by-test (on n e) refl
     where
       was-core : any (sameBytes n) (names h) ≡ true → kindOf n h ≡ some core

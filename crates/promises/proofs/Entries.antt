@@ -11,9 +11,11 @@ use Rattle.rules.specs.Words.{core, semaphore}
 use Rattle.rules.specs.Event.{Event}
 use Rattle.rules.specs.Core.{no-core, gives-core}
 use Rattle.rules.specs.History.{hasInstances, activates}
-use Rattle.tables.specs.Entry.{verdictIndex, verdictLineIndex, linesIndex, scaleIndex, creatorIndex, dateIndex, startedIndex, namesIndex, coresIndex, instancesIndex}
-use Rattle.tables.specs.Entry.{nameRows, instanceRows, kindColumn, lengthColumn, standingColumn, numberColumn, numberedColumn, ownerColumn, instanceColumn, stateColumn}
-use Rattle.tables.specs.Entry.{numsSize, verdictNumber, verdictLine, lineCount, scaleEntry, creatorEntry, dateEntry, startedEntry, nameCount, coreCount, instanceCount}
+use Rattle.tables.specs.Entry.{verdictIndex, verdictLineIndex, linesIndex, scaleIndex, creatorIndex}
+use Rattle.tables.specs.Entry.{dateIndex, startedIndex, namesIndex, coresIndex, instancesIndex}
+use Rattle.tables.specs.Entry.{nameRows, instanceRows, numsSize}
+use Rattle.tables.specs.Entry.{kindColumn, lengthColumn, standingColumn, numberColumn, numberedColumn, ownerColumn, instanceColumn, stateColumn}
+use Rattle.tables.specs.Entry.{verdictNumber, verdictLine, lineCount, scaleEntry, creatorEntry, dateEntry, startedEntry, nameCount, coreCount, instanceCount}
 use Rattle.tables.specs.Entry.{kindAt, lengthAt, standingAt, numberAt, numberedAt, ownerAt, instanceAt, stateAt}
 use Rattle.tables.proofs.Stores.{Outside}
 use Rattle.decide.specs.declared.look.LookedUp.{LookedUp}
@@ -72,11 +74,16 @@ module _ (nums : List ℕ) (z : length nums ≡ numsSize) (s : LookedUp) (t : �
 
   pub kind-taken : (r : ℕ) → r < nameRows →
       kindAt (takenNums nums s t e) r ≡ cond (isNewTarget nums s (e .kind) r) (e .kind) (cond (isNewCore nums s r) core (kindAt nums r))
-  kind-taken r h = from-filled (kindColumn .base + r) (omega arith) (omega arith) ∙ rows-stored nums z s (e .kind) (length (e .source)) (length (e .target)) (kindColumn .base) (λ k c. k) row-kind r h
+  kind-taken r h =
+      from-filled (kindColumn .base + r) (omega arith) (omega arith)
+      ∙ rows-stored nums z s (e .kind) (length (e .source)) (length (e .target)) (kindColumn .base) (λ k c. k) row-kind r h
 
   pub length-taken : (r : ℕ) → r < nameRows →
-      lengthAt (takenNums nums s t e) r ≡ cond (isNewTarget nums s (e .kind) r) (length (e .target) % 2 ^ 32) (cond (isNewCore nums s r) (length (e .source) % 2 ^ 32) (lengthAt nums r))
-  length-taken r h = from-filled (lengthColumn .base + r) (omega arith) (omega arith) ∙ rows-stored nums z s (e .kind) (length (e .source)) (length (e .target)) (lengthColumn .base) (λ k c. c % 2 ^ 32) row-length r h
+      lengthAt (takenNums nums s t e) r
+      ≡ cond (isNewTarget nums s (e .kind) r) (length (e .target) % 2 ^ 32) (cond (isNewCore nums s r) (length (e .source) % 2 ^ 32) (lengthAt nums r))
+  length-taken r h =
+      from-filled (lengthColumn .base + r) (omega arith) (omega arith)
+      ∙ rows-stored nums z s (e .kind) (length (e .source)) (length (e .target)) (lengthColumn .base) (λ k c. c % 2 ^ 32) row-length r h
 
   pub standing-taken : (eqb (s .class) no-core ≡ false → targetRow nums s < nameRows) → (r : ℕ) → r < nameRows →
       standingAt (takenNums nums s t e) r
@@ -85,7 +92,10 @@ module _ (nums : List ℕ) (z : length nums ≡ numsSize) (s : LookedUp) (t : �
   standing-taken k r h =
       from-cored (standingColumn .base + r) (omega arith)
       ∙ core-standing aimed (s .class) (coreRow nums s) (targetRow nums s) (e .targetInstance) aimed-size k r h
-      ∙ rw (target-standing filled filled-size (targetRow nums s) (instanceRow nums s) t (e .kind) (e .word) (e .targetInstance) (e .count) r h, rows-stored nums z s (e .kind) (length (e .source)) (length (e .target)) (standingColumn .base) (λ k c. 0) row-standing r h)
+      ∙ rw (
+        target-standing filled filled-size (targetRow nums s) (instanceRow nums s) t (e .kind) (e .word) (e .targetInstance) (e .count) r h,
+        rows-stored nums z s (e .kind) (length (e .source)) (length (e .target)) (standingColumn .base) (λ k c. 0) row-standing r h,
+      )
 
   -- the count or number that the target is given, and otherwise the old entry
   abbrev given : ℕ → ℕ → ℕ → ℕ → ℕ
@@ -101,7 +111,8 @@ module _ (nums : List ℕ) (z : length nums ≡ numsSize) (s : LookedUp) (t : �
 
   pub number-taken : (eqb (s .class) no-core ≡ false → targetRow nums s < nameRows) → (r : ℕ) → r < nameRows →
       let old = given r (e .count) (e .targetInstance) (numberAt nums r) in
-      numberAt (takenNums nums s t e) r ≡ cond (not (eqb (s .class) no-core) && eqb r (coreRow nums s)) (cond (eqb (s .class) gives-core) old (e .targetInstance)) old
+      numberAt (takenNums nums s t e) r
+      ≡ cond (not (eqb (s .class) no-core) && eqb r (coreRow nums s)) (cond (eqb (s .class) gives-core) old (e .targetInstance)) old
   number-taken k r h =
       from-cored (numberColumn .base + r) (omega arith)
       ∙ core-number aimed (s .class) (coreRow nums s) (targetRow nums s) (e .targetInstance) aimed-size k r h
@@ -117,21 +128,29 @@ module _ (nums : List ℕ) (z : length nums ≡ numsSize) (s : LookedUp) (t : �
   module _ (k : hasInstances (e .kind) ≡ true → targetRow nums s < nameRows) (q : ℕ) (h : q < instanceRows) where
     instance-column : (d v : ℕ) → ownerColumn .base ≤ d →
         ((l : List ℕ) → length l ≡ numsSize → targetRow nums s < nameRows →
-        getD (storeInstance l (instanceRow nums s) (targetRow nums s) (e .targetInstance) t) (d + q) 0 ≡ cond (eqb q (instanceRow nums s)) v (getD l (d + q) 0)) →
+        getD (storeInstance l (instanceRow nums s) (targetRow nums s) (e .targetInstance) t) (d + q) 0
+        ≡ cond (eqb q (instanceRow nums s)) v (getD l (d + q) 0)) →
         getD (takenNums nums s t e) (d + q) 0 ≡ cond (isInstance nums s (e .kind) q) v (getD nums (d + q) 0)
     instance-column d v lo f =
         from-aimed (d + q) (omega arith) (λ l u. omega arith)
-        ∙ target-instance filled filled-size (targetRow nums s) (instanceRow nums s) t (e .kind) (e .word) (e .targetInstance) (e .count) d q v lo (λ e. f filled filled-size (k e))
+        ∙ target-instance filled filled-size (targetRow nums s) (instanceRow nums s) t (e .kind) (e .word) (e .targetInstance) (e .count) d q v lo
+        (λ e. f filled filled-size (k e))
         ∙ rw (rows-beside nums z s (e .kind) (length (e .source)) (length (e .target)) (d + q) (λ l u. omega arith))
 
     pub owner-taken : ownerAt (takenNums nums s t e) q ≡ cond (isInstance nums s (e .kind) q) (targetRow nums s) (ownerAt nums q)
-    owner-taken = instance-column (ownerColumn .base) (targetRow nums s) (omega arith) (λ l y o. instance-owner l y (instanceRow nums s) (targetRow nums s) q o h (e .targetInstance) t)
+    owner-taken =
+        instance-column (ownerColumn .base) (targetRow nums s) (omega arith)
+        (λ l y o. instance-owner l y (instanceRow nums s) (targetRow nums s) q o h (e .targetInstance) t)
 
     pub instance-taken : instanceAt (takenNums nums s t e) q ≡ cond (isInstance nums s (e .kind) q) (e .targetInstance) (instanceAt nums q)
-    instance-taken = instance-column (instanceColumn .base) (e .targetInstance) (omega arith) (λ l y o. instance-number l y (instanceRow nums s) (targetRow nums s) q o h (e .targetInstance) t)
+    instance-taken =
+        instance-column (instanceColumn .base) (e .targetInstance) (omega arith)
+        (λ l y o. instance-number l y (instanceRow nums s) (targetRow nums s) q o h (e .targetInstance) t)
 
     pub state-taken : stateAt (takenNums nums s t e) q ≡ cond (isInstance nums s (e .kind) q) t (stateAt nums q)
-    state-taken = instance-column (stateColumn .base) t (omega arith) (λ l y o. instance-state l y (instanceRow nums s) (targetRow nums s) q o h (e .targetInstance) t)
+    state-taken =
+        instance-column (stateColumn .base) t (omega arith)
+        (λ l y o. instance-state l y (instanceRow nums s) (targetRow nums s) q o h (e .targetInstance) t)
 
   -- ---- single entries
 

@@ -42,7 +42,8 @@ module _ {A B : Type 0} (f g : A → B) where
   each [] e = tt
   each (x ∷ xs) e = (ap (first (f x)) e, each xs (ap rest e))
 
-all-lines : (xs : List lines.Example) → Each (λ x. lines.outcomeOf (x .line)) (λ x. x .becomes) xs → (more : List Example) → All more → All (map one-line xs ++ more)
+all-lines : (xs : List lines.Example) → Each (λ x. lines.outcomeOf (x .line)) (λ x. x .becomes) xs → (more : List Example) → All more →
+    All (map one-line xs ++ more)
 all-lines [] e more m = m
 all-lines (x ∷ xs) e more m = (e .0, all-lines xs (e .1) more m)
 

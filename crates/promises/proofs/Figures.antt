@@ -55,7 +55,8 @@ module _ (h : List Event) (a : Accepted h) (t : Tables) (s : Shown h t) (p : Lis
       standings-alike (rowOf h n) (rowOf h p) ∙ eqb-turned (rowOf h n) (rowOf h p) ∙ one-row sameBytes same-eq same-refl p n (names h) listed q
 
   -- the state of a core names the row of its holder's name
-  holder-standing : (c : Core) → ((x : Instance) → c ≡ held x → any (sameBytes (x .name)) (names h) ≡ true) → oneIf (eqb (coreStanding h c) (rowOf h p + 2)) ≡ isHeldBy p c
+  holder-standing : (c : Core) → ((x : Instance) → c ≡ held x → any (sameBytes (x .name)) (names h) ≡ true) →
+      oneIf (eqb (coreStanding h c) (rowOf h p + 2)) ≡ isHeldBy p c
   holder-standing unknown l = rw (ne-eqb 0 (rowOf h p + 2) (λ q. omega arith))
   holder-standing idle l = rw (ne-eqb 1 (rowOf h p + 2) (λ q. omega arith))
   holder-standing (held x) l = rw (own-row (x .name) (l x refl))
@@ -70,7 +71,8 @@ module _ (h : List Event) (a : Accepted h) (t : Tables) (s : Shown h t) (p : Lis
       by-kind : (b : Bool) → eqb (kindAt (t .nums) (rowOf h c)) core ≡ b → oneIf (b && eqb m (rowOf h p + 2)) ≡ isHeldBy p (coreAt c h)
       by-kind true k = rw (s .each-name c q .standing .of-core k) (holder-standing (coreAt c h) (holder-named h a c))
       by-kind false k =
-          sym (ap (isHeldBy p) (core-unknown c h a (λ z. eqb-false _ core k (let y : kindAt (t .nums) (rowOf h c) ≡ core = cc (z, s .each-name c q .kind) in y))))
+          sym (ap (isHeldBy p) (core-unknown c h a (λ z.
+          eqb-false _ core k (let y : kindAt (t .nums) (rowOf h c) ≡ core = cc (z, s .each-name c q .kind) in y))))
 
 -- ---- the figures
 
@@ -107,7 +109,8 @@ module _ (h : List Event) (a : Accepted h) (met : AllMet h) (t : Tables) (s : Sh
     pub idle-shown : idleIn (t .nums) (t .ticks) (rowOf h c) ≡ idleTicks c h
     unfolding idleIn openAt
     idle-shown =
-        rw standing (sum-shown (eqb (coreStanding h (coreAt c h)) 1) _ _ _ _ (idle-standing h (coreAt c h)) (stored .idle-ticks) (omega (arith, core-total h a c)))
+        rw standing
+        (sum-shown (eqb (coreStanding h (coreAt c h)) 1) _ _ _ _ (idle-standing h (coreAt c h)) (stored .idle-ticks) (omega (arith, core-total h a c)))
 
     pub unknown-shown : unknownAt (t .ticks) (rowOf h c) ≡ unknownTicks c h
     unknown-shown = stored .unknown-ticks
@@ -116,7 +119,8 @@ module _ (h : List Event) (a : Accepted h) (met : AllMet h) (t : Tables) (s : Sh
   unfolding chargeIn chargeTo openAt isProcess
   charge-shown p k q r =
       rw (s .singles .names-counted)
-      (by-rows sameBytes same-eq same-refl (names h) (names-distinct h) P (λ l. omega arith) step (omega (arith, stored-charge, charge-at-most h a p)) ∙ stored-charge)
+      (by-rows sameBytes same-eq same-refl (names h) (names-distinct h) P (λ l. omega arith) step (omega (arith, stored-charge, charge-at-most h a p))
+      ∙ stored-charge)
     where
       listed-p : any (sameBytes p) (names h) ≡ true
       listed-p = named-kind h p k q _ refl
@@ -136,5 +140,6 @@ module _ (h : List Event) (a : Accepted h) (met : AllMet h) (t : Tables) (s : Sh
 
       step : (c : List ℕ) → any (sameBytes c) (names h) ≡ true → (cs : List (List ℕ)) → P (suc (rowOf h c)) cs → P (rowOf h c) (c ∷ cs)
       step c l cs i b =
-          let one : upTo (suc (rowOf h c)) ≡ upTo (rowOf h c) + F c = sum-shown (holdsCore (t .nums) (rowOf h p) (rowOf h c)) _ _ _ _ (holds-shown h a t s p listed-p c l) refl (omega arith) in
+          let one : upTo (suc (rowOf h c)) ≡ upTo (rowOf h c) + F c =
+          sum-shown (holdsCore (t .nums) (rowOf h p) (rowOf h c)) _ _ _ _ (holds-shown h a t s p listed-p c l) refl (omega arith) in
           i (omega arith) ∙ omega arith

@@ -44,7 +44,8 @@ module _ (h : List Event) (a : Accepted h) (x : Instance) (only : Only (kindOf (
       listed : any (sameBytes (y .name)) (names h) ≡ true
       listed = holder-named h a c y p
 
-      by-name : (b : Bool) → sameBytes (y .name) (x .name) ≡ b → b && eqb (y .number) (x .number) ≡ eqb (y .kind) (x .kind) && (b && eqb (y .number) (x .number))
+      by-name : (b : Bool) → sameBytes (y .name) (x .name) ≡ b →
+          b && eqb (y .number) (x .number) ≡ eqb (y .kind) (x .kind) && (b && eqb (y .number) (x .number))
       by-name true r =
           let k = only (y .kind) (ap (λ (n : List ℕ). kindOf n h) (sym (same-eq (y .name) (x .name) r)) ∙ holder-kind h a c y p) in
           rw (eq-eqb (y .kind) (x .kind) k)

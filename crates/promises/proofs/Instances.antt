@@ -171,7 +171,8 @@ module _ (h : List Event) (a : Accepted h) (met : AllMet h) (t : Tables) (s : Sh
       own : hasInstances (e .kind) ≡ true → x ≡ instanceOf e → (j : ℕ) × InstanceShown (e ∷ h) (after .nums) j x
       own i z = (row, subst (InstanceShown (e ∷ h) (after .nums) row) (sym z) (own-shown i))
 
-      by-same : (p : any (sameInstance x) (instances h) ≡ true) (b : Bool) → sameInstance x (instanceOf e) ≡ b → (j : ℕ) × InstanceShown (e ∷ h) (after .nums) j x
+      by-same : (p : any (sameInstance x) (instances h) ≡ true) (b : Bool) → sameInstance x (instanceOf e) ≡ b →
+          (j : ℕ) × InstanceShown (e ∷ h) (after .nums) j x
       by-same p true u =
           let z = instance-true x (instanceOf e) u in
           own (subst (λ (y : Instance). hasInstances (y .kind) ≡ true) z (instance-kind h a x p .0)) z

@@ -49,7 +49,9 @@ lines-tell ls = now-tells (takenLines [] ls) (taken-sound ls .kept) (after-lines
 
 -- a whole trace judged in tables of the right sizes, whatever they held
 module _ (t : Tables) (fits : isSized (length (t .names)) (length (t .nums)) (length (t .ticks)) ≡ true) (trace : List ℕ) where
-  judged-so : judgedTrace t trace ≡ record { judged = verdictIn (after-lines (linesOf trace) .nums) (after-lines (linesOf trace) .ticks); left = after-lines (linesOf trace) }
+  judged-so :
+      let u = after-lines (linesOf trace) in
+      judgedTrace t trace ≡ record { judged = verdictIn (u .nums) (u .ticks); left = u }
   unfolding judgedTrace
   judged-so = rw fits
 

@@ -73,7 +73,8 @@ module _ (h : List Event) (a : Accepted h) (met : AllMet h) (t : Tables) (s : Sh
       the-semaphore q = rw (q, eqb-true (e .kind) semaphore q)
 
       by-kind : (b : Bool) → eqb (e .kind) semaphore ≡ b → (i : Bool) → hasInstances (e .kind) ≡ i →
-          opened (cond b (standingIn (t .nums) (lookedUpIn h t e .target)) (entryOf stateColumn (t .nums) (lookedUpIn h t e .instance))) ≡ stateOf (instanceOf e) h
+          opened (cond b (standingIn (t .nums) (lookedUpIn h t e .target)) (entryOf stateColumn (t .nums) (lookedUpIn h t e .instance)))
+          ≡ stateOf (instanceOf e) h
       by-kind true q i r =
           let k = semaphore-tracked (e .kind) q in
           ap (λ (x : Found). opened (standingIn (t .nums) x)) (target-asked h t e k)
@@ -89,7 +90,8 @@ module _ (h : List Event) (a : Accepted h) (met : AllMet h) (t : Tables) (s : Sh
   pub enters-shown : offChart (look h e) e ≡ false → opened (enters (t .nums) (lookedUpIn h t e) e) ≡ stateOf (instanceOf e) (e ∷ h)
   unfolding enters offChart moveBy
   enters-shown c =
-      step-state h e (stateIn (t .nums) (lookedUpIn h t e) (e .kind)) (leadsTo (stepFor (chartOf (e .kind)) (e .word)) (stateIn (t .nums) (lookedUpIn h t e) (e .kind))) state-shown
+      step-state h e (stateIn (t .nums) (lookedUpIn h t e) (e .kind))
+      (leadsTo (stepFor (chartOf (e .kind)) (e .word)) (stateIn (t .nums) (lookedUpIn h t e) (e .kind))) state-shown
       (rw (state-shown, not-false (allowed (chartOf (e .kind)) (e .word) (stateOf (instanceOf e) h)) c))
 
   -- ---- 12 and 14
@@ -102,7 +104,8 @@ module _ (h : List Event) (a : Accepted h) (met : AllMet h) (t : Tables) (s : Sh
   number-agrees = by-test (activates (e .kind) (e .word)) refl
     where
       by-test : (b : Bool) → activates (e .kind) (e .word) ≡ b →
-          b && not (isNext (numberKnown (t .nums) (lookedUpIn h t e .target)) (e .targetInstance)) ≡ b && not (isNext (lastNumber (e .kind) (e .target) h) (e .targetInstance))
+          b && not (isNext (numberKnown (t .nums) (lookedUpIn h t e .target)) (e .targetInstance))
+          ≡ b && not (isNext (lastNumber (e .kind) (e .target) h) (e .targetInstance))
       by-test true q =
           let k = activates-instances (e .kind) (e .word) q in
           let r = number-shown (instances-tracked (e .kind) k) in
@@ -131,8 +134,8 @@ module _ (h : List Event) (a : Accepted h) (met : AllMet h) (t : Tables) (s : Sh
       x = instanceOf e
 
       by-test : (b : Bool) → onCore e ≡ b →
-          b && not (serves (coreIn (standingIn (t .nums) (lookedUpIn h t e .source)) (numberIn (t .nums) (lookedUpIn h t e .source)) (lookedUpIn h t e .target) x) (takes (e .word))
-          (unseen (opened (stateIn (t .nums) (lookedUpIn h t e) (e .kind)))) x)
+          let held = coreIn (standingIn (t .nums) (lookedUpIn h t e .source)) (numberIn (t .nums) (lookedUpIn h t e .source)) (lookedUpIn h t e .target) x in
+          b && not (serves held (takes (e .word)) (unseen (opened (stateIn (t .nums) (lookedUpIn h t e) (e .kind)))) x)
           ≡ b && not (serves (coreAt (e .source) h) (takes (e .word)) (unseen (stateOf x h)) x)
       by-test true o =
           let k = core-tracked e o in

@@ -89,4 +89,5 @@ shows-valid h k t s v w =
     let n = ap (λ (p : Place). p .lines) (s .place) in
     let c = ap (λ (p : Place). p .scale) (s .place) in
     answers (t .names) (t .nums) (t .ticks)
-    (in-range (eventsOf h) (k .accepted) (all-met h) t (s .events) v w (omega (arith, n, lines-fit h (k .in-place))) (omega (arith, c, scale-small h)) (s .creator) (s .date))
+    (in-range (eventsOf h) (k .accepted) (all-met h) t (s .events) v w
+    (omega (arith, n, lines-fit h (k .in-place))) (omega (arith, c, scale-small h)) (s .creator) (s .date))

@@ -73,7 +73,8 @@ module _ (h : List (List ℕ)) (t : Tables) (s : Shows h t) (l : List ℕ) (q : 
   -- a line that changes only the line level
   level-outcome : (nums : List ℕ) → length nums ≡ length (t .nums) → AgreeFrom startedIndex (t .nums) nums →
       ((j : ℕ) → j < linesIndex → getD nums j 0 ≡ getD (t .nums) j 0) → creatorEntry nums ≤ 1 → dateEntry nums ≤ 1 →
-      (r : Reading) → readLine l ≡ r → eventIn r l ≡ none → placeIn nums ≡ nextPlace (placeIn (t .nums)) r → LineOutcome h t l (after 0 (t .names) nums (t .ticks))
+      (r : Reading) → readLine l ≡ r → eventIn r l ≡ none → placeIn nums ≡ nextPlace (placeIn (t .nums)) r →
+      LineOutcome h t l (after 0 (t .names) nums (t .ticks))
   unfolding eventsOf eventOfLine
   level-outcome nums z g v c d r e o p =
       let no-event : eventOfLine l ≡ none = ap (λ (x : Reading). eventIn x l) e ∙ o in
@@ -169,7 +170,8 @@ module _ (h : List (List ℕ)) (t : Tables) (s : Shows h t) (l : List ℕ) (q : 
       }
 
   -- by its reading
-  read-outcome : ((e : ReadEvent) (count : ℕ) → readLine l ≡ EventLine e count → EventOutcome (eventsOf h) t (eventFrom e (fieldOf l 2) (fieldOf l 5) count) (judgedEvent t l e count)) →
+  read-outcome : ((e : ReadEvent) (count : ℕ) → readLine l ≡ EventLine e count →
+      EventOutcome (eventsOf h) t (eventFrom e (fieldOf l 2) (fieldOf l 5) count) (judgedEvent t l e count)) →
       (r : Reading) → readLine l ≡ r → LineOutcome h t l (judgedReading r t l)
   read-outcome o Version e = counted-outcome Version e refl refl
   read-outcome o Comment e = counted-outcome Comment e refl refl
@@ -182,7 +184,8 @@ module _ (h : List (List ℕ)) (t : Tables) (s : Shows h t) (l : List ℕ) (q : 
 -- ---- any line
 
 module _ (h : List (List ℕ)) (t : Tables) (s : Shows h t) (l : List ℕ)
-    (o : (e : ReadEvent) (count : ℕ) → readLine l ≡ EventLine e count → EventOutcome (eventsOf h) t (eventFrom e (fieldOf l 2) (fieldOf l 5) count) (judgedEvent t l e count)) where
+    (o : (e : ReadEvent) (count : ℕ) → readLine l ≡ EventLine e count →
+    EventOutcome (eventsOf h) t (eventFrom e (fieldOf l 2) (fieldOf l 5) count) (judgedEvent t l e count)) where
   in-place-outcome : (n : ℕ) → answerInPlace (placeOf h) l ≡ n → LineOutcome h t l (judgedInPlace n t l)
   unfolding judgedInPlace answerAt
   in-place-outcome zero q = read-outcome h t s l q o (readLine l) refl
@@ -198,5 +201,6 @@ module _ (h : List (List ℕ)) (t : Tables) (s : Shows h t) (l : List ℕ)
   pub line-outcome : verdictNumber (t .nums) ≡ 0 → LineOutcome h t l (judgedLine t l)
   unfolding judgedLine
   line-outcome v =
-      let p : answerByReading (placeIn (t .nums)) (readLine l) ≡ answerInPlace (placeOf h) l = ap (λ (x : Place). answerByReading x (readLine l)) (s .place) ∙ by-reading-right (placeOf h) l in
+      let p : answerByReading (placeIn (t .nums)) (readLine l) ≡ answerInPlace (placeOf h) l =
+      ap (λ (x : Place). answerByReading x (readLine l)) (s .place) ∙ by-reading-right (placeOf h) l in
       rw (eq-eqb (verdictNumber (t .nums)) 0 v, p) (in-place-outcome (answerInPlace (placeOf h) l) refl)

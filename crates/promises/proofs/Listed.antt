@@ -91,7 +91,8 @@ pub one-instance : (h : List Event) (x y : Instance) → kindOf (x .name) h ≡ 
     rowOf h (x .name) ≡ rowOf h (y .name) → x .number ≡ y .number → x ≡ y
 one-instance h x y p q r o =
     let w : x .name ≡ y .name =
-    place-one sameBytes same-eq same-refl (x .name) (y .name) (names h) (named-kind h (x .name) (x .kind) p _ refl) (named-kind h (y .name) (y .kind) q _ refl) r in
+    place-one sameBytes same-eq same-refl (x .name) (y .name) (names h)
+    (named-kind h (x .name) (x .kind) p _ refl) (named-kind h (y .name) (y .kind) q _ refl) r in
     let u : x .kind ≡ y .kind = cc in
     λ i. record { kind = u i; name = w i; number = o i }
 

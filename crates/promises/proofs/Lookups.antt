@@ -89,7 +89,8 @@ module _ (h : List Event) (a : Accepted h) (m : AllMet h) (t : Tables) (s : Show
           name-row (t .names) (t .nums) n (rowOf h n) (s .sized .names-size) (row-bound n q) (omega (arith, e .size, name-size h m n q .1)) (e .name)
 
   -- some row that shows it, or nothing and the history lacks it
-  pub found-instance : (x : Instance) → kindOf (x .name) h ≡ some (x .kind) → InstanceFound h (t .nums) x (findInstance (t .nums) (rowOf h (x .name)) (x .number))
+  pub found-instance : (x : Instance) → kindOf (x .name) h ≡ some (x .kind) →
+      InstanceFound h (t .nums) x (findInstance (t .nums) (rowOf h (x .name)) (x .number))
   found-instance x q =
       rw (instance-found (t .nums) (rowOf h (x .name)) (x .number) (s .sized .nums-size)) (by-found (lastBelow is (instanceCount (t .nums))) refl)
     where
@@ -129,7 +130,8 @@ module _ (h : List Event) (a : Accepted h) (m : AllMet h) (t : Tables) (s : Show
       by-test false b = refl
 
   -- the instance is looked up by the row of its name, and its name has one kind
-  pub looked-up-instance : (e : Event) → secondKind (look h e) e ≡ false → hasInstances (e .kind) ≡ true → InstanceFound h (t .nums) (instanceOf e) ((lookedUpIn h t e) .instance)
+  pub looked-up-instance : (e : Event) → secondKind (look h e) e ≡ false → hasInstances (e .kind) ≡ true →
+      InstanceFound h (t .nums) (instanceOf e) ((lookedUpIn h t e) .instance)
   unfolding seek lookedUpIn
   looked-up-instance e k i = rw (i, instances-tracked (e .kind) i) (by-test (any (sameBytes (e .target)) (names h)) refl)
     where
@@ -139,7 +141,8 @@ module _ (h : List Event) (a : Accepted h) (m : AllMet h) (t : Tables) (s : Show
           let w = name-kind h (e .target) q in
           let o : kindOf (e .target) h ≡ some (e .kind) = w .1 ∙ ap some (target-is h e k (instances-tracked (e .kind) i) (w .0) (w .1)) in
           rw (lt-ltb (rowOf h (e .target)) nameRows (row-bound (e .target) q))
-          (subst (λ (n : ℕ). InstanceFound h (t .nums) (instanceOf e) (findInstance (t .nums) (rowOf h (e .target)) n)) (own-number e i) (found-instance (instanceOf e) o))
+          (subst (λ (n : ℕ). InstanceFound h (t .nums) (instanceOf e) (findInstance (t .nums) (rowOf h (e .target)) n))
+          (own-number e i) (found-instance (instanceOf e) o))
       by-test false q = no-instance (instanceOf e) q
 
   pub looked-up-shown : (e : Event) → lookedUp (t .names) (t .nums) e ≡ lookedUpIn h t e

@@ -54,7 +54,8 @@ module _ (names : List ℕ) (i : ℕ) (name : List ℕ) (f : length name ≤ nam
       by-side (inr l) = let d = eqb-false r i e in written-before name names (nameRoom * i) (nameRoom * r) k (omega arith)
 
       by-test : (a b : Bool) →
-          take k (drop (nameRoom * r) (cond a (cond b (after (nameRoom * i + length name) (written names (nameRoom * i) name)) (after (nameRoom * i) names) .output) names)) ≡ take k (drop (nameRoom * r) names)
+          let named = cond b (after (nameRoom * i + length name) (written names (nameRoom * i) name)) (after (nameRoom * i) names) in
+          take k (drop (nameRoom * r) (cond a (named .output) names)) ≡ take k (drop (nameRoom * r) names)
       by-test true true = by-side (lt-or-ge r i)
       by-test true false = refl
       by-test false b = refl
@@ -64,10 +65,17 @@ module _ (names : List ℕ) (i : ℕ) (name : List ℕ) (f : length name ≤ nam
   name-own z h =
       let fits : nameRoom * i + length name ≤ length names = omega arith in
       let front : length (take (nameRoom * i) names) ≡ nameRoom * i = length-take-le (nameRoom * i) names (omega arith) in
-      rw (lt-ltb i nameRows h, put-fits names (nameRoom * i) name fits, written-parts names (nameRoom * i) name fits, append-assoc, drop-at (take (nameRoom * i) names) _ (nameRoom * i) front)
+      rw (
+        lt-ltb i nameRows h,
+        put-fits names (nameRoom * i) name fits,
+        written-parts names (nameRoom * i) name fits,
+        append-assoc,
+        drop-at (take (nameRoom * i) names) _ (nameRoom * i) front,
+      )
       (take-append-seam name _)
 
-  name-if : (b : Bool) (r k : ℕ) → k ≤ nameRoom → b && eqb r i ≡ false → take k (drop (nameRoom * r) (cond b (storeName names i name) names)) ≡ take k (drop (nameRoom * r) names)
+  name-if : (b : Bool) (r k : ℕ) → k ≤ nameRoom → b && eqb r i ≡ false →
+      take k (drop (nameRoom * r) (cond b (storeName names i name) names)) ≡ take k (drop (nameRoom * r) names)
   name-if true r k h e = name-beside r k h e
   name-if false r k h e = refl
 
@@ -89,7 +97,8 @@ module _ (names nums : List ℕ) (s : LookedUp) (e : Event) (f : length (e .sour
   abbrev next : List ℕ
   next = takenNames names nums s (e .kind) (e .source) (e .target)
 
-  bytes-beside : (r k : ℕ) → k ≤ nameRoom → isNewTarget nums s (e .kind) r ≡ false → take k (drop (nameRoom * r) next) ≡ take k (drop (nameRoom * r) cores-named)
+  bytes-beside : (r k : ℕ) → k ≤ nameRoom → isNewTarget nums s (e .kind) r ≡ false →
+      take k (drop (nameRoom * r) next) ≡ take k (drop (nameRoom * r) cores-named)
   unfolding takenNames
   bytes-beside r k h p = name-if cores-named (targetRow nums s) (e .target) g (eqb (newName s (e .kind)) 1) r k h p
 
@@ -106,7 +115,8 @@ module _ (names nums : List ℕ) (s : LookedUp) (e : Event) (f : length (e .sour
     bytes-target : newName s (e .kind) ≡ 1 → targetRow nums s < nameRows → take (length (e .target)) (drop (nameRoom * targetRow nums s) next) ≡ e .target
     unfolding takenNames
     bytes-target p h =
-        rw p (name-own cores-named (targetRow nums s) (e .target) g (length-if (eqb (newCore s) 1) _ names (length-storeName names (nameCount nums) (e .source)) ∙ z) h)
+        let y = length-if (eqb (newCore s) 1) _ names (length-storeName names (nameCount nums) (e .source)) ∙ z in
+        rw p (name-own cores-named (targetRow nums s) (e .target) g y h)
 
 -- ---- the name in a row, and its length
 

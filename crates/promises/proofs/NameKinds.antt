@@ -1,5 +1,5 @@
--- The kind of a name in its row after a line that is taken: what the longer history says of it. So it is the event's kind in the row of its target, and a core's
--- in that of its source.
+-- The kind of a name in its row after a line that is taken: what the longer history says of it. So it is the event's kind in the row of its target, and a
+-- core's in that of its source.
 use mathlib.Core.Path.{_≡_, sym, ap, _∙_}
 use mathlib.Core.Bool.{true}
 use mathlib.Core.Option.{some}

@@ -1,5 +1,5 @@
--- The number of a name in its row after a line that is taken: the last one that the longer history gives it, or none. A core has none, and the entry is free for
--- that of the instance that holds it.
+-- The number of a name in its row after a line that is taken: the last one that the longer history gives it, or none. A core has none, and the entry is free
+-- for that of the instance that holds it.
 use mathlib.Core.Path.{_≡_, refl, sym, ap, _∙_}
 use mathlib.Core.Bool.{Bool, true, false, _&&_, cond}
 use mathlib.Core.Option.{Option, some}
@@ -48,7 +48,10 @@ module _ (h : List Event) (t : Tables) (s : Shown h t) (e : Event) (f : Passed h
   -- a core is given none
   core-given : kindAt (after .nums) row ≡ core → (u v last : ℕ) → orGiven e n u v last ≡ last
   core-given k u v last =
-      rw (no-target (eqb (e .kind) semaphore) (semaphore-tracked (e .kind)), no-target (activates (e .kind) (e .word)) (λ y. instances-tracked (e .kind) (activates-instances (e .kind) (e .word) y)))
+      rw (
+        no-target (eqb (e .kind) semaphore) (semaphore-tracked (e .kind)),
+        no-target (activates (e .kind) (e .word)) (λ y. instances-tracked (e .kind) (activates-instances (e .kind) (e .word) y)),
+      )
     where
       no-target : (b : Bool) → (b ≡ true → isTracked (e .kind) ≡ true) → b && sameBytes n (e .target) ≡ false
       no-target b i =
@@ -80,7 +83,8 @@ module _ (h : List Event) (t : Tables) (s : Shown h t) (e : Event) (f : Passed h
       (orGiven e n (e .count) (e .targetInstance) (orOld h e n 0 0 (numberAt (t .nums) row)))
       core-unnumbered-next
       ∙ rw (numbered-at h t s e f state n q)
-      (given-shown (eqb (e .kind) semaphore && sameBytes n (e .target)) (activates (e .kind) (e .word) && sameBytes n (e .target)) (e .count) (e .targetInstance) _ _
+      (given-shown (eqb (e .kind) semaphore && sameBytes n (e .target)) (activates (e .kind) (e .word) && sameBytes n (e .target))
+      (e .count) (e .targetInstance) _ _
       ∙ ap
       (λ (r : Option ℕ). cond (eqb (e .kind) semaphore && sameBytes n (e .target)) (some (e .count))
       (cond (activates (e .kind) (e .word) && sameBytes n (e .target)) (some (e .targetInstance)) r))
@@ -90,7 +94,12 @@ module _ (h : List Event) (t : Tables) (s : Shown h t) (e : Event) (f : Passed h
       by-age : Age h e n →
           shownNumber (orOld h e n 0 0 (numberedAt (t .nums) row)) (orOld h e n 0 0 (numberAt (t .nums) row)) ≡ numberOf h n (kindAt (after .nums) row)
       by-age (old p) =
-          rw (kind-old h t s e f state n q p, old-same h e n p 0 0 (numberedAt (t .nums) row), old-same h e n p 0 0 (numberAt (t .nums) row), row-stays h e (f .kinds) n p)
+          rw (
+            kind-old h t s e f state n q p,
+            old-same h e n p 0 0 (numberedAt (t .nums) row),
+            old-same h e n p 0 0 (numberAt (t .nums) row),
+            row-stays h e (f .kinds) n p,
+          )
           (s .each-name n p .number)
       by-age (new p z) = rw (z (numberedAt (t .nums) row)) (none-told h n (kindAt (after .nums) row) p)
 

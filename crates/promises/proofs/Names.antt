@@ -71,7 +71,8 @@ module _ (h : List Event) (a : Accepted h) (m : AllMet h) (t : Tables) (s : Show
             (new-core h t e ∙ ap oneIf u)
             (rw (← at) inside))
         by-origin (as-target u p) =
-            let at : row ≡ targetRow (t .nums) (lookedUpIn h t e) = ap (rowOf (e ∷ h)) p ∙ sym (target-row h t s e (f .kinds) (both (isTracked (e .kind)) _ u .0)) in
+            let at : row ≡ targetRow (t .nums) (lookedUpIn h t e) =
+            ap (rowOf (e ∷ h)) p ∙ sym (target-row h t s e (f .kinds) (both (isTracked (e .kind)) _ u .0)) in
             rw (at, p)
             (name-of-target (t .names) (t .nums) (s .sized .names-size) (s .sized .nums-size) (lookedUpIn h t e) state e source-size target-size
             (new-name h t e ∙ ap oneIf u)

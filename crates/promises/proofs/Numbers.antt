@@ -98,7 +98,8 @@ module _ (t : Tables) (z : length (t .nums) ≡ numsSize) where
 
 -- ---- many lines
 
-pub lines-most : (t : Tables) → length (t .nums) ≡ numsSize → verdictNumber (t .nums) ≤ lastRefusal → (ls : List (List ℕ)) → verdictNumber (judgedLines t ls .nums) ≤ lastRefusal
+pub lines-most : (t : Tables) → length (t .nums) ≡ numsSize → verdictNumber (t .nums) ≤ lastRefusal → (ls : List (List ℕ)) →
+    verdictNumber (judgedLines t ls .nums) ≤ lastRefusal
 unfolding judgedLines
 lines-most t z m [] = m
 lines-most t z m (l ∷ ls) =

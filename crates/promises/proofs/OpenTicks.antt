@@ -57,7 +57,8 @@ module _ (h : List Event) (a : Accepted h) (t : Tables) (s : Shown h t) (e : Eve
 
   pub unsettled : (n : List ℕ) → any (sameBytes n) (names h) ≡ true → kindOf n h ≡ some core →
       sinceAt (ticksAfter h t e) (rowOf (e ∷ h) n) ≡ sinceAt (t .ticks) (rowOf h n) →
-      (openTicks (e ∷ h) (ticksAfter h t e) n ≡ openTicks h (t .ticks) n + gap e h) × (sinceAt (ticksAfter h t e) (rowOf (e ∷ h) n) ≤ lastTime (ticksAfter h t e))
+      (openTicks (e ∷ h) (ticksAfter h t e) n ≡ openTicks h (t .ticks) n + gap e h)
+      × (sinceAt (ticksAfter h t e) (rowOf (e ∷ h) n) ≤ lastTime (ticksAfter h t e))
   unsettled n q k r =
       let time-moved = moved h a e f n q in
       let last-before = s .singles .last in

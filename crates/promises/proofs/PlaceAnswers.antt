@@ -1,5 +1,5 @@
--- The answer to a line in its place, 0 to 7. Where it is 0, less than 1,000,000,000 lines came before and the reading of the line is no refusal; so no more lines
--- than that are taken.
+-- The answer to a line in its place, 0 to 7. Where it is 0, less than 1,000,000,000 lines came before and the reading of the line is no refusal; so no more
+-- lines than that are taken.
 use mathlib.Core.Path.{_≡_, sym, ap, _∙_}
 use mathlib.Core.Bool.{Bool, true, false, not, _&&_, _||_, cond}
 use mathlib.Core.List.{List, _∷_, []}

@@ -29,7 +29,8 @@ module _ {A : Type 0} (f : A → Bool) where
   place-kept [] ys q = cc
   place-kept (x ∷ xs) ys q = by-test (f x) q (place-kept xs ys)
     where
-      by-test : (b : Bool) → b || any f xs ≡ true → (any f xs ≡ true → place f (xs ++ ys) ≡ place f xs) → cond b 0 (suc (place f (xs ++ ys))) ≡ cond b 0 (suc (place f xs))
+      by-test : (b : Bool) → b || any f xs ≡ true → (any f xs ≡ true → place f (xs ++ ys) ≡ place f xs) →
+          cond b 0 (suc (place f (xs ++ ys))) ≡ cond b 0 (suc (place f xs))
       by-test true q r = refl
       by-test false q r = ap suc (r q)
 
@@ -133,7 +134,9 @@ module _ {A : Type 0} (eq : A → A → Bool) (eq-true : (x y : A) → eq x y �
 
   distinct-end : (xs : List A) (x : A) → Distinct xs → any (eq x) xs ≡ false → Distinct (xs ++ (x ∷ []))
   distinct-end [] x d a = (refl, tt)
-  distinct-end (y ∷ ys) x d a = let r = neither (eq x y) (any (eq x) ys) a in (still-not ys (d .0) (other-way eq eq-true eq-refl x y (r .0)), distinct-end ys x (d .1) (r .1))
+  distinct-end (y ∷ ys) x d a =
+      let r = neither (eq x y) (any (eq x) ys) a in
+      (still-not ys (d .0) (other-way eq eq-true eq-refl x y (r .0)), distinct-end ys x (d .1) (r .1))
     where
       still-not : (zs : List A) → any (eq y) zs ≡ false → eq y x ≡ false → any (eq y) (zs ++ (x ∷ [])) ≡ false
       still-not [] b t = rw t
@@ -184,4 +187,5 @@ module _ {A : Type 0} (eq : A → A → Bool) (eq-true : (x y : A) → eq x y �
           let r = at-place xs d k (omega arith) in
           subst (λ (j : ℕ). P j (drop j xs)) (r .2)
           (rw (back-place (r .0) xs (r .1))
-          (step (r .0) (r .1) (drop (suc (place (eq (r .0)) xs)) xs) (subst (λ (j : ℕ). P (suc j) (drop (suc j) xs)) (sym (r .2)) (from m (suc k) (omega arith)))))
+          (step (r .0) (r .1) (drop (suc (place (eq (r .0)) xs)) xs)
+          (subst (λ (j : ℕ). P (suc j) (drop (suc j) xs)) (sym (r .2)) (from m (suc k) (omega arith)))))

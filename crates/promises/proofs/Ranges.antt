@@ -59,7 +59,8 @@ module _ (h : List Event) (a : Accepted h) (met : AllMet h) (t : Tables) (s : Sh
       let row : (rowOf h (x .name) + 2) - 2 ≡ rowOf h (x .name) = omega arith in
       rw (le-ltb (rowOf h (x .name) + 2) 2 (omega arith), row, lt-ltb _ _ (o .0), o .1, alone h a .holder-occupies n x p .0)
 
-  standing-ok : (n : List ℕ) → any (sameBytes n) (names h) ≡ true → standingOk (t .nums) (kindAt (t .nums) (rowOf h n)) (standingAt (t .nums) (rowOf h n)) ≡ true
+  standing-ok : (n : List ℕ) → any (sameBytes n) (names h) ≡ true →
+      standingOk (t .nums) (kindAt (t .nums) (rowOf h n)) (standingAt (t .nums) (rowOf h n)) ≡ true
   unfolding standingOk
   standing-ok n q = by-kind (eqb k core) refl (eqb k semaphore) refl
     where

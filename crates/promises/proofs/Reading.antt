@@ -51,7 +51,8 @@ whole s = after-lines (wholeLines s)
 
 -- what was carried over from s stands before what is read next
 chunk-fed : (s r : List ℕ) →
-    record { fed = record { answer = verdictNumber (whole (s ++ r) .nums); used = usedUp (restOf s ++ r) }; left = whole (s ++ r) } ≡ fedChunk (whole s) (restOf s ++ r)
+    record { fed = record { answer = verdictNumber (whole (s ++ r) .nums); used = usedUp (restOf s ++ r) }; left = whole (s ++ r) }
+    ≡ fedChunk (whole s) (restOf s ++ r)
 chunk-fed s r =
     judged-chunk (whole s) (restOf s ++ r) (sym (never-16 (wholeLines s))) refl refl
     (ap after-lines (whole-halves s r) ∙ judgedLines-append freshTables (wholeLines s) (wholeLines (restOf s ++ r)))
@@ -155,7 +156,8 @@ module _ (s : List ℕ) where
   long-stops : 1024 < length (restOf s) → Stopped (fedLine (whole s) (restOf s) .left) s
   long-stops z more =
       let b = begins-long s more z in
-      rw (lines-halves s more, b .splits) (fed-one (wholeLines s) (restOf s) ∙ long-settles (wholeLines s) (b .later) (b .line) (restOf s) (b .long) (omega arith))
+      rw (lines-halves s more, b .splits)
+      (fed-one (wholeLines s) (restOf s) ∙ long-settles (wholeLines s) (b .later) (b .line) (restOf s) (b .long) (omega arith))
 
   -- what is not read any more is some of what may follow
   unread : {t : Tables} → Stopped t s → (x : List ℕ) → Stopped t (s ++ x)
@@ -176,7 +178,8 @@ unfolding readOn
 from-here [] s z = rw (append-nil s) (record { fed = refl; carried = refl; short = z })
 from-here (r ∷ rs) s z =
     let u = s ++ r in
-    rw (← (chunk-fed s r), ← (rest-halves s r), ← (append-assoc s r (joined rs))) (next u (joined rs) (readOn (whole u) (restOf u) rs) _ _ refl refl (from-here rs u))
+    rw (← (chunk-fed s r), ← (rest-halves s r), ← (append-assoc s r (joined rs)))
+    (next u (joined rs) (readOn (whole u) (restOf u) rs) _ _ refl refl (from-here rs u))
 
 -- any reads, of any sizes
 pub read-on : (rs : List (List ℕ)) → Right (readOn freshTables [] rs) (joined rs)

@@ -23,7 +23,8 @@ use Rattle.tables.specs.Range.{tableAnswer}
 use Rattle.decide.specs.declared.plan.Plan.{Plan}
 use Rattle.decide.specs.declared.plan.Plan.the-variants.{Refuse, Take}
 use Rattle.decide.specs.Decide.{planOf}
-use Rattle.judge.specs.Feed.{Tables, tables, After, after, placeIn, remembered, carried, judgedEvent, judgedReading, judgedInPlace, judgedLine, judgedLines, fedLine, AfterChunk, fedChunk, verdict, verdictOf, AfterTrace, judgedTrace}
+use Rattle.judge.specs.Feed.{Tables, tables, After, after, placeIn, remembered, carried, judgedEvent, judgedReading, judgedInPlace}
+use Rattle.judge.specs.Feed.{judgedLine, judgedLines, fedLine, AfterChunk, fedChunk, verdict, verdictOf, AfterTrace, judgedTrace}
 use Rattle.judge.proofs.Feeds.{judgedLine-alike, verdict-again}
 use Rattle.promises.proofs.Singles.{AgreeFrom}
 use Rattle.promises.proofs.LineEntries.{remembered-later}
@@ -75,7 +76,8 @@ module _ (t : Tables) where
   judged-spares l = by-verdict (eqb (verdictNumber (t .nums)) 0)
     where
       by-verdict : (b : Bool) →
-          Spares t (cond b (judgedInPlace (answerByReading (placeIn (t .nums)) (readLine l)) t l) (after (verdictNumber (t .nums)) (t .names) (t .nums) (t .ticks)))
+          let again = after (verdictNumber (t .nums)) (t .names) (t .nums) (t .ticks) in
+          Spares t (cond b (judgedInPlace (answerByReading (placeIn (t .nums)) (readLine l)) t l) again)
       by-verdict true = in-place-spares (answerByReading (placeIn (t .nums)) (readLine l)) l
       by-verdict false = λ n. unchanged t
 
@@ -117,7 +119,8 @@ lines-spare t z m (l ∷ ls) =
     let x = judged-numbered t z m l in
     by-answer (judgedLine t l .answer) refl (x .kept) (lines-spare (judgedLine t l .left) (judgedLine-alike t l .nums-kept ∙ z) (rw (x .kept) (x .most)) ls)
   where
-    by-answer : (n : ℕ) → judgedLine t l .answer ≡ n → verdictNumber (judgedLine t l .left .nums) ≡ judgedLine t l .answer → StopsAfter (judgedLine t l .left) ls → StopsAfter t (l ∷ ls)
+    by-answer : (n : ℕ) → judgedLine t l .answer ≡ n → verdictNumber (judgedLine t l .left .nums) ≡ judgedLine t l .answer →
+        StopsAfter (judgedLine t l .left) ls → StopsAfter t (l ∷ ls)
     by-answer zero q k s = record {
       taken = l ∷ s .taken;
       rest = s .rest;

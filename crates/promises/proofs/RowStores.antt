@@ -80,11 +80,14 @@ module _ (nums : List ℕ) (z : length nums ≡ numsSize) (i p n r : ℕ) (o : p
 
   pub holder-standing : standingAt (storeHolder nums i p n) r ≡ cond (eqb r i) (p + 2) (standingAt nums r)
   unfolding storeHolder
-  holder-standing = row-if nameRows i (ltb i nameRows && ltb p nameRows) both-rows _ nums (standingColumn .base) r (p + 2) h (λ k. simp (cell numsSize nameRows, length-set, z))
+  holder-standing =
+      row-if nameRows i (ltb i nameRows && ltb p nameRows) both-rows _ nums (standingColumn .base) r (p + 2) h
+      (λ k. simp (cell numsSize nameRows, length-set, z))
 
   pub holder-number : numberAt (storeHolder nums i p n) r ≡ cond (eqb r i) n (numberAt nums r)
   unfolding storeHolder
-  holder-number = row-if nameRows i (ltb i nameRows && ltb p nameRows) both-rows _ nums (numberColumn .base) r n h (λ k. simp (cell numsSize nameRows, length-set, z))
+  holder-number =
+      row-if nameRows i (ltb i nameRows && ltb p nameRows) both-rows _ nums (numberColumn .base) r n h (λ k. simp (cell numsSize nameRows, length-set, z))
 
 module _ (nums : List ℕ) (i j : ℕ) where
   pub row-beside : (kind n : ℕ) → Outside kindColumn numberedColumn j → getD (storeRow nums i kind n) j 0 ≡ getD nums j 0
@@ -98,7 +101,8 @@ module _ (nums : List ℕ) (i j : ℕ) where
   pub holder-beside : (p n : ℕ) → Outside standingColumn numberColumn j → getD (storeHolder nums i p n) j 0 ≡ getD nums j 0
   unfolding storeHolder
   holder-beside p n out =
-      kept-if (ltb i nameRows && ltb p nameRows) _ nums j (λ t. let h = ltb-true i nameRows (both (ltb i nameRows) _ t .0) in simp (beside standingColumn numberColumn nameRows))
+      kept-if (ltb i nameRows && ltb p nameRows) _ nums j
+      (λ t. let h = ltb-true i nameRows (both (ltb i nameRows) _ t .0) in simp (beside standingColumn numberColumn nameRows))
 
   pub number-beside : (v : ℕ) → Outside numberColumn numberedColumn j → getD (storeNumber nums i v) j 0 ≡ getD nums j 0
   unfolding storeNumber
@@ -107,7 +111,8 @@ module _ (nums : List ℕ) (i j : ℕ) where
   pub instance-beside : (owner number state : ℕ) → Outside ownerColumn stateColumn j → getD (storeInstance nums i owner number state) j 0 ≡ getD nums j 0
   unfolding storeInstance
   instance-beside owner number state out =
-      kept-if (ltb i instanceRows && ltb owner nameRows) _ nums j (λ t. let h = ltb-true i instanceRows (both (ltb i instanceRows) _ t .0) in simp (beside ownerColumn stateColumn instanceRows))
+      kept-if (ltb i instanceRows && ltb owner nameRows) _ nums j
+      (λ t. let h = ltb-true i instanceRows (both (ltb i instanceRows) _ t .0) in simp (beside ownerColumn stateColumn instanceRows))
 
 -- ---- the stores to a row of an instance
 
@@ -117,12 +122,18 @@ module _ (nums : List ℕ) (z : length nums ≡ numsSize) (i owner q : ℕ) (o :
 
   pub instance-owner : ownerAt (storeInstance nums i owner number state) q ≡ cond (eqb q i) owner (ownerAt nums q)
   unfolding storeInstance
-  instance-owner = row-if instanceRows i (ltb i instanceRows && ltb owner nameRows) tested _ nums (ownerColumn .base) q owner h (λ k. simp (cell numsSize instanceRows, length-set, z))
+  instance-owner =
+      row-if instanceRows i (ltb i instanceRows && ltb owner nameRows) tested _ nums (ownerColumn .base) q owner h
+      (λ k. simp (cell numsSize instanceRows, length-set, z))
 
   pub instance-number : instanceAt (storeInstance nums i owner number state) q ≡ cond (eqb q i) number (instanceAt nums q)
   unfolding storeInstance
-  instance-number = row-if instanceRows i (ltb i instanceRows && ltb owner nameRows) tested _ nums (instanceColumn .base) q number h (λ k. simp (cell numsSize instanceRows, length-set, z))
+  instance-number =
+      row-if instanceRows i (ltb i instanceRows && ltb owner nameRows) tested _ nums (instanceColumn .base) q number h
+      (λ k. simp (cell numsSize instanceRows, length-set, z))
 
   pub instance-state : stateAt (storeInstance nums i owner number state) q ≡ cond (eqb q i) state (stateAt nums q)
   unfolding storeInstance
-  instance-state = row-if instanceRows i (ltb i instanceRows && ltb owner nameRows) tested _ nums (stateColumn .base) q state h (λ k. simp (cell numsSize instanceRows, length-set, z))
+  instance-state =
+      row-if instanceRows i (ltb i instanceRows && ltb owner nameRows) tested _ nums (stateColumn .base) q state h
+      (λ k. simp (cell numsSize instanceRows, length-set, z))

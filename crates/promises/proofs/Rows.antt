@@ -67,7 +67,8 @@ module _ (h : List Event) (t : Tables) (s : Shown h t) (e : Event) (f : Passed h
   holder-bound k = target-bound (core-tracked e (sym (class-on e) ∙ ap not k))
 
   module _ (n : List ℕ) (q : any (sameBytes n) (names (e ∷ h)) ≡ true) where
-    at-target : (b : Bool) → (b ≡ true → isTracked (e .kind) ≡ true) → b && eqb (rowOf (e ∷ h) n) (targetRow (t .nums) (lookedUpIn h t e)) ≡ b && sameBytes n (e .target)
+    at-target : (b : Bool) → (b ≡ true → isTracked (e .kind) ≡ true) →
+        b && eqb (rowOf (e ∷ h) n) (targetRow (t .nums) (lookedUpIn h t e)) ≡ b && sameBytes n (e .target)
     at-target b k =
         where-true b _ _
         (λ u. ap (eqb (rowOf (e ∷ h) n)) (target-row h t s e (f .kinds) (k u))

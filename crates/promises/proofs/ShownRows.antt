@@ -75,7 +75,8 @@ module _ (h : List Event) (a : Accepted h) (met : AllMet h) (t : Tables) (s : Sh
       step n q ns i =
           i
           ∙ append-assoc (upTo (rowOf h n)) _ _
-          ∙ ap {B = List Row} (λ l. upTo (rowOf h n) ++ l) (rw (← kind-belongs x h n _ (s .each-name n q .kind)) (by-test (belongs x (kindAt (t .nums) (rowOf h n))) refl))
+          ∙ ap {B = List Row} (λ l. upTo (rowOf h n) ++ l)
+          (rw (← kind-belongs x h n _ (s .each-name n q .kind)) (by-test (belongs x (kindAt (t .nums) (rowOf h n))) refl))
         where
           rest : List (List ℕ)
           rest = only (isIn x h) ns

@@ -22,7 +22,8 @@ use Rattle.promises.proofs.Rows.{room}
 use Rattle.promises.proofs.TickEntries.{first-taken, last-taken}
 
 -- the first time is that of the first event: of this one, where none was before
-first-time : (h : List Event) (e : Event) (started first : ℕ) → started ≡ startedOf h → first ≡ firstOf h → cond (eqb started 0) (e .time) first ≡ firstOf (e ∷ h)
+first-time : (h : List Event) (e : Event) (started first : ℕ) → started ≡ startedOf h → first ≡ firstOf h →
+    cond (eqb started 0) (e .time) first ≡ firstOf (e ∷ h)
 first-time [] e started first p q = rw p
 first-time (d ∷ h) e started first p q = rw p q
 

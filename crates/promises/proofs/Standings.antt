@@ -67,7 +67,8 @@ module _ (h : List Event) (a : Accepted h) (t : Tables) (s : Shown h t) (e : Eve
   standing-of-semaphore : eqb (e .kind) semaphore && sameBytes n (e .target) ≡ true → StandingShown (e ∷ h) n (kindAt (after .nums) row) state
   standing-of-semaphore y =
       let p = both (eqb (e .kind) semaphore) (sameBytes n (e .target)) y in
-      let k : kindAt (after .nums) row ≡ semaphore = target-kinded h t s e f state n q (semaphore-tracked (e .kind) (p .0)) (p .1) ∙ eqb-true (e .kind) semaphore (p .0) in
+      let k : kindAt (after .nums) row ≡ semaphore =
+      target-kinded h t s e f state n q (semaphore-tracked (e .kind) (p .0)) (p .1) ∙ eqb-true (e .kind) semaphore (p .0) in
       record {
         of-core = λ c. absurd (omega (arith, eqb-true (kindAt (after .nums) row) core c));
         of-semaphore = λ c. l ∙ ap (λ (x : Instance). stateOf x (e ∷ h)) (own (p .0) (p .1));
@@ -75,7 +76,9 @@ module _ (h : List Event) (a : Accepted h) (t : Tables) (s : Shown h t) (e : Eve
       }
     where
       own : eqb (e .kind) semaphore ≡ true → sameBytes n (e .target) ≡ true → instanceOf e ≡ theSemaphore n
-      own c x = λ i. record { kind = eqb-true (e .kind) semaphore c i; name = sym (same-eq n (e .target) x) i; number = ap (λ (b : Bool). cond b 0 (e .targetInstance)) c i }
+      own c x =
+          let zero = ap (λ (b : Bool). cond b 0 (e .targetInstance)) c in
+          λ i. record { kind = eqb-true (e .kind) semaphore c i; name = sym (same-eq n (e .target) x) i; number = zero i }
 
   -- the event is of another name
   module _ (x : on n e ≡ false) (y : eqb (e .kind) semaphore && sameBytes n (e .target) ≡ false) where
@@ -91,7 +94,8 @@ module _ (h : List Event) (a : Accepted h) (t : Tables) (s : Shown h t) (e : Eve
         other : sameInstance (theSemaphore n) (instanceOf e) ≡ true → ⊥
         other b =
             let z = instance-true (theSemaphore n) (instanceOf e) b in
-            clash _ (and-true _ _ (eq-eqb (e .kind) semaphore (ap (λ (i : Instance). i .kind) (sym z))) (eq-same n (e .target) (ap (λ (i : Instance). i .name) z))) y
+            let kind = eq-eqb (e .kind) semaphore (ap (λ (i : Instance). i .kind) (sym z)) in
+            clash _ (and-true _ _ kind (eq-same n (e .target) (ap (λ (i : Instance). i .name) z))) y
 
     standing-of-new : newTarget h e ≡ true → n ≡ (e .target) → StandingShown (e ∷ h) n (kindAt (after .nums) row) 0
     standing-of-new u p =
@@ -113,6 +117,7 @@ module _ (h : List Event) (a : Accepted h) (t : Tables) (s : Shown h t) (e : Eve
           (cond x (cond (gives (e .word)) 1 (rowOf (e ∷ h) (e .target) + 2)) (cond y state (orOld h e n 0 0 (standingAt (t .nums) row))))
       by-tests true x y v r = standing-of-core x
       by-tests false x true v r = standing-of-semaphore v
-      by-tests false x false v (before p) = rw (kind-old h t s e f state n q p, old-same h e n p 0 0 (standingAt (t .nums) row), row-stays h e (f .kinds) n p) (standing-of-old x v p)
+      by-tests false x false v (before p) =
+          rw (kind-old h t s e f state n q p, old-same h e n p 0 0 (standingAt (t .nums) row), row-stays h e (f .kinds) n p) (standing-of-old x v p)
       by-tests false x false v (as-source u p) = absurd (clash _ (and-true _ _ (both (onCore e) _ u .0) (eq-same n (e .source) p)) x)
       by-tests false x false v (as-target u p) = rw (new-target h e n u p 0 0 (standingAt (t .nums) row)) (standing-of-new x v u p)

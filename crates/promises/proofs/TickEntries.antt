@@ -121,7 +121,8 @@ module _ (ticks nums : List ℕ) (z : length ticks ≡ ticksSize) (s : LookedUp)
         ∙ rw (ne-eqb (coreRow nums s) (targetRow nums s) (rows .apart c), eq-eqb (coreRow nums s) (coreRow nums s) refl)
         (by-tests (eqb (newName s kind) 1) (eqb (newCore s) 1))
       where
-        by-tests : (a b : Bool) → cond (a && false) (sums 0 0 0 0) (cond (b && true) (sums 0 0 (unknownBefore ticks nums time) time) (sumsAt ticks (coreRow nums s)))
+        by-tests : (a b : Bool) →
+            cond (a && false) (sums 0 0 0 0) (cond (b && true) (sums 0 0 (unknownBefore ticks nums time) time) (sumsAt ticks (coreRow nums s)))
             ≡ cond b (sums 0 0 (unknownBefore ticks nums time) time) (sumsAt ticks (coreRow nums s))
         by-tests true true = refl
         by-tests true false = refl

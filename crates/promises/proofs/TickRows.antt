@@ -104,7 +104,8 @@ module _ (h : List Event) (t : Tables) (s : Shown h t) (e : Event) (f : Passed h
   pub name-kept : (n : List ℕ) → any (sameBytes n) (names h) ≡ true → on n e ≡ false → isTracked (e .kind) && sameBytes n (e .target) ≡ false →
       sumsAt (ticksAfter h t e) (rowOf (e ∷ h) n) ≡ sumsAt (t .ticks) (rowOf h n)
   name-kept n q o w =
-      row-kept (t .ticks) (t .nums) (s .sized .ticks-size) (lookedUpIn h t e) (e .kind) (e .time) rows (rowOf (e ∷ h) n) (row-bound h t s e f n (name-stays h e n q))
+      row-kept (t .ticks) (t .nums) (s .sized .ticks-size) (lookedUpIn h t e) (e .kind) (e .time) rows (rowOf (e ∷ h) n)
+      (row-bound h t s e f n (name-stays h e n q))
       (λ c. (not-source (classed c), not-target (core-tracked e (classed c))))
       (λ c. not-target (tracked-new c (newTarget h e) refl))
       ∙ ap (sumsAt (t .ticks)) (row-stays h e (f .kinds) n q)
@@ -139,7 +140,8 @@ module _ (h : List Event) (t : Tables) (s : Shown h t) (e : Event) (f : Passed h
   -- ---- its target
 
   target-had : isTracked (e .kind) ≡ true →
-      cond (eqb (newName (lookedUpIn h t e) (e .kind)) 1) (sums 0 0 0 0) (sumsAt (t .ticks) (targetRow (t .nums) (lookedUpIn h t e))) ≡ ticksBefore h (t .ticks) (e .target)
+      cond (eqb (newName (lookedUpIn h t e) (e .kind)) 1) (sums 0 0 0 0) (sumsAt (t .ticks) (targetRow (t .nums) (lookedUpIn h t e)))
+      ≡ ticksBefore h (t .ticks) (e .target)
   target-had w = by-test (any (sameBytes (e .target)) (names h)) refl
     where
       by-test : (b : Bool) → any (sameBytes (e .target)) (names h) ≡ b →
@@ -180,7 +182,8 @@ module _ (h : List Event) (t : Tables) (s : Shown h t) (e : Event) (f : Passed h
 
   -- what it has from the event's core
   pub other-next : (n : List ℕ) → any (sameBytes n) (names (e ∷ h)) ≡ true → (kindOf n (e ∷ h) ≡ some core → ⊥) → sumsAt (ticksAfter h t e) (rowOf (e ∷ h) n)
-      ≡ cond (isTracked (e .kind) && sameBytes n (e .target)) (targetSettled (coreClass (e .kind) (e .word)) (sinceSettled h e (t .ticks)) (ticksBefore h (t .ticks) n))
+      ≡ cond (isTracked (e .kind) && sameBytes n (e .target))
+      (targetSettled (coreClass (e .kind) (e .word)) (sinceSettled h e (t .ticks)) (ticksBefore h (t .ticks) n))
       (ticksBefore h (t .ticks) n)
   other-next n q k = by-test (isTracked (e .kind) && sameBytes n (e .target)) refl
     where

@@ -81,8 +81,8 @@ module _ (l : List ℕ) (z : length l ≡ ticksSize) (i p time r : ℕ) (n : i <
       (simp (cell ticksSize nameRows, length-set, z, ne-eqb p i (λ q. d (sym q))) (by-row (eqb r i) refl (eqb r p) refl))
     where
       by-row : (b : Bool) → eqb r i ≡ b → (c : Bool) → eqb r p ≡ c →
-          sums (cond c ((heldAt l p + (time - sinceAt l i)) % 2 ^ 64) (cond b ((heldAt l i + (time - sinceAt l i)) % 2 ^ 64) (heldAt l r))) (idleAt l r) (unknownAt l r)
-          (cond b time (sinceAt l r))
+          sums (cond c ((heldAt l p + (time - sinceAt l i)) % 2 ^ 64) (cond b ((heldAt l i + (time - sinceAt l i)) % 2 ^ 64) (heldAt l r)))
+          (idleAt l r) (unknownAt l r) (cond b time (sinceAt l r))
           ≡ cond b (coreSettled gives-core time (sumsAt l r)) (cond c (targetSettled gives-core (time - sinceAt l i) (sumsAt l r)) (sumsAt l r))
       by-row true q true u = absurd (d (sym (eqb-true r i q) ∙ eqb-true r p u))
       by-row true q false u = rw (← (eqb-true r i q))
@@ -92,7 +92,8 @@ module _ (l : List ℕ) (z : length l ≡ ticksSize) (i p time r : ℕ) (n : i <
   pub settled-sums : (class : ℕ) → (i ≡ p → ⊥) → sumsAt (settled l class i p time) r ≡ settledAt l class i p time r
   settled-sums class d = by-class (eqb class takes-core) refl (eqb class gives-core) refl
     where
-      by-class : (x : Bool) → eqb class takes-core ≡ x → (y : Bool) → eqb class gives-core ≡ y → sumsAt (settled l class i p time) r ≡ settledAt l class i p time r
+      by-class : (x : Bool) → eqb class takes-core ≡ x → (y : Bool) → eqb class gives-core ≡ y →
+          sumsAt (settled l class i p time) r ≡ settledAt l class i p time r
       by-class true q y u = rw (eqb-true class takes-core q) by-taking
       by-class false q true u = rw (eqb-true class gives-core u) (by-giving d)
       by-class false q false u = rw (settled-off l class i p time q u, q, u, same-choice (eqb r p) (sumsAt l r), same-choice (eqb r i) (sumsAt l r))
@@ -102,7 +103,8 @@ module _ (l : List ℕ) (z : length l ≡ ticksSize) (i p time r : ℕ) (n : i <
 no-sum : Outside heldColumn sinceColumn firstIndex
 no-sum l u = omega arith
 
-pub either-kept : (b : Bool) (l m n : List ℕ) → (b ≡ true → firstTime m ≡ firstTime l) → (b ≡ false → firstTime n ≡ firstTime l) → firstTime (cond b m n) ≡ firstTime l
+pub either-kept : (b : Bool) (l m n : List ℕ) → (b ≡ true → firstTime m ≡ firstTime l) → (b ≡ false → firstTime n ≡ firstTime l) →
+    firstTime (cond b m n) ≡ firstTime l
 either-kept true l m n q r = q refl
 either-kept false l m n q r = r refl
 

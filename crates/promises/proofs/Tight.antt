@@ -29,7 +29,8 @@ use Rattle.bill.specs.Scale.{scaleNumber}
 use Rattle.rules.specs.Charts.{chartOf, processChart, isProcess}
 use Rattle.rules.specs.Core.{takes, gives, keeps, onCore}
 use Rattle.rules.specs.History.{hasInstances, isTracked, named, kindIn, activates, lastNumber, lastCount, names, instances}
-use Rattle.rules.specs.Refusals.{timeFalls, secondKind, sourceClash, targetClash, noRoom, offChart, notNext, coreBroken, countFollows, countAllowed, countBroken, eventTests, answerTo}
+use Rattle.rules.specs.Refusals.{timeFalls, secondKind, sourceClash, targetClash, noRoom, offChart, notNext}
+use Rattle.rules.specs.Refusals.{coreBroken, countFollows, countAllowed, countBroken, eventTests, answerTo}
 use Rattle.rules.specs.Lines.{kindNumber, eventOfLine, eventsOf}
 use Rattle.rules.specs.Trace.{placeOf, tooMuch, versionWrong, parameterWrong, unscaled, placeTests, answerInPlace, answerAt, atEnd, verdictOn}
 use Rattle.tables.specs.Sized.{isSized}
@@ -75,7 +76,8 @@ abbrev judges : Tables × List ℕ → AfterTrace
 judges (t, s) = judgedTrace t s
 
 -- one that answers otherwise than n to a trace whose number is n
-other-number : (g : Tables × List ℕ → AfterTrace) (s : List ℕ) (n : ℕ) → verdictOn [] (linesOf s) .0 ≡ n → (g (freshTables, s) .judged .number ≡ n → ⊥) → ShutsOut judges g
+other-number : (g : Tables × List ℕ → AfterTrace) (s : List ℕ) (n : ℕ) → verdictOn [] (linesOf s) .0 ≡ n → (g (freshTables, s) .judged .number ≡ n → ⊥) →
+    ShutsOut judges g
 other-number g s n q h = record { input = (freshTables, s); breaks = λ e. h (ap (λ (x : AfterTrace). x .judged .number) e ∙ number-told s ∙ q) }
 
 pub judge-not-refusing : (g : Tables × List ℕ → AfterTrace) → ((x : Tables × List ℕ) → g x .judged .number ≡ 0 → ⊥) → ShutsOut judges g

@@ -33,7 +33,8 @@ use Rattle.rules.specs.Lists.{sumOver, ifZero}
 use Rattle.rules.specs.Charts.{chartOf, processChart, isProcess}
 use Rattle.rules.specs.Core.{takes, gives, keeps, onCore}
 use Rattle.rules.specs.History.{hasInstances, isTracked, named, kindIn, activates, lastNumber, lastCount, names, instances}
-use Rattle.rules.specs.Refusals.{timeFalls, secondKind, sourceClash, targetClash, noRoom, offChart, notNext, coreBroken, countFollows, countAllowed, countBroken, eventTests, answerTo}
+use Rattle.rules.specs.Refusals.{timeFalls, secondKind, sourceClash, targetClash, noRoom, offChart, notNext}
+use Rattle.rules.specs.Refusals.{coreBroken, countFollows, countAllowed, countBroken, eventTests, answerTo}
 use Rattle.rules.specs.Sheet.{ticks, sheet}
 use Rattle.rules.specs.Lines.{kindNumber, eventOfLine, eventsOf}
 use Rattle.rules.specs.Trace.{placeOf, tooMuch, versionWrong, parameterWrong, unscaled, placeTests, answerInPlace, answerAt}
@@ -124,7 +125,8 @@ shut-sheet : (other : Sheet → Sheet) (at right : ℕ) (out : List ℕ)
     → eqb (getD (textIn out (sheetText (other smallSheet)) .output) at 0) right ≡ false
     → ShutsOut sheets (writes other)
 shut-sheet other at right out p q =
-    shut-out (λ x. eqb (getD (x .output) at 0) right) (lent out) (rw (text-right small out, small-sheet) p) (rw (never-16 small, figures-right small, small-sheet) q)
+    shut-out (λ x. eqb (getD (x .output) at 0) right) (lent out) (rw (text-right small out, small-sheet) p)
+    (rw (never-16 small, figures-right small, small-sheet) q)
 
 abbrev blanks : List ℕ
 blanks = replicate 40 32

@@ -65,7 +65,8 @@ module _ (h : List Event) (a : Accepted h) (t : Tables) (s : Shown h t) where
   -- ---- names
 
   module _ (n : List ℕ) where
-    in-row : (base : ℕ) → let c = column base nameRows in any (sameBytes n) (names h) ≡ true → entryOf c (t .nums) (seek (sameBytes n) (names h)) ≡ entryAt c (t .nums) (rowOf h n)
+    in-row : (base : ℕ) → let c = column base nameRows in any (sameBytes n) (names h) ≡ true →
+        entryOf c (t .nums) (seek (sameBytes n) (names h)) ≡ entryAt c (t .nums) (rowOf h n)
     in-row base q = entry-there (sameBytes n) (names h) (t .nums) (column base nameRows) (all-fit h a .names-fit) q
 
     in-none : (c : Column) → any (sameBytes n) (names h) ≡ false → entryOf c (t .nums) (seek (sameBytes n) (names h)) ≡ 0

@@ -34,7 +34,8 @@ shows-remembered h t n s =
       creator = rw (g creatorIndex (omega arith)) (s .creator);
       date = rw (g dateIndex (omega arith)) (s .date);
       events =
-          shown-later (eventsOf h) (t .names) (t .nums) (remembered (t .nums) n) (t .ticks) (λ j k. g j (omega arith)) (length-remembered (t .nums) n) (s .events);
+          shown-later (eventsOf h) (t .names) (t .nums) (remembered (t .nums) n) (t .ticks) (λ j k. g j (omega arith)) (length-remembered (t .nums) n)
+          (s .events);
     }
 
 -- "Further lines get that verdict again."
@@ -63,7 +64,8 @@ refused-here h k t s n some ls u e =
     let f : judgedLines u ls ≡ u = further u (rw e (λ q. some (sym v ∙ q))) ls in
     rw (f, e) (record { shows = shows-remembered h t n s; remembers = rw (v, remembered-line (t .nums) n z, m) })
 
-pub followed : (ls h : List (List ℕ)) → Kept h → (t : Tables) → Shows h t → verdictNumber (t .nums) ≡ 0 → verdictLine (t .nums) ≡ 0 → Followed h ls (judgedLines t ls)
+pub followed : (ls h : List (List ℕ)) → Kept h → (t : Tables) → Shows h t → verdictNumber (t .nums) ≡ 0 → verdictLine (t .nums) ≡ 0 →
+    Followed h ls (judgedLines t ls)
 unfolding judgedLines takenOf firstRefusal
 followed [] h k t s v w = record { shows = s; remembers = rw (v, w) }
 followed (l ∷ ls) h k t s v w =
@@ -71,7 +73,8 @@ followed (l ∷ ls) h k t s v w =
     by-answer (answerAt h l) refl o
     (λ q. followed ls (l ∷ h) (kept-next h l k q) (judgedLine t l .left) (o .shows q) (o .verdict-kept q .0 ∙ v) (o .verdict-kept q .1 ∙ w))
   where
-    by-answer : (n : ℕ) → answerAt h l ≡ n → LineOutcome h t l (judgedLine t l) → (answerAt h l ≡ 0 → Followed (l ∷ h) ls (judgedLines (judgedLine t l .left) ls)) →
+    by-answer : (n : ℕ) → answerAt h l ≡ n → LineOutcome h t l (judgedLine t l) →
+        (answerAt h l ≡ 0 → Followed (l ∷ h) ls (judgedLines (judgedLine t l .left) ls)) →
         Both (ifZero n (takenLines (l ∷ h) ls) h) (ifZero n (refusalOn (l ∷ h) ls) (n, length h + 1)) (judgedLines (judgedLine t l .left) ls)
     by-answer zero q o f = f q
     by-answer (suc n) q o f = refused-here h k t s (suc n) (λ e. omega arith) ls (judgedLine t l .left) (o .remembers (λ e. omega (arith, q)) ∙ rw q)

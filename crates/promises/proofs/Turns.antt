@@ -9,7 +9,8 @@ use Rattle.rules.specs.Lists.{any}
 use Rattle.rules.specs.Words.{core}
 use Rattle.rules.specs.Charts.{isProcess}
 use Rattle.rules.specs.Event.{Event, instanceOf}
-use Rattle.rules.specs.Core.{Core, unknown, idle, held, takes, gives, keeps, becomes, onCore, coreClass, coreAt, Free, free-unknown, free-idle, Own, own-held, own-first, takes-core, gives-core, keeps-core}
+use Rattle.rules.specs.Core.{Core, unknown, idle, held, takes, gives, keeps, becomes, onCore, coreClass, coreAt, Free}
+use Rattle.rules.specs.Core.{free-unknown, free-idle, Own, own-held, own-first, takes-core, gives-core, keeps-core}
 use Rattle.rules.specs.History.{names, kindOf}
 use Rattle.rules.specs.Verdict.{Accepted}
 use Rattle.rules.proofs.Answers.{Passed}

@@ -37,7 +37,8 @@ not-of n e = by-test (of n e)
     by-test true q = cc
     by-test false q = refl
 
-untold : {B : Type 0} (n : List ℕ) (f : Event → Option B) → ((e : Event) → of n e ≡ false → f e ≡ none) → (h : List Event) → kindOf n h ≡ none → latest f h ≡ none
+untold : {B : Type 0} (n : List ℕ) (f : Event → Option B) → ((e : Event) → of n e ≡ false → f e ≡ none) → (h : List Event) → kindOf n h ≡ none →
+    latest f h ≡ none
 untold n f g [] q = refl
 untold n f g (e ∷ h) q = let p = neither-some (kindIn n e) (kindOf n h) q in rw (g e (not-of n e (p .0))) (untold n f g h (p .1))
 
@@ -91,4 +92,6 @@ no-state x t (e ∷ h) q =
     by-test true u w =
         let z = instance-true x (instanceOf e) u in
         absurd (clash (of (x .name) e)
-        (and-true _ _ (subst (λ (y : Instance). isTracked (y .kind) ≡ true) z t) (subst (λ (y : Instance). sameBytes (x .name) (y .name) ≡ true) z (same-refl (x .name)))) w)
+        (and-true _ _
+        (subst (λ (y : Instance). isTracked (y .kind) ≡ true) z t)
+        (subst (λ (y : Instance). sameBytes (x .name) (y .name) ≡ true) z (same-refl (x .name)))) w)

@@ -55,7 +55,8 @@ end-tells (l ∷ h) k t s v =
   where
     by-scale : (b : Bool) → eqb (scaleEntry (t .nums)) 0 ≡ b →
         let w = lastTime (t .ticks) - firstTime (t .ticks) in
-        Tells (cond b (verdict 4 ((lineCount (t .nums) + 1) % 2 ^ 32) 0 w) (verdict 0 0 (scaleEntry (t .nums)) w)) (cond b (4, length (l ∷ h) + 1) (0, 0)) (l ∷ h)
+        let v = cond b (verdict 4 ((lineCount (t .nums) + 1) % 2 ^ 32) 0 w) (verdict 0 0 (scaleEntry (t .nums)) w) in
+        Tells v (cond b (4, length (l ∷ h) + 1) (0, 0)) (l ∷ h)
     by-scale true q =
         let n = same-lines (l ∷ h) t s in
         let f = lines-fit (l ∷ h) (k .in-place) in

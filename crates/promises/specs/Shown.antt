@@ -18,7 +18,8 @@ use Rattle.rules.specs.Lines.{eventsOf}
 use Rattle.rules.specs.Trace.{placeOf}
 use Rattle.tables.specs.Sized.{Sized}
 use Rattle.tables.specs.Entry.{creatorEntry, dateEntry, startedEntry, nameCount, coreCount, instanceCount}
-use Rattle.tables.specs.Entry.{kindAt, lengthAt, standingAt, numberAt, numberedAt, ownerAt, instanceAt, stateAt, firstTime, lastTime, heldAt, idleAt, unknownAt, sinceAt, nameAt}
+use Rattle.tables.specs.Entry.{kindAt, lengthAt, standingAt, numberAt, numberedAt, ownerAt, instanceAt}
+use Rattle.tables.specs.Entry.{stateAt, firstTime, lastTime, heldAt, idleAt, unknownAt, sinceAt, nameAt}
 use Rattle.judge.specs.Feed.{Tables, placeIn}
 use Rattle.promises.specs.Places.{rowOf}
 
