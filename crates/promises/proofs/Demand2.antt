@@ -65,8 +65,10 @@ module _ (ls : List (List ℕ)) (number line : ℕ) where
   at-its-end n s [] q v = no-line (sym (reverse-reverse ls) ∙ ap reverse q) (ap (λ (p : ℕ × ℕ). p .0) v) (ap (λ (p : ℕ × ℕ). p .1) v)
   at-its-end n s (l ∷ h) q v = by-scale (eqb (placeOf (l ∷ h) .scale) 0) refl v
     where
-      by-scale : (b : Bool) → eqb (placeOf (l ∷ h) .scale) 0 ≡ b → _≡_ {A = ℕ × ℕ} (number, line) (cond b (4, length (l ∷ h) + 1) (0, 0)) → Refusal ls number line
-      by-scale true e v = no-scale s (rw q (eqb-true _ 0 e)) (ap (λ (p : ℕ × ℕ). p .0) v) (omega (arith, ap (λ (p : ℕ × ℕ). p .1) v, ap length q, length-reverse ls))
+      by-scale : (b : Bool) → eqb (placeOf (l ∷ h) .scale) 0 ≡ b → _≡_ {A = ℕ × ℕ} (number, line) (cond b (4, length (l ∷ h) + 1) (0, 0)) →
+          Refusal ls number line
+      by-scale true e v =
+          no-scale s (rw q (eqb-true _ 0 e)) (ap (λ (p : ℕ × ℕ). p .0) v) (omega (arith, ap (λ (p : ℕ × ℕ). p .1) v, ap length q, length-reverse ls))
       by-scale false e v = absurd (n (ap (λ (p : ℕ × ℕ). p .0) v))
 
   named : Names ls (number, line) (takenLines [] ls) → (number ≡ 0 → ⊥) → Refusal ls number line

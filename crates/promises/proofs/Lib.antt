@@ -34,7 +34,7 @@ pub mod CoreSums
 pub mod ChargeSums
 pub mod Sums
 pub mod Sizes
-pub mod Singles
+pub mod Agreeing
 pub mod LineEntries
 pub mod PlaceAnswers
 pub mod Lines

@@ -11,7 +11,7 @@ use borrow.Author.Tests.{lt-ltb, ltb-true}
 use Rattle.tables.specs.Entry.{numsSize, verdictIndex, verdictLineIndex, linesIndex, startedIndex, verdictNumber, verdictLine, lineCount}
 use Rattle.tables.proofs.Stores.{same, other, single}
 use Rattle.judge.specs.Feed.{remembered, counted}
-use Rattle.promises.proofs.Singles.{AgreeFrom}
+use Rattle.promises.proofs.Agreeing.{AgreeFrom}
 
 -- ---- the line is counted
 

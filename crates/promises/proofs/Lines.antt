@@ -28,7 +28,7 @@ use Rattle.tables.specs.Entry.{verdictNumber, verdictLine, lineCount, scaleEntr
 use Rattle.judge.specs.Feed.{Tables, tables, After, after, placeIn, remembered, counted, judgedEvent, judgedReading, judgedInPlace, judgedLine}
 use Rattle.judge.proofs.Feeds.{length-counted, length-entry}
 use Rattle.promises.specs.Shown.{Shown, Shows}
-use Rattle.promises.proofs.Singles.{AgreeFrom, shown-later}
+use Rattle.promises.proofs.Agreeing.{AgreeFrom, shown-later}
 use Rattle.promises.proofs.LineEntries.{counted-entry, counted-before, counted-later, stored-entry, stored-before, stored-later}
 use Rattle.promises.proofs.PlaceAnswers.{few-short, not-refused}
 

@@ -38,6 +38,10 @@ row-if : (n i : ℕ) (t : Bool) → t ≡ ltb i n → (x l : List ℕ) (b r v : 
 row-if n i t e x l b r v h p =
     entry-if t x l (b + r) (λ y. p (ltb-true i n (sym e ∙ y))) (λ f. rw (ne-eqb r i (λ q. omega (arith, ltb-false i n (sym e ∙ f)))))
 
+-- made only where a name has its row too, as it has
+named-too : (n i p : ℕ) → p < nameRows → ltb i n && ltb p nameRows ≡ ltb i n
+named-too n i p o = rw (lt-ltb p nameRows o) (and-true (ltb i n))
+
 -- ---- the stores to a row of a name
 
 module _ (nums : List ℕ) (z : length nums ≡ numsSize) (i r : ℕ) (h : r < nameRows) where
@@ -75,19 +79,17 @@ module _ (nums : List ℕ) (z : length nums ≡ numsSize) (i r : ℕ) (h : r < n
 
 -- the stores of a core's holder, where its name has a row
 module _ (nums : List ℕ) (z : length nums ≡ numsSize) (i p n r : ℕ) (o : p < nameRows) (h : r < nameRows) where
-  both-rows : ltb i nameRows && ltb p nameRows ≡ ltb i nameRows
-  both-rows = rw (lt-ltb p nameRows o) (and-true (ltb i nameRows))
-
   pub holder-standing : standingAt (storeHolder nums i p n) r ≡ cond (eqb r i) (p + 2) (standingAt nums r)
   unfolding storeHolder
   holder-standing =
-      row-if nameRows i (ltb i nameRows && ltb p nameRows) both-rows _ nums (standingColumn .base) r (p + 2) h
+      row-if nameRows i (ltb i nameRows && ltb p nameRows) (named-too nameRows i p o) _ nums (standingColumn .base) r (p + 2) h
       (λ k. simp (cell numsSize nameRows, length-set, z))
 
   pub holder-number : numberAt (storeHolder nums i p n) r ≡ cond (eqb r i) n (numberAt nums r)
   unfolding storeHolder
   holder-number =
-      row-if nameRows i (ltb i nameRows && ltb p nameRows) both-rows _ nums (numberColumn .base) r n h (λ k. simp (cell numsSize nameRows, length-set, z))
+      row-if nameRows i (ltb i nameRows && ltb p nameRows) (named-too nameRows i p o) _ nums (numberColumn .base) r n h
+      (λ k. simp (cell numsSize nameRows, length-set, z))
 
 module _ (nums : List ℕ) (i j : ℕ) where
   pub row-beside : (kind n : ℕ) → Outside kindColumn numberedColumn j → getD (storeRow nums i kind n) j 0 ≡ getD nums j 0
@@ -117,23 +119,20 @@ module _ (nums : List ℕ) (i j : ℕ) where
 -- ---- the stores to a row of an instance
 
 module _ (nums : List ℕ) (z : length nums ≡ numsSize) (i owner q : ℕ) (o : owner < nameRows) (h : q < instanceRows) (number state : ℕ) where
-  tested : ltb i instanceRows && ltb owner nameRows ≡ ltb i instanceRows
-  tested = rw (lt-ltb owner nameRows o) (and-true (ltb i instanceRows))
-
   pub instance-owner : ownerAt (storeInstance nums i owner number state) q ≡ cond (eqb q i) owner (ownerAt nums q)
   unfolding storeInstance
   instance-owner =
-      row-if instanceRows i (ltb i instanceRows && ltb owner nameRows) tested _ nums (ownerColumn .base) q owner h
+      row-if instanceRows i (ltb i instanceRows && ltb owner nameRows) (named-too instanceRows i owner o) _ nums (ownerColumn .base) q owner h
       (λ k. simp (cell numsSize instanceRows, length-set, z))
 
   pub instance-number : instanceAt (storeInstance nums i owner number state) q ≡ cond (eqb q i) number (instanceAt nums q)
   unfolding storeInstance
   instance-number =
-      row-if instanceRows i (ltb i instanceRows && ltb owner nameRows) tested _ nums (instanceColumn .base) q number h
+      row-if instanceRows i (ltb i instanceRows && ltb owner nameRows) (named-too instanceRows i owner o) _ nums (instanceColumn .base) q number h
       (λ k. simp (cell numsSize instanceRows, length-set, z))
 
   pub instance-state : stateAt (storeInstance nums i owner number state) q ≡ cond (eqb q i) state (stateAt nums q)
   unfolding storeInstance
   instance-state =
-      row-if instanceRows i (ltb i instanceRows && ltb owner nameRows) tested _ nums (stateColumn .base) q state h
+      row-if instanceRows i (ltb i instanceRows && ltb owner nameRows) (named-too instanceRows i owner o) _ nums (stateColumn .base) q state h
       (λ k. simp (cell numsSize instanceRows, length-set, z))

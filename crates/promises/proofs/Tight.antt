@@ -59,7 +59,9 @@ abbrev startedTwice : List ℕ
 startedTwice = prelude ++ bytes "1,C,0,T,A,0,start" ++ 10 ∷ bytes "2,C,0,T,A,0,start"
 
 prelude-taken : verdictOn [] (linesOf prelude) .0 ≡ 0
-unfolding linesOf wholeLines restOf lineText ended unended pieces firstRefusal takenOf verdictOn atEnd answerAt answerInPlace placeTests tooMuch versionWrong parameterWrong unscaled placeOf scaleNumber eventOfLine eventsOf refuses1 refuses3 refuses5 refuses6 refuses7 readLine hasBreak isEventLine isVersion isVersionLine isComment timeScale isCreator isCreationDate otherReading parameterReading sameBytes startsWith pick scaleWord scaleOf
+unfolding linesOf wholeLines restOf lineText ended unended pieces firstRefusal takenOf verdictOn atEnd answerAt answerInPlace placeTests tooMuch
+    versionWrong parameterWrong unscaled placeOf scaleNumber eventOfLine eventsOf refuses1 refuses3 refuses5 refuses6 refuses7 readLine hasBreak isEventLine
+    isVersion isVersionLine isComment timeScale isCreator isCreationDate otherReading parameterReading sameBytes startsWith pick scaleWord scaleOf
 prelude-taken = refl
 
 nothing-refused : verdictOn [] (linesOf []) .0 ≡ 2
@@ -67,7 +69,14 @@ unfolding linesOf wholeLines restOf ended unended pieces firstRefusal takenOf ve
 nothing-refused = refl
 
 second-refused : verdictOn [] (linesOf startedTwice) .0 ≡ 11
-unfolding linesOf wholeLines restOf lineText ended unended pieces firstRefusal takenOf verdictOn atEnd answerAt answerInPlace placeTests tooMuch versionWrong parameterWrong unscaled placeOf scaleNumber eventOfLine eventsOf kindNumber refuses1 refuses3 refuses5 refuses6 refuses7 countWrong numberWrong nameWrong noteWrong readLine hasBreak isEventLine eventReading fieldsReading hasNames numbersOf knownReading partsOf fieldOf noteOf isProcessLine zeroSource zeroTarget isOwn sourceBroken targetBroken ownBroken presence noteBroken ruleBroken isVersion isVersionLine isComment timeScale isCreator isCreationDate otherReading parameterReading sameBytes startsWith pick isNameByte allNameBytes isName numberOf scaleWord scaleOf kindWord kindOf wordOf actionCode actionsOf actionOf among namedBy answerTo eventTests timeFalls secondKind sourceClash targetClash noRoom offChart notNext coreBroken countBroken names instances chartOf processChart isProcess takes gives keeps onCore hasInstances isTracked named kindIn activates lastNumber lastCount countAllowed countFollows
+unfolding linesOf wholeLines restOf lineText ended unended pieces firstRefusal takenOf verdictOn atEnd answerAt answerInPlace placeTests tooMuch
+    versionWrong parameterWrong unscaled placeOf scaleNumber eventOfLine eventsOf kindNumber refuses1 refuses3 refuses5 refuses6 refuses7 countWrong
+    numberWrong nameWrong noteWrong readLine hasBreak isEventLine eventReading fieldsReading hasNames numbersOf knownReading partsOf fieldOf noteOf
+    isProcessLine zeroSource zeroTarget isOwn sourceBroken targetBroken ownBroken presence noteBroken ruleBroken isVersion isVersionLine isComment timeScale
+    isCreator isCreationDate otherReading parameterReading sameBytes startsWith pick isNameByte allNameBytes isName numberOf scaleWord scaleOf kindWord
+    kindOf wordOf actionCode actionsOf actionOf among namedBy answerTo eventTests timeFalls secondKind sourceClash targetClash noRoom offChart notNext
+    coreBroken countBroken names instances chartOf processChart isProcess takes gives keeps onCore hasInstances isTracked named kindIn activates lastNumber
+    lastCount countAllowed countFollows
 second-refused = refl
 
 -- ---- judges that are shut out

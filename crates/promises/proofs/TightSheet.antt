@@ -80,7 +80,13 @@ abbrev smallSheet : Sheet
 smallSheet = record { span = 3; cores = row (bytes "C") (3 ∷ 0 ∷ 0 ∷ []) ∷ []; processes = row (bytes "A") (1 ∷ []) ∷ row (bytes "B") (2 ∷ []) ∷ [] }
 
 small-sheet : sheetOf small ≡ smallSheet
-unfolding sheet ticks takenOf answerAt answerInPlace placeTests tooMuch versionWrong parameterWrong unscaled placeOf scaleNumber eventOfLine eventsOf kindNumber refuses1 refuses3 refuses5 refuses6 refuses7 countWrong numberWrong nameWrong noteWrong readLine hasBreak isEventLine eventReading fieldsReading hasNames numbersOf knownReading partsOf pieces fieldOf noteOf isProcessLine zeroSource zeroTarget isOwn sourceBroken targetBroken ownBroken presence noteBroken ruleBroken isVersion isVersionLine isComment timeScale isCreator isCreationDate otherReading parameterReading sameBytes startsWith isNameByte allNameBytes isName numberOf pick scaleWord scaleOf kindWord kindOf wordOf actionCode actionsOf actionOf among namedBy answerTo eventTests timeFalls secondKind sourceClash targetClash noRoom offChart notNext coreBroken countBroken names instances chartOf processChart isProcess takes gives keeps onCore hasInstances isTracked named kindIn activates lastNumber lastCount countAllowed countFollows
+unfolding sheet ticks takenOf answerAt answerInPlace placeTests tooMuch versionWrong parameterWrong unscaled placeOf scaleNumber eventOfLine eventsOf
+    kindNumber refuses1 refuses3 refuses5 refuses6 refuses7 countWrong numberWrong nameWrong noteWrong readLine hasBreak isEventLine eventReading
+    fieldsReading hasNames numbersOf knownReading partsOf pieces fieldOf noteOf isProcessLine zeroSource zeroTarget isOwn sourceBroken targetBroken
+    ownBroken presence noteBroken ruleBroken isVersion isVersionLine isComment timeScale isCreator isCreationDate otherReading parameterReading sameBytes
+    startsWith isNameByte allNameBytes isName numberOf pick scaleWord scaleOf kindWord kindOf wordOf actionCode actionsOf actionOf among namedBy answerTo
+    eventTests timeFalls secondKind sourceClash targetClash noRoom offChart notNext coreBroken countBroken names instances chartOf processChart isProcess
+    takes gives keeps onCore hasInstances isTracked named kindIn activates lastNumber lastCount countAllowed countFollows
 small-sheet = refl
 
 -- ---- three other sheets

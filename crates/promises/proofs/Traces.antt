@@ -15,7 +15,7 @@ use Rattle.judge.specs.Feed.{Tables, tables, After, placeIn, remembered, judged
 use Rattle.judge.proofs.Feeds.{length-remembered, verdict-again}
 use Rattle.promises.specs.Shown.{Shows}
 use Rattle.promises.specs.Fed.{rememberedIn}
-use Rattle.promises.proofs.Singles.{shown-later}
+use Rattle.promises.proofs.Agreeing.{shown-later}
 use Rattle.promises.proofs.LineEntries.{remembered-later, remembered-number, remembered-line}
 use Rattle.promises.proofs.PlaceAnswers.{lines-fit}
 use Rattle.promises.proofs.Lines.{LineOutcome, line-outcome}

@@ -12,8 +12,7 @@ use Rattle.tables.specs.Entry.{kindColumn, lengthColumn, standingColumn, number
 use Rattle.judge.specs.Feed.{tables}
 use Rattle.promises.specs.Shown.{SinglesShown, NameShown, InstanceShown, InstancesShown, Shown}
 
--- ---- the event level
-
+-- every entry from the index i on is the same
 abbrev pub AgreeFrom : ℕ → List ℕ → List ℕ → Type 0
 AgreeFrom i nums nums' = (j : ℕ) → i ≤ j → getD nums' j 0 ≡ getD nums j 0
 
