@@ -59,7 +59,8 @@ module _ (names nums ticks : List ℕ) (e : Event) where
       by-size false = refl
 
   -- by tables of the right sizes a refusal is by one of 8 to 14
-  pub plan-refuses : 1 ≤ planAnswer (planOf names nums ticks e) → (8 ≤ planAnswer (planOf names nums ticks e)) × (planAnswer (planOf names nums ticks e) ≤ lastRefusal)
+  pub plan-refuses : 1 ≤ planAnswer (planOf names nums ticks e)
+      → (8 ≤ planAnswer (planOf names nums ticks e)) × (planAnswer (planOf names nums ticks e) ≤ lastRefusal)
   plan-refuses = rw plan-answer (answer-ranged (knownBy nums ticks (lookedUp names nums e) e) e)
 
   -- and a line that is taken carries what was looked up and the state entered

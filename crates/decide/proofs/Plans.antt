@@ -10,9 +10,9 @@ use borrow.Author.Tests.{eqb-true, ne-eqb, lt-leb}
 use Rattle.rules.specs.Lists.{ifZero}
 use Rattle.rules.specs.Chart.{stepFor, allowed}
 use Rattle.rules.specs.Charts.{isProcess, chartOf}
-use Rattle.rules.specs.Words.{semaphore}
+use Rattle.rules.specs.Words.{core, semaphore}
 use Rattle.rules.specs.History.{activates}
-use Rattle.rules.specs.Core.{held, takes, onCore, coreClass}
+use Rattle.rules.specs.Core.{held, takes, onCore, no-core, takes-core, coreClass}
 use Rattle.rules.specs.History.{hasInstances}
 use Rattle.rules.specs.Event.{Event, Instance, sameInstance, instanceOf}
 use Rattle.rules.specs.Rows.{opened, leadsTo, moveIf, moveBy}
@@ -101,7 +101,7 @@ idle-unheld number Nothing n = refl
 idle-unheld number (At p) n = rw (ne-eqb 1 (p + 2) (λ q. omega arith))
 
 module _ (class number : ℕ) (f : Found) (x : Instance) (first : Bool) where
-  serves-in : (t : Bool) → eqb class 1 ≡ t → (standing : ℕ) →
+  serves-in : (t : Bool) → eqb class takes-core ≡ t → (standing : ℕ) →
       coreServes class standing (isHolder standing number f (x .number)) first ≡ serves (coreIn standing number f x) t first x
   unfolding coreServes coreIn
   serves-in true q zero = rw q
@@ -109,7 +109,8 @@ module _ (class number : ℕ) (f : Found) (x : Instance) (first : Bool) where
   serves-in true q (suc zero) = rw q
   serves-in false q (suc zero) = rw (q, idle-unheld number f (x .number))
   serves-in t q (suc (suc m)) =
-      rw (q, eqb·suc-zero (suc m), ne-eqb (suc (suc m)) 1 (λ e. omega arith), lt-leb (suc (suc m)) 1 (omega arith)) (by-row t (isHolder (suc (suc m)) number f (x .number)))
+      rw (q, eqb·suc-zero (suc m), ne-eqb (suc (suc m)) 1 (λ e. omega arith), lt-leb (suc (suc m)) 1 (omega arith))
+      (by-row t (isHolder (suc (suc m)) number f (x .number)))
     where
       by-row : (t b : Bool) → cond t false b ≡ serves (cond b (held x) (held (another x))) t first x
       by-row true true = refl
@@ -141,7 +142,8 @@ module _ (nums ticks : List ℕ) (s : LookedUp) (e : Event) where
   number-in = ap (λ (b : Bool). activates (e .kind) (e .word) && b) (by-test (eqb (numberedIn nums (s .target)) 0))
     where
       by-test : (b : Bool) →
-          not b && not (eqb (e .targetInstance) (numberIn nums (s .target) + 1)) ≡ not (isNext (cond b none (some (numberIn nums (s .target)))) (e .targetInstance))
+          not b && not (eqb (e .targetInstance) (numberIn nums (s .target) + 1))
+          ≡ not (isNext (cond b none (some (numberIn nums (s .target)))) (e .targetInstance))
       by-test true = refl
       by-test false = refl
 
@@ -161,12 +163,12 @@ module _ (nums ticks : List ℕ) (s : LookedUp) (e : Event) where
       by-test false false false q = rw q
 
   module _ (c : s .class ≡ coreClass (e .kind) (e .word)) where
-    on-in : not (eqb (s .class) 0) ≡ onCore e
+    on-in : not (eqb (s .class) no-core) ≡ onCore e
     on-in = rw c (class-on e)
 
     source-in : sourceClashIn nums s (e .source) (e .target) ≡ sourceClash (knownBy nums ticks s e) e
     unfolding sourceClashIn sourceClash knownBy
-    source-in = rw (on-in, clash-opened (kindIn nums (s .source)) 1)
+    source-in = rw (on-in, clash-opened (kindIn nums (s .source)) core)
 
     core-in : coreBrokenIn nums s (e .kind) (e .targetInstance) ≡ coreBroken (knownBy nums ticks s e) e
     unfolding coreBrokenIn coreBroken knownBy

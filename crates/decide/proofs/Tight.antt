@@ -9,7 +9,7 @@ use Rattle.text.specs.Literal.{bytes}
 use Rattle.text.proofs.Tight.{unique, ShutsOut, shut-out}
 use Rattle.rules.specs.Words.{runnable, task, start}
 use Rattle.rules.specs.Charts.{isProcess}
-use Rattle.rules.specs.Core.{takes, coreClass}
+use Rattle.rules.specs.Core.{no-core, takes, coreClass}
 use Rattle.rules.specs.Event.{Event}
 use Rattle.tables.specs.declared.find.Found.{Found}
 use Rattle.tables.specs.declared.find.Found.the-variants.{At, Nothing}
@@ -45,7 +45,7 @@ look-not-the-first = shut-out (λ s. isNothing (s .source)) task refl refl
 pub look-not-by-word :
     ShutsOut looks (λ kind. record { class = coreClass task start; source = looks kind .source; target = looks kind .target; instance = looks kind .instance })
 unfolding coreClass isProcess takes
-look-not-by-word = shut-out (λ s. eqb (s .class) 0) runnable refl refl
+look-not-by-word = shut-out (λ s. eqb (s .class) no-core) runnable refl refl
 
 -- ---- `rows_added`
 

@@ -6,6 +6,7 @@ use rules::kind::core_class;
 use rules::kind::tracked;
 use rules::kind::with_instances;
 use rules::numbers::NO_CORE;
+use tables::entry::NAME_ROWS;
 use tables::find::Found;
 use tables::find::find_instance;
 use tables::find::find_name;
@@ -39,7 +40,7 @@ fn instance_in(nums: &[u32], needed: bool, target: Found, number: u32) -> Found
     let Found::At(i) = target else {
         return Found::Nothing;
     };
-    if 255 < i {
+    if NAME_ROWS <= i {
         return Found::Nothing;
     }
     find_instance(nums, i as u32, number)

@@ -1,6 +1,7 @@
 -- `decide::cores::core_broken` meets its contract: a line of no class breaks nothing, and any other by what is looked up for it.
 use borrow.Author.Needs.{needs}
 use borrow.Author.Tests.{eq-eqb, ne-eqb}
+use Rattle.rules.specs.Core.{no-core}
 use Rattle.decide.specs.PlanCode.{coreBrokenIn}
 use Rattle.decide.proofs.cores.core_broken.Statement.{statement}
 use Rattle.decide.proofs.cores.core_broken.Tie as tie
@@ -10,7 +11,7 @@ unfolding coreBrokenIn
 core-broken-spec =
     tie.close
     (tie.spec
-    (λ c. rw (eq-eqb _ 0 (c .if1 .taken)))
+    (λ c. rw (eq-eqb _ no-core (c .if1 .taken)))
     (λ c κs. search needs)
     (λ c κs. search needs)
     (λ c κs. search needs)
@@ -21,4 +22,11 @@ core-broken-spec =
     let h = s .before in
     let n = h .before in
     let m = n .before in
-    rw (ne-eqb _ 0 (m .before .if1 .left), c .core-serves .ensures, h .is-holder .ensures, n .number-in .ensures, m .standing-in .ensures, s .state-in .ensures)))
+    rw (
+      ne-eqb _ no-core (m .before .if1 .left),
+      c .core-serves .ensures,
+      h .is-holder .ensures,
+      n .number-in .ensures,
+      m .standing-in .ensures,
+      s .state-in .ensures,
+    )))

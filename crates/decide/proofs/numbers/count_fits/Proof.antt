@@ -7,15 +7,31 @@ use Rattle.decide.proofs.Counts.{least-fits}
 use Rattle.decide.proofs.numbers.count_fits.Statement.{statement}
 use Rattle.decide.proofs.numbers.count_fits.Tie as tie
 
-pub count-fits-spec : {M : Type 1} → statement M
+is-free : tie.Need-returns
 unfolding countAllowed
+is-free c = rw (c .if1 .taken)
+
+is-unlock : tie.Need-returns-2
+unfolding countAllowed
+is-unlock c = rw (c .if2 .taken)
+
+is-lock : tie.Need-returns-3
+unfolding countAllowed
+is-lock c = rw (c .if3 .taken)
+
+has-least : tie.Need-returns-4
+unfolding countAllowed
+has-least c =
+    let d = c .before in
+    rw (c .least-count .ensures)
+    (least-fits _ _ (ne-eqb _ free (d .before .before .if1 .left)) (ne-eqb _ unlock (d .before .if2 .left)) (ne-eqb _ lock (d .if3 .left)))
+
+pub count-fits-spec : {M : Type 1} → statement M
 count-fits-spec =
     tie.close
     (tie.spec
-    (λ c. rw (c .if1 .taken))
-    (λ c. rw (c .if2 .taken))
-    (λ c. rw (c .if3 .taken))
+    is-free
+    is-unlock
+    is-lock
     (λ c κs. search needs)
-    (λ c.
-    let d = c .before in
-    rw (c .least-count .ensures) (least-fits _ _ (ne-eqb _ free (d .before .before .if1 .left)) (ne-eqb _ unlock (d .before .if2 .left)) (ne-eqb _ lock (d .if3 .left)))))
+    has-least)

@@ -6,9 +6,13 @@ use Rattle.decide.specs.Decide.{decided}
 use Rattle.decide.proofs.plan.decide.Statement.{statement}
 use Rattle.decide.proofs.plan.decide.Tie as tie
 
+-- from the answer on the sizes to the start: both texts are known there, and before them the tables
+abbrev start : tie.After-sized → tie.Start
+start c = let tables = c .before .before .before in tables .before .before .before
+
 decide-in-requires : tie.Need-decide-in-requires
 decide-in-requires c κs =
-    let a = c .before .before .before .before .before .before .before .args in
+    let a = start (c .before) .args in
     let s = sizes-mean (a .names .now) (a .nums .now) (a .ticks .now) .holds (passed (c .before .sized .ensures) (c .if1 .left)) in
     (s .nums-size, s .ticks-size)
 

@@ -11,9 +11,13 @@ use Rattle.decide.proofs.Plans.{tests-decide}
 use Rattle.decide.proofs.plan.decide_in.Statement.{statement}
 use Rattle.decide.proofs.plan.decide_in.Tie as tie
 
--- from the place where the rows are known to the start
+-- from the place where the rows are known to the one where the kind is
+abbrev kinded : tie.After-look → tie.After-kind-number
+kinded c = c .before .before
+
+-- and to the start: both texts are known on the way, and before them the tables
 abbrev begun : tie.After-look → tie.Start
-begun c = c .before .before .before .before .before .before .before .before
+begun c = let tables = kinded c .before .before .before in tables .before .before .before
 
 -- the event of the rules, with numbers for its kind and word
 abbrev event : tie.After-look → ℕ → ℕ → Event
@@ -33,29 +37,29 @@ event c kind word =
 -- with those that were asked for, what is looked up decides
 seen : (c : tie.After-look) →
     let a = begun c .args in
-    testsPlan (a .nums .now) (a .ticks .now) (c .look .result) (event c (c .before .before .kind-number .result) (c .before .action-code .result))
+    testsPlan (a .nums .now) (a .ticks .now) (c .look .result) (event c (kinded c .kind-number .result) (c .before .action-code .result))
     ≡ planOf (a .names .now) (a .nums .now) (a .ticks .now) (eventFrom (a .e) (a .source .now) (a .target .now) (a .count))
 unfolding lookedUp
 seen c =
     let a = begun c .args in
-    let k = c .before .before .kind-number in
+    let k = kinded c .kind-number in
     let w = c .before .action-code in
     tests-decide (a .names .now) (a .nums .now) (a .ticks .now) (c .look .result) (event c (k .result) (w .result)) (c .look .ensures)
     ∙ ap (planOf (a .names .now) (a .nums .now) (a .ticks .now)) (λ i. event c (k .ensures i) (w .ensures i))
 
-returns : tie.Need-returns
+time-fell : tie.Need-returns
 unfolding testsPlan
-returns c = rw (← (c .before .time-falls .ensures), c .if1 .taken) at (seen (c .before .before))
+time-fell c = rw (← (c .before .time-falls .ensures), c .if1 .taken) at (seen (c .before .before))
 
-returns-2 : tie.Need-returns-2
+source-clashes : tie.Need-returns-2
 unfolding testsPlan
-returns-2 c =
+source-clashes c =
     let d = c .before .before in
     rw (← (d .before .time-falls .ensures), d .if1 .left, ← (c .before .source-clash .ensures), c .if2 .taken) at (seen (d .before .before))
 
-returns-3 : tie.Need-returns-3
+target-clashes : tie.Need-returns-3
 unfolding testsPlan
-returns-3 c =
+target-clashes c =
     let e = c .before .before in
     let d = e .before .before in
     rw (
@@ -67,9 +71,9 @@ returns-3 c =
       c .if3 .taken,
     ) at (seen (d .before .before))
 
-returns-4 : tie.Need-returns-4
+too-many : tie.Need-returns-4
 unfolding testsPlan
-returns-4 c =
+too-many c =
     let f = c .before .before in
     let e = f .before .before in
     let d = e .before .before in
@@ -84,9 +88,9 @@ returns-4 c =
       c .if4 .taken,
     ) at (seen (d .before .before))
 
-returns-5 : tie.Need-returns-5
+by-steps : tie.Need-returns-5
 unfolding testsPlan
-returns-5 c =
+by-steps c =
     let g = c .before in
     let f = g .before .before in
     let e = f .before .before in
@@ -111,12 +115,12 @@ decide-in-spec =
     (λ c κs. search needs)
     (λ c κs. search needs)
     (λ c κs. search needs)
-    returns
+    time-fell
     (λ c κs. search needs)
-    returns-2
+    source-clashes
     (λ c κs. search needs)
-    returns-3
+    target-clashes
     (λ c κs. search needs)
-    returns-4
+    too-many
     (λ c κs. search needs)
-    returns-5)
+    by-steps)

@@ -9,15 +9,72 @@ use Rattle.decide.specs.PlanCode.{stepsPlan}
 use Rattle.decide.proofs.plan.decide_steps.Statement.{statement}
 use Rattle.decide.proofs.plan.decide_steps.Tie as tie
 
+-- from the place where the state entered is known to the step of the chart, and to the start
+abbrev stepped : tie.After-m → tie.After-chart-step
+stepped c = c .before .before
+
+abbrev start : tie.After-chart-step → tie.Start
+start c = c .before .before .before
+
 step-is : (c : tie.After-m) →
-    let a = c .before .before .before .before .before .args in
+    let a = start (stepped c) .args in
     moveBy (chartOf (a .kind)) (a .word) (stateIn (a .nums .now) (a .s) (a .kind)) ≡ To (c .m .given .0 .0)
 step-is c =
-    let k = c .before .before in
+    let k = stepped c in
     rw (← (k .before .state-in .ensures)) (sym (k .chart-step .ensures) ∙ c .m .given .1)
 
-pub decide-steps-spec : {M : Type 1} → statement M
+off-chart : tie.Need-returns
 unfolding stepsPlan
+off-chart c =
+    let k = c .before .before in
+    rw (← (k .before .state-in .ensures), ← (k .chart-step .ensures), c .enum-told .given .1)
+
+number-refused : tie.Need-returns-2
+unfolding stepsPlan
+number-refused c =
+    let n = c .before in
+    rw (step-is (n .before .before), ← (n .not-next .ensures), c .if1 .taken)
+
+core-refused : tie.Need-returns-3
+unfolding stepsPlan
+core-refused c =
+    let d = c .before .before in
+    let n = d .before in
+    rw (step-is (n .before .before), ← (n .not-next .ensures), d .if1 .left, ← (c .before .core-broken .ensures), c .if2 .taken)
+
+count-refused : tie.Need-returns-4
+unfolding stepsPlan
+count-refused c =
+    let e = c .before .before in
+    let d = e .before .before in
+    let n = d .before in
+    rw (
+      step-is (n .before .before),
+      ← (n .not-next .ensures),
+      d .if1 .left,
+      ← (e .before .core-broken .ensures),
+      e .if2 .left,
+      ← (c .before .count-broken .ensures),
+      c .if3 .taken,
+    )
+
+taken : tie.Need-returns-5
+unfolding stepsPlan
+taken c =
+    let e = c .before .before in
+    let d = e .before .before in
+    let n = d .before in
+    rw (
+      step-is (n .before .before),
+      ← (n .not-next .ensures),
+      d .if1 .left,
+      ← (e .before .core-broken .ensures),
+      e .if2 .left,
+      ← (c .before .count-broken .ensures),
+      c .if3 .left,
+    )
+
+pub decide-steps-spec : {M : Type 1} → statement M
 decide-steps-spec =
     tie.close
     (tie.spec
@@ -25,37 +82,11 @@ decide-steps-spec =
     (λ c κs. search needs)
     (λ c. search needs)
     (λ c. search needs)
-    (λ c.
-    let k = c .before .before in
-    rw (← (k .before .state-in .ensures), ← (k .chart-step .ensures), c .enum-told .given .1))
+    off-chart
     (λ c κs. search needs)
-    (λ c. rw (step-is (c .before .before .before), ← (c .before .not-next .ensures), c .if1 .taken))
+    number-refused
     (λ c κs. search needs)
-    (λ c.
-    let d = c .before .before in
-    rw (step-is (d .before .before .before), ← (d .before .not-next .ensures), d .if1 .left, ← (c .before .core-broken .ensures), c .if2 .taken))
+    core-refused
     (λ c κs. search needs)
-    (λ c.
-    let e = c .before .before in
-    let d = e .before .before in
-    rw (
-      step-is (d .before .before .before),
-      ← (d .before .not-next .ensures),
-      d .if1 .left,
-      ← (e .before .core-broken .ensures),
-      e .if2 .left,
-      ← (c .before .count-broken .ensures),
-      c .if3 .taken,
-    ))
-    (λ c.
-    let e = c .before .before in
-    let d = e .before .before in
-    rw (
-      step-is (d .before .before .before),
-      ← (d .before .not-next .ensures),
-      d .if1 .left,
-      ← (e .before .core-broken .ensures),
-      e .if2 .left,
-      ← (c .before .count-broken .ensures),
-      c .if3 .left,
-    )))
+    count-refused
+    taken)
