@@ -10,6 +10,7 @@ use borrow.Author.Tests.{eq-eqb, ne-eqb}
 use Rattle.text.specs.Put.{put}
 use Rattle.text.proofs.Writes.{put-length}
 use Rattle.rules.specs.Words.{core, semaphore}
+use Rattle.rules.specs.Core.{no-core, takes-core, gives-core}
 use Rattle.rules.specs.Event.{Event}
 use Rattle.rules.specs.History.{hasInstances, activates}
 use Rattle.tables.specs.Entry.{Tables, tables, nameRows, instanceRows, nameRoom, linesIndex, startedIndex, namesIndex, coresIndex, instancesIndex}
@@ -19,7 +20,9 @@ use Rattle.tables.proofs.Stores.{other}
 use Rattle.tables.proofs.Valid.{sizes-mean}
 use Rattle.decide.specs.declared.look.LookedUp.{LookedUp}
 use Rattle.decide.specs.Known.{newCore, newName, newInstance}
-use Rattle.store.specs.Store.{coreRow, targetRow, instanceRow, storeName, storeRow, storeSums, storeInstance, storeStanding, storeHolder, storeNumber, takenNames, withRows, withTarget, withCore, withCounts, takenNums, settled, withTimes, withSums, takenTicks, takenTables, stored}
+use Rattle.store.specs.Store.{coreRow, targetRow, instanceRow, storeName, storeRow, storeSums, storeInstance, storeStanding, storeHolder, storeNumber}
+use Rattle.store.specs.Store.{takenNames, withRows, withTarget, withCore, withCounts, takenNums, settled, withTimes, withSums, takenTicks}
+use Rattle.store.specs.Store.{takenTables, stored}
 
 -- ---- tables of the right sizes
 
@@ -35,6 +38,10 @@ made {r} {v} y e t p = rw (eq-eqb v 1 (sym e ∙ t)) p
 pub unmade : {r v : ℕ} {m y : List ℕ} (x : List ℕ) → r ≡ v → (r ≡ 1 → ⊥) → m ≡ y → m ≡ cond (eqb v 1) x y
 unmade {r} {v} x e t p = rw (ne-eqb v 1 (λ q. t (e ∙ q))) p
 
+-- and made in a row of what the store before it left
+pub made-next : {r v n i : ℕ} {m l k : List ℕ} (f : List ℕ → ℕ → List ℕ) → r ≡ v → r ≡ 1 → l ≡ k → n ≡ i → m ≡ f l n → m ≡ cond (eqb v 1) (f k i) k
+made-next {k = k} f e t p q h = made k e t (h ∙ rw (p, q))
+
 -- ---- the counts after one another: each is read after the stores before it
 
 skip : (l : List ℕ) (i j v : ℕ) → i < j → getD (set l i v) j 0 ≡ getD l j 0
@@ -44,16 +51,22 @@ pub counts-stored : {a b d e : ℕ} (nums : List ℕ) (names cores instances : �
     let one = set (set nums linesIndex a) startedIndex 1 in
     let two = set one namesIndex b in
     let three = set two coresIndex d in
-    a ≡ (lineCount nums + 1) % 2 ^ 32 → b ≡ (nameCount one + names) % 2 ^ 32 → d ≡ (coreCount two + cores) % 2 ^ 32 → e ≡ (instanceCount three + instances) % 2 ^ 32 →
+    a ≡ (lineCount nums + 1) % 2 ^ 32 → b ≡ (nameCount one + names) % 2 ^ 32 →
+    d ≡ (coreCount two + cores) % 2 ^ 32 → e ≡ (instanceCount three + instances) % 2 ^ 32 →
     set three instancesIndex e ≡ withCounts nums names cores instances
 unfolding withCounts
 counts-stored {a} {b} {d} {e} nums names cores instances p q r t =
     let l = set (set nums linesIndex a) startedIndex 1 in
-    let f : (j : ℕ) → startedIndex < j → getD l j 0 ≡ getD nums j 0 = λ j h. skip (set nums linesIndex a) startedIndex j 1 h ∙ skip nums linesIndex j a (omega arith) in
+    let f : (j : ℕ) → startedIndex < j → getD l j 0 ≡ getD nums j 0 =
+    λ j h. skip (set nums linesIndex a) startedIndex j 1 h ∙ skip nums linesIndex j a (omega arith) in
     let q' : b ≡ (nameCount nums + names) % 2 ^ 32 = rw (f namesIndex (omega arith)) at q in
     let r' : d ≡ (coreCount nums + cores) % 2 ^ 32 = rw (skip l namesIndex coresIndex b (omega arith), f coresIndex (omega arith)) at r in
     let t' : e ≡ (instanceCount nums + instances) % 2 ^ 32 =
-    rw (skip (set l namesIndex b) coresIndex instancesIndex d (omega arith), skip l namesIndex instancesIndex b (omega arith), f instancesIndex (omega arith)) at t in
+    rw (
+      skip (set l namesIndex b) coresIndex instancesIndex d (omega arith),
+      skip l namesIndex instancesIndex b (omega arith),
+      f instancesIndex (omega arith),
+    ) at t in
     rw (p, q', r', t')
 
 -- ---- the stores to nums after one another, with the rows and counts as they were before them
@@ -65,8 +78,15 @@ pub nums-taken : {k w i p j x y z : ℕ} {a b d f : List ℕ} (nums : List ℕ) 
 unfolding takenNums
 nums-taken nums s t e pk pw pi pp pj px py pz pa pb pd pf = pf ∙ rw (pd, pb, pa, pi, pp, pj, px, py, pz, pk, pw)
 
+-- and so the stores to ticks
+pub ticks-taken : {i p : ℕ} {a b d : List ℕ} (ticks nums : List ℕ) (s : LookedUp) (kind time : ℕ) → i ≡ coreRow nums s → p ≡ targetRow nums s
+    → a ≡ withSums ticks nums s kind time → b ≡ settled a (s .class) i p time → d ≡ withTimes b (startedEntry nums) time → d ≡ takenTicks ticks nums s kind time
+unfolding takenTicks
+ticks-taken ticks nums s kind time pi pp pa pb pd = pd ∙ rw (pb, pa, pi, pp)
+
 -- the three tables, each from its own stores
-pub tables-taken : {k : ℕ} {a b d : List ℕ} (t : Tables) (s : LookedUp) (state : ℕ) (e : Event) → k ≡ e .kind → a ≡ takenNames (t .names) (t .nums) s k (e .source) (e .target)
+pub tables-taken : {k : ℕ} {a b d : List ℕ} (t : Tables) (s : LookedUp) (state : ℕ) (e : Event) → k ≡ e .kind
+    → a ≡ takenNames (t .names) (t .nums) s k (e .source) (e .target)
     → b ≡ takenNums (t .nums) s state e → d ≡ takenTicks (t .ticks) (t .nums) s k (e .time) → tables a b d ≡ takenTables t s state e
 tables-taken t s state e pk pa pb pd = rw (pa, pb, pd, pk)
 
@@ -77,7 +97,8 @@ length-cond true x y p q = p
 length-cond false x y p q = q
 
 -- a store that is made or not, and another after it
-length-two : (a b : Bool) (f : List ℕ → List ℕ) (x l : List ℕ) → ((m : List ℕ) → length (f m) ≡ length m) → length x ≡ length l → length (cond b (f (cond a x l)) (cond a x l)) ≡ length l
+length-two : (a b : Bool) (f : List ℕ → List ℕ) (x l : List ℕ) → ((m : List ℕ) → length (f m) ≡ length m) → length x ≡ length l
+    → length (cond b (f (cond a x l)) (cond a x l)) ≡ length l
 length-two a b f x l h e =
     let i : length (cond a x l) ≡ length l = length-cond a x l e refl in
     length-cond b (f (cond a x l)) (cond a x l) (h (cond a x l) ∙ i) i
@@ -111,7 +132,8 @@ pub length-storeNumber : (nums : List ℕ) (i n : ℕ) → length (storeNumber n
 unfolding storeNumber
 length-storeNumber nums i n = length-cond (ltb i nameRows) _ nums (simp length-set) refl
 
-pub length-takenNames : (names nums : List ℕ) (s : LookedUp) (kind : ℕ) (source target : List ℕ) → length (takenNames names nums s kind source target) ≡ length names
+pub length-takenNames : (names nums : List ℕ) (s : LookedUp) (kind : ℕ) (source target : List ℕ)
+    → length (takenNames names nums s kind source target) ≡ length names
 unfolding takenNames
 length-takenNames names nums s kind source target =
     length-two (eqb (newCore s) 1) (eqb (newName s kind) 1) (λ m. storeName m (targetRow nums s) target) _ names
@@ -144,8 +166,8 @@ length-withTarget nums i j t kind word n c =
 pub length-withCore : (nums : List ℕ) (class i p n : ℕ) → length (withCore nums class i p n) ≡ length nums
 unfolding withCore
 length-withCore nums class i p n =
-    length-cond (eqb class 0) nums _ refl
-    (length-cond (eqb class 2) (storeStanding nums i 1) (storeHolder nums i p n) (length-storeStanding nums i 1) (length-storeHolder nums i p n))
+    length-cond (eqb class no-core) nums _ refl
+    (length-cond (eqb class gives-core) (storeStanding nums i 1) (storeHolder nums i p n) (length-storeStanding nums i 1) (length-storeHolder nums i p n))
 
 pub length-withCounts : (nums : List ℕ) (names cores instances : ℕ) → length (withCounts nums names cores instances) ≡ length nums
 unfolding withCounts
@@ -159,7 +181,7 @@ pub length-settled : (ticks : List ℕ) (class i p time : ℕ) → length (settl
 unfolding settled
 length-settled ticks class i p time =
     length-cond (ltb i nameRows && ltb p nameRows) _ ticks
-    (length-cond (eqb class 1) _ _ (simp length-set) (length-cond (eqb class 2) _ ticks (simp length-set) refl))
+    (length-cond (eqb class takes-core) _ _ (simp length-set) (length-cond (eqb class gives-core) _ ticks (simp length-set) refl))
     refl
 
 pub length-withTimes : (ticks : List ℕ) (started time : ℕ) → length (withTimes ticks started time) ≡ length ticks

@@ -3,13 +3,13 @@ use mathlib.Core.Path.{_≡_, refl}
 use mathlib.Core.List.{[], _∷_}
 use Prim.Native.Nat.{ℕ}
 use lib.Dec.{eqb}
-use lib.ListN.{getD}
 use Rattle.text.proofs.Tight.{unique, ShutsOut, shut-out}
+use Rattle.rules.specs.Core.{no-core}
 use Rattle.rules.specs.Charts.{isProcess}
 use Rattle.rules.specs.Event.{Event}
 use Rattle.rules.specs.History.{hasInstances, isTracked, activates}
 use Rattle.tables.specs.declared.find.Found.the-variants.{Nothing}
-use Rattle.tables.specs.Entry.{Tables, tables}
+use Rattle.tables.specs.Entry.{Tables, tables, lineCount}
 use Rattle.tables.specs.Sized.{isSized}
 use Rattle.decide.specs.declared.look.LookedUp.{LookedUp}
 use Rattle.store.specs.Store.{withRows, withTarget, withCore, withCounts, takenNums, takenTables, stored}
@@ -25,9 +25,9 @@ abbrev unjudged : Event
 unjudged = record { time = 0; source = []; sourceInstance = 0; kind = 0; target = []; targetInstance = 0; word = 0; count = 0 }
 
 abbrev unseen : LookedUp
-unseen = record { class = 0; source = Nothing; target = Nothing; instance = Nothing }
+unseen = record { class = no-core; source = Nothing; target = Nothing; instance = Nothing }
 
 -- it counts a line in a table of a wrong size too
 pub take-not-any-size : ShutsOut {A = Given} (λ (t, s, e). stored t s 0 e) (λ (t, s, e). takenTables t s 0 e)
 unfolding stored isSized takenNums withCounts withCore withTarget withRows isTracked hasInstances activates isProcess
-take-not-any-size = shut-out (λ t. eqb (getD (t .nums) 2 0) 0) (tables [] (0 ∷ 0 ∷ 0 ∷ []) [], unseen, unjudged) refl refl
+take-not-any-size = shut-out (λ t. eqb (lineCount (t .nums)) 0) (tables [] (0 ∷ 0 ∷ 0 ∷ []) [], unseen, unjudged) refl refl

@@ -3,18 +3,32 @@ use native.Mathlib.Omega.{arith}
 use lib.ListN.{length-set}
 use borrow.Author.Tests.{le-ltb, lt-ltb}
 use borrow.Author.Needs.{needs}
+use Rattle.tables.specs.Entry.{nameRows}
 use Rattle.store.specs.Store.{storeHolder}
 use Rattle.store.proofs.entries.store_holder.Statement.{statement}
 use Rattle.store.proofs.entries.store_holder.Tie as tie
-use Rattle.tables.specs.Entry.{nameRows}
+
+no-core-row : tie.Need-returns
+unfolding storeHolder
+no-core-row c = rw (le-ltb _ nameRows (c .if1 .taken))
+
+no-holder-row : tie.Need-returns-2
+unfolding storeHolder
+no-holder-row c = rw (lt-ltb _ nameRows (c .before .if1 .left), le-ltb _ nameRows (c .if2 .taken))
+
+number-inside : tie.Need-slice-write-nums-2
+number-inside c = simp length-set (omega arith)
+
+both-rows : tie.Need-returns-3
+unfolding storeHolder
+both-rows c = rw (lt-ltb _ nameRows (c .before .if1 .left), lt-ltb _ nameRows (c .if2 .left))
 
 pub store-holder-spec : {M : Type 1} → statement M
-unfolding storeHolder
 store-holder-spec =
     tie.close
     (tie.spec
-    (λ c. rw (le-ltb _ nameRows (c .if1 .taken)))
-    (λ c. rw (lt-ltb _ nameRows (c .before .if1 .left), le-ltb _ nameRows (c .if2 .taken)))
+    no-core-row
+    no-holder-row
     (λ c. search needs)
     (λ c. search needs)
     (λ c. search needs)
@@ -22,6 +36,6 @@ store-holder-spec =
     (λ c. search needs)
     (λ c. search needs)
     (λ c. search needs)
-    (λ c. simp length-set (omega arith))
+    number-inside
     (λ c. search needs)
-    (λ c. rw (lt-ltb _ nameRows (c .before .if1 .left), lt-ltb _ nameRows (c .if2 .left))))
+    both-rows)

@@ -17,4 +17,6 @@ store-name-spec =
     (λ c. search needs)
     (λ c κs. search needs)
     (λ c. search needs)
-    (λ c. rw (lt-ltb _ nameRows (c .before .before .before .before .if1 .left)) (ap (λ (p : Put). p .output) (c .before .before .put-bytes .ensures))))
+    (λ c.
+    let p = c .before .before in
+    rw (lt-ltb _ nameRows (p .before .before .if1 .left)) (ap (λ (q : Put). q .output) (p .put-bytes .ensures))))

@@ -8,23 +8,39 @@ use Rattle.store.specs.Store.{storeSums}
 use Rattle.store.proofs.entries.store_sums.Statement.{statement}
 use Rattle.store.proofs.entries.store_sums.Tie as tie
 
-pub store-sums-spec : {M : Type 1} → statement M
+no-row : tie.Need-returns
 unfolding storeSums
+no-row c = rw (le-ltb _ nameRows (c .if1 .taken))
+
+idle-inside : tie.Need-slice-write-ticks-2
+idle-inside c = simp length-set (omega arith)
+
+unknown-inside : tie.Need-slice-write-ticks-3
+unknown-inside c = simp length-set (omega arith)
+
+since-inside : tie.Need-slice-write-ticks-4
+since-inside c = simp length-set (omega arith)
+
+a-row : tie.Need-returns-2
+unfolding storeSums
+a-row c = rw (lt-ltb _ nameRows (c .if1 .left))
+
+pub store-sums-spec : {M : Type 1} → statement M
 store-sums-spec =
     tie.close
     (tie.spec
-    (λ c. rw (le-ltb _ nameRows (c .if1 .taken)))
+    no-row
     (λ c. search needs)
     (λ c. search needs)
     (λ c. search needs)
     (λ c. search needs)
     (λ c. search needs)
-    (λ c. simp length-set (omega arith))
+    idle-inside
     (λ c. search needs)
     (λ c. search needs)
-    (λ c. simp length-set (omega arith))
+    unknown-inside
     (λ c. search needs)
     (λ c. search needs)
-    (λ c. simp length-set (omega arith))
+    since-inside
     (λ c. search needs)
-    (λ c. rw (lt-ltb _ nameRows (c .if1 .left))))
+    a-row)

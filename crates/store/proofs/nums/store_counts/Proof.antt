@@ -6,6 +6,17 @@ use Rattle.store.proofs.Stores.{counts-stored}
 use Rattle.store.proofs.nums.store_counts.Statement.{statement}
 use Rattle.store.proofs.nums.store_counts.Tie as tie
 
+returns : tie.Need-returns
+returns c =
+    let cores = c .before .before in
+    let names = cores .before .before in
+    let lines = names .before .before in
+    counts-stored _ _ _ _
+    (lines .wrapping-add-u32 .ensures)
+    (names .wrapping-add-u322 .ensures)
+    (cores .wrapping-add-u323 .ensures)
+    (c .wrapping-add-u324 .ensures)
+
 pub store-counts-spec : {M : Type 1} → statement M
 store-counts-spec =
     tie.close
@@ -24,4 +35,4 @@ store-counts-spec =
     (λ c κs. search needs)
     (λ c. simp length-set (omega arith))
     (λ c. search needs)
-    (λ c. counts-stored _ _ _ _ (c .before .before .before .before .before .before .wrapping-add-u32 .ensures) (c .before .before .before .before .wrapping-add-u322 .ensures) (c .before .before .wrapping-add-u323 .ensures) (c .wrapping-add-u324 .ensures)))
+    returns)

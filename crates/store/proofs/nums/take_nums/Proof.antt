@@ -1,43 +1,70 @@
 -- `store::nums::take_nums` meets its contract: the stores one after another, with the rows as they were before them.
-use mathlib.Core.Bool.{not}
 use native.Mathlib.Omega.{arith}
-use lib.Dec.{eqb}
 use borrow.Author.Needs.{needs}
-use Rattle.decide.proofs.Counts.{one-at-most}
-use Rattle.store.proofs.Stores.{nums-taken}
 use Rattle.rules.specs.History.{isTracked}
+use Rattle.decide.proofs.Counts.{one-at-most, one-core}
+use Rattle.store.proofs.Stores.{nums-taken}
 use Rattle.store.proofs.nums.take_nums.Statement.{statement}
 use Rattle.store.proofs.nums.take_nums.Tie as tie
 
--- from the place before the last store to the one where the rows and counts are known
-abbrev counted : tie.After-store-counts-arg → tie.After-new-instance
-counted c = c .before .before .before .before .before .before .before .before .before .before .before .before .before
+-- the stores, last to first: nums comes back from each before it is lent to the next
+abbrev core-stored : tie.After-store-counts-arg → tie.After-store-core
+core-stored c = c .before .before .before
+
+abbrev target-stored : tie.After-store-core → tie.After-store-target
+target-stored c = let back = c .before .before in back .before .before
+
+abbrev rows-stored : tie.After-store-target → tie.After-store-rows
+rows-stored c = let back = c .before .before in back .before .before
+
+-- the place before them, where the rows and counts are known, and from it the rows, last to first
+abbrev counted : tie.After-store-rows → tie.After-new-instance
+counted c = c .before .before
+
+abbrev instance-found : tie.After-new-instance → tie.After-instance-row
+instance-found c = c .before .before .before
+
+abbrev target-found : tie.After-instance-row → tie.After-target-row
+target-found c = c .before .before
+
+abbrev core-found : tie.After-target-row → tie.After-core-row
+core-found c = c .before .before
+
+-- the event's word, after its kind, and the start: nums and both texts are known on the way
+abbrev worded : tie.After-core-row → tie.After-action-code
+worded c = c .before .before
+
+abbrev start : tie.After-kind-number → tie.Start
+start c = let known = c .before .before .before in known .before
 
 small : tie.Need-add-store-counts
 small c =
-    let n = counted c in
-    let k = n .before .before .before .before .before .before .before .before .before .before in
-    let a = k .before .before .before .before .args in
+    let n = counted (rows-stored (target-stored (core-stored c))) in
+    let k = worded (core-found (target-found (instance-found n))) .before in
+    let s = start k .args .s in
     omega (
       arith,
-      one-at-most (not (eqb (a .s .class) 0)) (a .s .source) (n .before .before .new-core .ensures),
-      one-at-most (isTracked (k .kind-number .result)) (a .s .target) (n .before .new-name .ensures),
+      one-core s (n .before .before .new-core .ensures),
+      one-at-most (isTracked (k .kind-number .result)) (s .target) (n .before .new-name .ensures),
     )
 
 returns : tie.Need-returns
 returns c =
     let h = c .before .before in
-    let d = h .before .before .before .before in
-    let t = d .before .before .before .before in
-    let r = t .before .before .before .before in
-    let n = counted (h .before) in
-    let w = n .before .before .before .before .before .before .before .before .before in
+    let d = core-stored (h .before) in
+    let t = target-stored d in
+    let r = rows-stored t in
+    let n = counted r in
+    let j = instance-found n in
+    let p = target-found j in
+    let i = core-found p in
+    let w = worded i in
     nums-taken _ _ _ _
     (w .before .kind-number .ensures)
     (w .action-code .ensures)
-    (n .before .before .before .before .before .before .before .core-row .ensures)
-    (n .before .before .before .before .before .target-row .ensures)
-    (n .before .before .before .instance-row .ensures)
+    (i .core-row .ensures)
+    (p .target-row .ensures)
+    (j .instance-row .ensures)
     (n .before .before .new-core .ensures)
     (n .before .new-name .ensures)
     (n .new-instance .ensures)

@@ -11,9 +11,20 @@ use borrow.Author.Needs.{needs}
 use Rattle.tables.specs.Entry.{namesIndex, nameCount}
 use Rattle.decide.specs.Known.{newCore}
 use Rattle.store.specs.Store.{storeName, takenNames}
-use Rattle.store.proofs.Stores.{made, unmade, length-storeName, length-takenNames}
+use Rattle.store.proofs.Stores.{made, unmade, made-next, length-storeName, length-takenNames}
 use Rattle.store.proofs.take.take_names.Statement.{statement}
 use Rattle.store.proofs.take.take_names.Tie as tie
+
+-- from the place where the core's bytes are stored or not to the one where the target's row is known, and to the start: both texts are known on the way,
+-- and before them the tables
+abbrev rowed : tie.Joined1 → tie.After-target-row
+rowed c = c .before .before
+
+abbrev start : tie.Joined1 → tie.Start
+start c =
+    let texts = rowed c .before .before in
+    let tables = texts .before .before in
+    tables .before .before
 
 -- names with the bytes of a new core
 abbrev with-core : tie.Start → List ℕ
@@ -21,36 +32,52 @@ with-core c =
     let a = c .args in
     cond (eqb (newCore (a .s)) 1) (storeName (a .names .now) (nameCount (a .nums .now)) (a .source .now)) (a .names .now)
 
-first : (c : tie.Joined1) → c .if1 .names ≡ with-core (c .before .before .before .before .before .before .before .before)
+first : (c : tie.Joined1) → c .if1 .names ≡ with-core (start c)
 first c =
     let e = c .before .new-core .ensures in
     ⊎-elim (λ w. made _ e (w .0 .taken) (w .5 ∙ w .2 .ensures)) (λ w. unmade _ e (w .0 .left) (w .1)) (c .if1 .came)
 
-as-long : (c : tie.Joined1) → length (c .if1 .names) ≡ length (c .before .before .before .before .before .before .before .before .args .names .now)
+as-long : (c : tie.Joined1) → length (c .if1 .names) ≡ length (start c .args .names .now)
 as-long c = ⊎-elim (λ w. ap length (w .5 ∙ w .2 .ensures) ∙ length-storeName _ _ _) (λ w. ap length (w .1)) (c .if1 .came)
 
-returns : tie.Need-returns
-unfolding takenNames
-returns c =
-    let n = c .before .before .before .before .before in
-    made _ (n .new-name .ensures) (c .before .before .before .before .if2 .taken) (rw (first (n .before), n .before .before .before .target-row .ensures) at (c .before .before .store-name2 .ensures))
+count-wide : tie.Need-cast-at
+count-wide c = omega (arith, c .shared-slice-known4 .given namesIndex)
 
-returns-2 : tie.Need-returns-2
+still-sized : tie.Need-store-name-requires-2
+still-sized c κs = let j = c .before .before .before in as-long j ∙ start j .pre .0
+
+name-stored : tie.Need-returns
 unfolding takenNames
-returns-2 c = unmade _ (c .before .new-name .ensures) (c .if2 .left) (first (c .before .before))
+name-stored c =
+    let s = c .before .before in
+    let t = s .before .before in
+    let n = t .before in
+    let j = n .before in
+    let a = start j .args in
+    made-next (λ l i. storeName l i (a .target .now)) (n .new-name .ensures) (t .if2 .taken) (first j) (rowed j .target-row .ensures) (s .store-name2 .ensures)
+
+name-kept : tie.Need-same-length
+name-kept c = ap length (name-stored c) ∙ length-takenNames _ _ _ _ _ _
+
+no-name : tie.Need-returns-2
+unfolding takenNames
+no-name c = unmade _ (c .before .new-name .ensures) (c .if2 .left) (first (c .before .before))
+
+no-name-kept : tie.Need-same-length-2
+no-name-kept c = ap length (no-name c) ∙ length-takenNames _ _ _ _ _ _
 
 pub take-names-spec : {M : Type 1} → statement M
 take-names-spec =
     tie.close
     (tie.spec
     (λ c. search needs)
-    (λ c. omega (arith, c .shared-slice-known4 .given namesIndex))
+    count-wide
     (λ c κs. search needs)
     (λ c κs. search needs)
     (λ c κs. search needs)
     (λ c κs. search needs)
-    (λ c κs. as-long (c .before .before .before) ∙ c .before .before .before .before .before .before .before .before .before .before .before .pre .0)
-    (λ c. ap length (returns c) ∙ length-takenNames _ _ _ _ _ _)
-    returns
-    (λ c. ap length (returns-2 c) ∙ length-takenNames _ _ _ _ _ _)
-    returns-2)
+    still-sized
+    name-kept
+    name-stored
+    no-name-kept
+    no-name)

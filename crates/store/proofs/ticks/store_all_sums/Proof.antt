@@ -11,9 +11,20 @@ use borrow.Author.Needs.{needs}
 use Rattle.tables.specs.Entry.{namesIndex, nameCount, startedEntry, firstTime}
 use Rattle.decide.specs.Known.{newCore}
 use Rattle.store.specs.Store.{storeSums, withSums}
-use Rattle.store.proofs.Stores.{made, unmade, length-storeSums, length-withSums}
+use Rattle.store.proofs.Stores.{made, unmade, made-next, length-storeSums, length-withSums}
 use Rattle.store.proofs.ticks.store_all_sums.Statement.{statement}
 use Rattle.store.proofs.ticks.store_all_sums.Tie as tie
+
+-- from the place where the core's ticks are stored or not to the ones where those before it was tracked and the target's row are known, and to the start:
+-- the count of names is read there
+abbrev timed : tie.Joined1 → tie.After-before-tracked
+timed c = c .before .before
+
+abbrev rowed : tie.After-before-tracked → tie.After-target-row
+rowed c = c .before .before .before
+
+abbrev start : tie.Joined1 → tie.Start
+start c = let read = rowed (timed c) .before in read .before .before .before
 
 -- ticks with those of a new core
 abbrev with-core : tie.Start → List ℕ
@@ -22,31 +33,46 @@ with-core c =
     let unknown = cond (eqb (startedEntry (a .nums .now)) 0) 0 (a .time - firstTime (a .ticks .now)) in
     cond (eqb (newCore (a .s)) 1) (storeSums (a .ticks .now) (nameCount (a .nums .now)) unknown (a .time)) (a .ticks .now)
 
-first : (c : tie.Joined1) → c .if1 .ticks ≡ with-core (c .before .before .before .before .before .before .before .before .before)
+first : (c : tie.Joined1) → c .if1 .ticks ≡ with-core (start c)
 first c =
     let e = c .before .new-core .ensures in
-    let u = c .before .before .before-tracked .ensures in
+    let u = timed c .before-tracked .ensures in
     ⊎-elim (λ w. made _ e (w .0 .taken) (w .5 ∙ rw u at (w .2 .ensures))) (λ w. unmade _ e (w .0 .left) (w .1)) (c .if1 .came)
 
-as-long : (c : tie.Joined1) → length (c .if1 .ticks) ≡ length (c .before .before .before .before .before .before .before .before .before .args .ticks .now)
+as-long : (c : tie.Joined1) → length (c .if1 .ticks) ≡ length (start c .args .ticks .now)
 as-long c = ⊎-elim (λ w. ap length (w .5 ∙ w .2 .ensures) ∙ length-storeSums _ _ _ _) (λ w. ap length (w .1)) (c .if1 .came)
 
-returns : tie.Need-returns
-unfolding withSums
-returns c =
-    let n = c .before .before .before .before .before in
-    made _ (n .new-name .ensures) (c .before .before .before .before .if2 .taken) (rw (first (n .before), n .before .before .before .before .before .before .target-row .ensures) at (c .before .before .store-sums2 .ensures))
+count-wide : tie.Need-cast-at
+count-wide c = omega (arith, c .shared-slice-known2 .given namesIndex)
 
-returns-2 : tie.Need-returns-2
+still-sized : tie.Need-store-sums-requires-2
+still-sized c κs = let j = c .before .before .before in as-long j ∙ start j .pre .1
+
+name-stored : tie.Need-returns
 unfolding withSums
-returns-2 c = unmade _ (c .before .new-name .ensures) (c .if2 .left) (first (c .before .before))
+name-stored c =
+    let s = c .before .before in
+    let t = s .before .before in
+    let n = t .before in
+    let j = n .before in
+    made-next (λ l i. storeSums l i 0 0) (n .new-name .ensures) (t .if2 .taken) (first j) (rowed (timed j) .target-row .ensures) (s .store-sums2 .ensures)
+
+name-kept : tie.Need-same-length
+name-kept c = ap length (name-stored c) ∙ length-withSums _ _ _ _ _
+
+no-name : tie.Need-returns-2
+unfolding withSums
+no-name c = unmade _ (c .before .new-name .ensures) (c .if2 .left) (first (c .before .before))
+
+no-name-kept : tie.Need-same-length-2
+no-name-kept c = ap length (no-name c) ∙ length-withSums _ _ _ _ _
 
 pub store-all-sums-spec : {M : Type 1} → statement M
 store-all-sums-spec =
     tie.close
     (tie.spec
     (λ c. search needs)
-    (λ c. omega (arith, c .shared-slice-known2 .given namesIndex))
+    count-wide
     (λ c κs. search needs)
     (λ c. search needs)
     (λ c. search needs)
@@ -54,8 +80,8 @@ store-all-sums-spec =
     (λ c κs. search needs)
     (λ c κs. search needs)
     (λ c κs. search needs)
-    (λ c κs. as-long (c .before .before .before) ∙ c .before .before .before .before .before .before .before .before .before .before .before .before .pre .1)
-    (λ c. ap length (returns c) ∙ length-withSums _ _ _ _ _)
-    returns
-    (λ c. ap length (returns-2 c) ∙ length-withSums _ _ _ _ _)
-    returns-2)
+    still-sized
+    name-kept
+    name-stored
+    no-name-kept
+    no-name)
