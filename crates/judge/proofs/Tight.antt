@@ -19,7 +19,8 @@ use Rattle.tables.specs.Entry.{lineCount}
 use Rattle.tables.specs.Sized.{isSized}
 use Rattle.tables.specs.Range.{tableAnswer}
 use Rattle.tables.proofs.Zeros.{fresh-answer}
-use Rattle.judge.specs.Feed.{Tables, tables, After, placeIn, counted, judgedInPlace, judgedLine, fedLine, judgedLines, AfterChunk, fedChunk, verdictIn, verdictOf, freshTables}
+use Rattle.judge.specs.Feed.{Tables, tables, After, placeIn, counted, judgedInPlace, judgedLine, fedLine, judgedLines, AfterChunk, fedChunk}
+use Rattle.judge.specs.Feed.{verdictIn, verdictOf, freshTables}
 
 -- ---- `feed`
 
@@ -33,7 +34,8 @@ version-taken = rw fresh-answer
 
 -- a comment, first of all, is not
 comment-refused : fedLine freshTables (bytes "# ") .answer ≡ 2
-unfolding fedLine judgedLine judgedInPlace placeIn answerByReading readLine hasBreak isEventLine parameterReading isVersion isVersionLine isComment startsWith sameBytes
+unfolding fedLine judgedLine judgedInPlace placeIn answerByReading readLine hasBreak isEventLine parameterReading isVersion
+    isVersionLine isComment startsWith sameBytes
 comment-refused = rw fresh-answer
 
 pub feed-not-refusing : (g : Tables × List ℕ → After) → ((x : Tables × List ℕ) → g x .answer ≡ 0 → ⊥) → ShutsOut feeds g
@@ -52,7 +54,8 @@ abbrev feedsChunk : Tables × List ℕ → AfterChunk
 feedsChunk (t, c) = fedChunk t c
 
 -- an unfinished line is not used up
-pub chunk-not-used-up : ShutsOut feedsChunk (λ (t, c). record { fed = record { answer = fedChunk t c .fed .answer; used = length c }; left = fedChunk t c .left })
+pub chunk-not-used-up :
+    ShutsOut feedsChunk (λ (t, c). record { fed = record { answer = fedChunk t c .fed .answer; used = length c }; left = fedChunk t c .left })
 unfolding fedChunk usedUp closed ended pieces
 chunk-not-used-up = shut-out (λ x. eqb (x .fed .used) 0) (freshTables, bytes "#version") (rw fresh-answer) refl
 
@@ -61,7 +64,8 @@ abbrev oneLine : List ℕ
 oneLine = bytes "#version 2.2.0" ++ 10 ∷ []
 
 line-counted : lineCount (fedChunk freshTables oneLine .left .nums) ≡ 1
-unfolding fedChunk judgedLines wholeLines lineText ended pieces judgedLine judgedInPlace placeIn answerByReading counted readLine hasBreak isEventLine parameterReading isVersion sameBytes
+unfolding fedChunk judgedLines wholeLines lineText ended pieces judgedLine judgedInPlace placeIn answerByReading counted readLine hasBreak isEventLine
+    parameterReading isVersion sameBytes
 line-counted = rw fresh-answer
 
 -- it feeds nothing: the fresh tables are left as they were, whatever it says

@@ -2,7 +2,7 @@
 use mathlib.Core.Path.{ap, _∙_}
 use lib.ListN.{length}
 use borrow.Author.Needs.{needs}
-use Rattle.judge.proofs.Feeds.{length-entry}
+use Rattle.judge.proofs.Sizes.{length-entry}
 use Rattle.judge.proofs.feed.count_entry.Statement.{statement}
 use Rattle.judge.proofs.feed.count_entry.Tie as tie
 
@@ -13,5 +13,8 @@ count-entry-spec =
     (λ c. search needs)
     (λ c. search needs)
     (λ c κs. search needs)
-    (λ c. let a = c .before .before .before .before .before .args in ap length (c .before .before .count-line .ensures .1) ∙ length-entry (a .nums .now) (a .at) (a .value))
+    (λ c.
+    let l = c .before .before in
+    let a = l .before .before .before .args in
+    ap length (l .count-line .ensures .1) ∙ length-entry (a .nums .now) (a .at) (a .value))
     (λ c. search needs))

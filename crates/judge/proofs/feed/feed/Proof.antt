@@ -4,10 +4,24 @@ use Rattle.judge.proofs.Feeds.{refused-fed, judged-fed, sized}
 use Rattle.judge.proofs.feed.feed.Statement.{statement}
 use Rattle.judge.proofs.feed.feed.Tie as tie
 
-returns-2 : tie.Need-returns-2
-returns-2 c =
-    let l = c .before .before .before .before .before .before in
-    let i = l .before .before .before .before in
+-- from the end to the call, from which the three tables come back
+abbrev called : tie.After-slice-known6 → tie.After-line-in
+called c = let nums-back = c .before .before .before in nums-back .before .before .before
+
+-- from the call to the place where the tables are found right: they are lent to it
+abbrev tested : tie.After-line-in-arg3 → tie.Else1
+tested c = c .before .before .before
+
+refused : tie.Need-returns
+refused c = refused-fed _ _ (c .before .table-answer .ensures) (c .if1 .taken)
+
+line-in-requires : tie.Need-line-in-requires
+line-in-requires c κs = let i = tested c in sized _ (i .before .table-answer .ensures) (i .if1 .left)
+
+judged : tie.Need-returns-2
+judged c =
+    let l = called c in
+    let i = tested (l .before) in
     judged-fed _ _ (i .before .table-answer .ensures) (i .if1 .left) (l .line-in .ensures)
 
 pub feed-spec : {M : Type 1} → statement M
@@ -18,9 +32,9 @@ feed-spec =
     (λ c. search needs)
     (λ c. search needs)
     (λ c. search needs)
-    (λ c. refused-fed _ _ (c .before .table-answer .ensures) (c .if1 .taken))
-    (λ c κs. let i = c .before .before .before in sized _ (i .before .table-answer .ensures) (i .if1 .left))
+    refused
+    line-in-requires
     (λ c. search needs)
     (λ c. search needs)
     (λ c. search needs)
-    returns-2)
+    judged)

@@ -1,14 +1,42 @@
 -- `judge::feed::feed_chunk` meets its contract: the tables are tested once, and keep their sizes over the lines.
 use native.Mathlib.Omega.{arith}
 use borrow.Author.Needs.{needs}
-use Rattle.judge.proofs.Feeds.{lines-alike, sized, refused-chunk, judged-chunk}
+use Rattle.judge.proofs.Sizes.{lines-alike}
+use Rattle.judge.proofs.Feeds.{sized, refused-chunk, judged-chunk}
 use Rattle.judge.proofs.feed.feed_chunk.Statement.{statement}
 use Rattle.judge.proofs.feed.feed_chunk.Tie as tie
 
-returns-2 : tie.Need-returns-2
-returns-2 c =
-    let l = c .before .before .before .before .before .before .before in
-    let i = l .before .before .before .before in
+-- from the place where the verdict is read to the lines, from which the three tables come back
+abbrev called : tie.After-slice-known7 → tie.After-lines-in
+called c =
+    let ticks-back = c .before in
+    let nums-back = ticks-back .before .before .before in
+    nums-back .before .before .before
+
+-- from the lines to the place where the tables are found right: they are lent to them
+abbrev tested : tie.After-lines-in-arg3 → tie.Else1
+tested c = c .before .before .before
+
+refused : tie.Need-returns
+refused c = refused-chunk _ _ (c .before .table-answer .ensures) (c .if1 .taken)
+
+lines-in-requires : tie.Need-lines-in-requires
+lines-in-requires c κs = let i = tested c in sized _ (i .before .table-answer .ensures) (i .if1 .left)
+
+verdict-inside : tie.Need-slice-read-t21
+verdict-inside c =
+    let l = called c in
+    let i = tested (l .before) in
+    omega (
+      arith,
+      sized _ (i .before .table-answer .ensures) (i .if1 .left) .nums-size,
+      lines-alike _ (l .lines-in .ensures .1) .nums-kept,
+    )
+
+judged : tie.Need-returns-2
+judged c =
+    let l = called c in
+    let i = tested (l .before) in
     judged-chunk _ _ (i .before .table-answer .ensures) (i .if1 .left) (l .lines-in .ensures .0) (l .lines-in .ensures .1)
 
 pub feed-chunk-spec : {M : Type 1} → statement M
@@ -19,17 +47,10 @@ feed-chunk-spec =
     (λ c. search needs)
     (λ c. search needs)
     (λ c. search needs)
-    (λ c. refused-chunk _ _ (c .before .table-answer .ensures) (c .if1 .taken))
-    (λ c κs. let i = c .before .before .before in sized _ (i .before .table-answer .ensures) (i .if1 .left))
-    (λ c.
-    let l = c .before .before .before .before .before .before .before in
-    let i = l .before .before .before .before in
-    omega (
-      arith,
-      sized _ (i .before .table-answer .ensures) (i .if1 .left) .nums-size,
-      lines-alike _ (l .lines-in .ensures .1) .nums-kept,
-    ))
+    refused
+    lines-in-requires
+    verdict-inside
     (λ c. search needs)
     (λ c. search needs)
     (λ c. search needs)
-    returns-2)
+    judged)

@@ -7,49 +7,68 @@ use Rattle.judge.proofs.Feeds.{verdict-again, placed-judged, refused-pl
 use Rattle.judge.proofs.feed.line_in.Statement.{statement}
 use Rattle.judge.proofs.feed.line_in.Tie as tie
 
+-- from the answer on the line's place to its reading: nums is lent between them, and the commas are kept
+abbrev read : tie.After-answer-in-place → tie.After-read-split
+read c = let lent = c .before .before in lent .before .before
+
+-- and to the start: the verdict is read there, and the tables are known before
+abbrev start : tie.After-read-split → tie.Start
+start c =
+    let verdict = c .before .before in
+    let tables = verdict .before .before in
+    tables .before .before .before
+
+-- from the last call to the place where the line is found in its place: the three tables are lent to it
+abbrev placed : tie.After-read-in-arg3 → tie.Else2
+placed c = c .before .before .before
+
+-- and to it from the end: the three tables come back
+abbrev called : tie.After-slice-known8 → tie.After-read-in
+called c = let nums-back = c .before .before .before in nums-back .before .before .before
+
 -- by the answer in its place
-placed : (c : tie.After-answer-in-place) →
-    let a = c .before .before .before .before .before .before .before .before .before .before .before .args in
+answered : (c : tie.After-answer-in-place) →
+    let a = start (read c) .args in
     let t = tables (a .names .now) (a .nums .now) (a .ticks .now) in
     judgedInPlace (c .answer-in-place .result) t (a .l .now) ≡ judgedLine t (a .l .now)
-placed c =
-    let r = c .before .before .before .before in
-    placed-judged _ _ (r .before .if1 .left) (c .before .place-in .ensures) (ap (λ (s : Split). s .reading) (r .read-split .ensures)) (c .answer-in-place .ensures)
+answered c =
+    let r = read c in
+    let reading = ap (λ (s : Split). s .reading) (r .read-split .ensures) in
+    placed-judged _ _ (r .before .if1 .left) (c .before .place-in .ensures) reading (c .answer-in-place .ensures)
 
-returns : tie.Need-returns
-returns c = verdict-again _ _ (c .if1 .taken)
+again : tie.Need-returns
+again c = verdict-again _ _ (c .if1 .taken)
 
-returns-2 : tie.Need-returns-2
-returns-2 c =
+refused : tie.Need-returns-2
+refused c =
     let r = c .before .before in
     let i = r .before .before in
-    refused-placed _ _ (i .if2 .taken) (r .remember .ensures .0) (r .remember .ensures .1) ∙ placed (i .before)
+    refused-placed _ _ (i .if2 .taken) (r .remember .ensures .0) (r .remember .ensures .1) ∙ answered (i .before)
 
 read-in-requires : tie.Need-read-in-requires
-read-in-requires c κs =
-    let i = c .before .before .before in
-    (search needs, ap (λ (s : Split). s .commas) (i .before .before .before .before .before .read-split .ensures))
+read-in-requires c κs = (search needs, ap (λ (s : Split). s .commas) (read (placed c .before) .read-split .ensures))
 
-returns-3 : tie.Need-returns-3
-returns-3 c =
-    let r = c .before .before .before .before .before .before in
-    let i = r .before .before .before .before in
-    read-placed _ _ (i .if2 .left) (ap (λ (s : Split). s .reading) (i .before .before .before .before .before .read-split .ensures)) (r .read-in .ensures) ∙ placed (i .before)
+judged : tie.Need-returns-3
+judged c =
+    let r = called c in
+    let i = placed (r .before) in
+    let reading = ap (λ (s : Split). s .reading) (read (i .before) .read-split .ensures) in
+    read-placed _ _ (i .if2 .left) reading (r .read-in .ensures) ∙ answered (i .before)
 
 pub line-in-spec : {M : Type 1} → statement M
 line-in-spec =
     tie.close
     (tie.spec
     (λ c. search needs)
-    returns
+    again
     (λ c κs. search needs)
     (λ c κs. search needs)
     (λ c κs. search needs)
     (λ c κs. search needs)
     (λ c. search needs)
-    returns-2
+    refused
     read-in-requires
     (λ c. search needs)
     (λ c. search needs)
     (λ c. search needs)
-    returns-3)
+    judged)

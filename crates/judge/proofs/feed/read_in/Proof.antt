@@ -3,38 +3,42 @@ use borrow.Author.Needs.{needs}
 use Rattle.judge.proofs.feed.read_in.Statement.{statement}
 use Rattle.judge.proofs.feed.read_in.Tie as tie
 
-returns : tie.Need-returns
-returns c =
+version : tie.Need-returns
+version c =
     let r = c .before .before in
     rw (r .before .before .enum-told .given .1, r .count-line .ensures .0, r .count-line .ensures .1)
 
-returns-2 : tie.Need-returns-2
-returns-2 c =
+comment : tie.Need-returns-2
+comment c =
     let r = c .before .before in
     rw (r .before .before .enum-told2 .given .1, r .count-line2 .ensures .0, r .count-line2 .ensures .1)
 
-returns-3 : tie.Need-returns-3
-returns-3 c =
+time-scale : tie.Need-returns-3
+time-scale c =
     let r = c .before .before in
-    rw (r .before .before .before .before .r .given .1, r .count-entry .ensures .0, r .count-entry .ensures .1, r .before .scale-number .ensures)
+    let told = r .before .before .before in
+    rw (told .before .r .given .1, r .count-entry .ensures .0, r .count-entry .ensures .1, r .before .scale-number .ensures)
 
-returns-4 : tie.Need-returns-4
-returns-4 c =
+creator : tie.Need-returns-4
+creator c =
     let r = c .before .before in
     rw (r .before .before .enum-told3 .given .1, r .count-entry2 .ensures .0, r .count-entry2 .ensures .1)
 
-returns-5 : tie.Need-returns-5
-returns-5 c =
+creation-date : tie.Need-returns-5
+creation-date c =
     let r = c .before .before in
     rw (r .before .before .enum-told4 .given .1, r .count-entry3 .ensures .0, r .count-entry3 .ensures .1)
 
-returns-6 : tie.Need-returns-6
-returns-6 c =
-    let r = c .before .before .before .before .before .before in
-    rw (r .before .before .before .before .before .r2 .given .1) (r .event-in .ensures)
+-- the three tables are lent to the call and come back
+event-line : tie.Need-returns-6
+event-line c =
+    let nums-back = c .before .before .before in
+    let r = nums-back .before .before .before in
+    let lent = r .before .before .before in
+    rw (lent .before .before .r2 .given .1) (r .event-in .ensures)
 
-returns-7 : tie.Need-returns-7
-returns-7 c = rw (c .enum-told5 .given .1)
+refused : tie.Need-returns-7
+refused c = rw (c .enum-told5 .given .1)
 
 pub read-in-spec : {M : Type 1} → statement M
 read-in-spec =
@@ -55,17 +59,17 @@ read-in-spec =
     (λ c κs. search needs)
     (λ c. search needs)
     (λ c. search needs)
-    returns
+    version
     (λ c. search needs)
-    returns-2
+    comment
     (λ c. search needs)
-    returns-3
+    time-scale
     (λ c. search needs)
-    returns-4
+    creator
     (λ c. search needs)
-    returns-5
+    creation-date
     (λ c. search needs)
     (λ c. search needs)
     (λ c. search needs)
-    returns-6
-    returns-7)
+    event-line
+    refused)

@@ -5,21 +5,21 @@ use Rattle.judge.specs.Feed.{verdictIn}
 use Rattle.judge.proofs.feed.verdict_in.Statement.{statement}
 use Rattle.judge.proofs.feed.verdict_in.Tie as tie
 
-returns : tie.Need-returns
+refused : tie.Need-returns
 unfolding verdictIn
-returns c =
+refused c =
     let t = c .before .before in
     rw (ne-eqb _ 0 (t .if1 .taken), t .before .before .before .span-in .ensures)
 
-returns-2 : tie.Need-returns-2
+nothing-taken : tie.Need-returns-2
 unfolding verdictIn
-returns-2 c =
+nothing-taken c =
     let t = c .before .before in
     rw (eq-eqb _ 0 (t .if1 .left), eq-eqb _ 0 (c .if2 .taken), t .before .before .before .span-in .ensures)
 
-returns-3 : tie.Need-returns-3
+no-scale : tie.Need-returns-3
 unfolding verdictIn
-returns-3 c =
+no-scale c =
     let u = c .before .before in
     let s = u .before in
     let t = s .before .before in
@@ -31,9 +31,9 @@ returns-3 c =
       c .wrapping-add-u32 .ensures,
     )
 
-returns-4 : tie.Need-returns-4
+all-taken : tie.Need-returns-4
 unfolding verdictIn
-returns-4 c =
+all-taken c =
     let s = c .before in
     let t = s .before .before in
     rw (eq-eqb _ 0 (t .if1 .left), ne-eqb _ 0 (s .if2 .left), ne-eqb _ 0 (c .if3 .left), t .before .before .before .span-in .ensures)
@@ -47,10 +47,10 @@ verdict-in-spec =
     (λ c. search needs)
     (λ c. search needs)
     (λ c. search needs)
-    returns
+    refused
     (λ c. search needs)
-    returns-2
+    nothing-taken
     (λ c. search needs)
     (λ c κs. search needs)
-    returns-3
-    returns-4)
+    no-scale
+    all-taken)

@@ -24,9 +24,9 @@ take-in-requires c κs =
     let a = start (d .before) .args in
     sizes-mean (a .names .now) (a .nums .now) (a .ticks .now) .holds (passed (d .before .sized .ensures) (d .if1 .left))
 
-returns-2 : tie.Need-returns-2
+taken : tie.Need-returns-2
 unfolding stored
-returns-2 c =
+taken c =
     let t = called c in
     let d = fitted (t .before) in
     rw (passed (d .before .sized .ensures) (d .if1 .left)) (t .take-in .ensures)
@@ -42,4 +42,4 @@ take-spec =
     (λ c. search needs)
     (λ c. search needs)
     (λ c. search needs)
-    returns-2)
+    taken)
