@@ -43,6 +43,9 @@ step : (c : tie.After-next Inv-loop μ-loop)
     → Stepped (start (turned c) .args .chunk .now) (turned c .loop .at) (c .next .given .0 .0) (c .next .given .0 .1 .0)
 step c = line-step _ _ _ _ (sym (c .before .before .line-from .ensures) ∙ c .next .given .1)
 
+begins : tie.Need-loop-holds Inv-loop μ-loop
+begins c = going-start _ _
+
 names-kept : tie.Need-same-length Inv-loop μ-loop
 names-kept c = rested c .loop .inv .alike .names-kept
 
@@ -84,7 +87,7 @@ lines-in-spec =
     (tie.spec
     Inv-loop
     μ-loop
-    (λ c. going-start _ _)
+    begins
     (λ c κs. search needs)
     (λ c. search needs)
     (λ c. search needs)
