@@ -28,9 +28,6 @@ use Rattle.store.specs.Store.{stored}
 use Rattle.store.proofs.Stores.{stored-sized}
 use Rattle.judge.specs.Feed.{Tables, After, after, placeIn, remembered, carried, judgedEvent, judgedReading, judgedInPlace, judgedLine, fedLine}
 use Rattle.judge.specs.Feed.{judgedLines, chunked, fedChunk, verdict, verdictIn, verdictOf}
--- the laws of sizes and of many lines that the crates above cite here
-pub use Rattle.judge.proofs.Sizes.{length-remembered, length-counted, length-entry, judgedLine-alike, fresh-sized}
-pub use Rattle.judge.proofs.Traces.{judgedLines-append}
 
 -- ---- an event line
 
@@ -56,18 +53,18 @@ module _ (t : Tables) (l : List ℕ) where
   unfolding judgedLine
   verdict-again h = rw (ne-eqb (verdictNumber (t .nums)) 0 h)
 
-  pub placed-judged : {p : Place} {r : Reading} {n : ℕ} → verdictNumber (t .nums) ≡ 0 → p ≡ placeIn (t .nums) → r ≡ readLine l
+  pub in-place-judged : {p : Place} {r : Reading} {n : ℕ} → verdictNumber (t .nums) ≡ 0 → p ≡ placeIn (t .nums) → r ≡ readLine l
       → n ≡ answerByReading p r → judgedInPlace n t l ≡ judgedLine t l
   unfolding judgedLine
-  placed-judged h pp pr pn = rw (eq-eqb (verdictNumber (t .nums)) 0 h, pn, pp, pr)
+  in-place-judged h pp pr pn = rw (eq-eqb (verdictNumber (t .nums)) 0 h, pn, pp, pr)
 
-  pub refused-placed : {r n : ℕ} {m : List ℕ} → (n ≡ 0 → ⊥) → r ≡ n → m ≡ remembered (t .nums) n → after r (t .names) m (t .ticks) ≡ judgedInPlace n t l
+  pub refused-in-place : {r n : ℕ} {m : List ℕ} → (n ≡ 0 → ⊥) → r ≡ n → m ≡ remembered (t .nums) n → after r (t .names) m (t .ticks) ≡ judgedInPlace n t l
   unfolding judgedInPlace
-  refused-placed {r} {n} h pr pm = rw (pr, pm) (sym (if-some n (judgedReading (readLine l) t l) (after n (t .names) (remembered (t .nums) n) (t .ticks)) h))
+  refused-in-place {r} {n} h pr pm = rw (pr, pm) (sym (if-some n (judgedReading (readLine l) t l) (after n (t .names) (remembered (t .nums) n) (t .ticks)) h))
 
-  pub read-placed : {x : After} {r : Reading} {n : ℕ} → n ≡ 0 → r ≡ readLine l → x ≡ judgedReading r t l → x ≡ judgedInPlace n t l
+  pub read-in-place : {x : After} {r : Reading} {n : ℕ} → n ≡ 0 → r ≡ readLine l → x ≡ judgedReading r t l → x ≡ judgedInPlace n t l
   unfolding judgedInPlace
-  read-placed h pr px = rw (h, ← pr) px
+  read-in-place h pr px = rw (h, ← pr) px
 
 -- ---- the tables tested first
 

@@ -7,7 +7,7 @@ use Rattle.rules.specs.Lines.{eventsOf}
 use Rattle.rules.specs.Trace.{placeOf}
 use Rattle.rules.proofs.Tests.{clash}
 use Rattle.judge.specs.Feed.{placeIn, freshTables}
-use Rattle.judge.proofs.Feeds.{fresh-sized}
+use Rattle.judge.proofs.Sizes.{fresh-sized}
 use Rattle.promises.specs.Shown.{Shown, Shows}
 
 fresh-shown : Shown [] freshTables

@@ -15,7 +15,8 @@ use Rattle.rules.proofs.Traces.{nothing-kept, number-sound, Names, verdict-name
 use Rattle.tables.specs.Sized.{isSized}
 use Rattle.tables.specs.Range.{tableAnswer}
 use Rattle.judge.specs.Feed.{Tables, After, fedLine, judgedLines, fedChunk, verdictIn, verdictOf, freshTables, judgedTrace}
-use Rattle.judge.proofs.Feeds.{judgedLines-append, judged-fed}
+use Rattle.judge.proofs.Feeds.{judged-fed}
+use Rattle.judge.proofs.Traces.{judgedLines-append}
 use Rattle.promises.specs.Fed.{allFed, chunksFed, joined, AtLineEnds}
 use Rattle.promises.proofs.Traces.{Followed, followed}
 use Rattle.promises.proofs.Limits.{refusal-small, shows-valid}

@@ -26,7 +26,7 @@ use Rattle.rules.proofs.Places.{by-reading-right, nextPlace, place-next}
 use Rattle.tables.specs.Entry.{numsSize, verdictIndex, verdictLineIndex, linesIndex, scaleIndex, creatorIndex, dateIndex, startedIndex}
 use Rattle.tables.specs.Entry.{verdictNumber, verdictLine, lineCount, scaleEntry, creatorEntry, dateEntry}
 use Rattle.judge.specs.Feed.{Tables, tables, After, after, placeIn, remembered, counted, judgedEvent, judgedReading, judgedInPlace, judgedLine}
-use Rattle.judge.proofs.Feeds.{length-counted, length-entry}
+use Rattle.judge.proofs.Sizes.{length-counted, length-entry}
 use Rattle.promises.specs.Shown.{Shown, Shows}
 use Rattle.promises.proofs.Agreeing.{AgreeFrom, shown-later}
 use Rattle.promises.proofs.LineEntries.{counted-entry, counted-before, counted-later, stored-entry, stored-before, stored-later}

@@ -25,7 +25,7 @@ use Rattle.decide.specs.declared.plan.Plan.the-variants.{Refuse, Take}
 use Rattle.decide.specs.Decide.{planAnswer, planOf}
 use Rattle.decide.proofs.Decided.{plan-refuses}
 use Rattle.judge.specs.Feed.{Tables, After, after, placeIn, remembered, counted, carried, judgedEvent, judgedReading, judgedInPlace, judgedLine, judgedLines}
-use Rattle.judge.proofs.Feeds.{judgedLine-alike}
+use Rattle.judge.proofs.Sizes.{judgedLine-alike}
 use Rattle.promises.proofs.Entries.{verdict-number-kept}
 use Rattle.promises.proofs.LineEntries.{counted-before, stored-before, remembered-number}
 use Rattle.promises.proofs.PlaceAnswers.{place-most}

@@ -26,7 +26,8 @@ use Rattle.rules.specs.Trace.{tooMuch, placeTests, answerInPlace, answerAt, ref
 use Rattle.rules.specs.Text.{traceText}
 use Rattle.tables.specs.Entry.{verdictNumber}
 use Rattle.judge.specs.Feed.{Tables, After, judgedInPlace, judgedLine, judgedLines, fedLine, fedChunk, freshTables}
-use Rattle.judge.proofs.Feeds.{judgedLines-append, judged-chunk}
+use Rattle.judge.proofs.Feeds.{judged-chunk}
+use Rattle.judge.proofs.Traces.{judgedLines-append}
 use Rattle.rules.specs.First.{firstRefusal}
 use Rattle.promises.specs.Fed.{joined}
 use Rattle.promises.proofs.Traces.{further}

@@ -25,7 +25,8 @@ use Rattle.decide.specs.declared.plan.Plan.the-variants.{Refuse, Take}
 use Rattle.decide.specs.Decide.{planOf}
 use Rattle.judge.specs.Feed.{Tables, tables, After, after, placeIn, remembered, carried, judgedEvent, judgedReading, judgedInPlace}
 use Rattle.judge.specs.Feed.{judgedLine, judgedLines, fedLine, AfterChunk, fedChunk, verdict, verdictOf, AfterTrace, judgedTrace}
-use Rattle.judge.proofs.Feeds.{judgedLine-alike, verdict-again}
+use Rattle.judge.proofs.Sizes.{judgedLine-alike}
+use Rattle.judge.proofs.Feeds.{verdict-again}
 use Rattle.promises.proofs.Agreeing.{AgreeFrom}
 use Rattle.promises.proofs.LineEntries.{remembered-later}
 use Rattle.promises.proofs.Traces.{further}

@@ -12,7 +12,8 @@ use Rattle.rules.specs.Trace.{placeOf, answerAt, takenLines, refusalOn}
 use Rattle.rules.proofs.Traces.{Kept, kept-next}
 use Rattle.tables.specs.Entry.{linesIndex, scaleIndex, creatorIndex, dateIndex, startedIndex, verdictNumber, verdictLine, lineCount}
 use Rattle.judge.specs.Feed.{Tables, tables, After, placeIn, remembered, judgedLine, judgedLines}
-use Rattle.judge.proofs.Feeds.{length-remembered, verdict-again}
+use Rattle.judge.proofs.Sizes.{length-remembered}
+use Rattle.judge.proofs.Feeds.{verdict-again}
 use Rattle.promises.specs.Shown.{Shows}
 use Rattle.promises.specs.Fed.{rememberedIn}
 use Rattle.promises.proofs.Agreeing.{shown-later}

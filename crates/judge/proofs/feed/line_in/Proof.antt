@@ -3,7 +3,7 @@ use mathlib.Core.Path.{_≡_, ap, _∙_}
 use borrow.Author.Needs.{needs}
 use Rattle.line.specs.declared.reading.Split.{Split}
 use Rattle.judge.specs.Feed.{tables, judgedInPlace, judgedLine}
-use Rattle.judge.proofs.Feeds.{verdict-again, placed-judged, refused-placed, read-placed}
+use Rattle.judge.proofs.Feeds.{verdict-again, in-place-judged, refused-in-place, read-in-place}
 use Rattle.judge.proofs.feed.line_in.Statement.{statement}
 use Rattle.judge.proofs.feed.line_in.Tie as tie
 
@@ -34,7 +34,7 @@ answered : (c : tie.After-answer-in-place) →
 answered c =
     let r = read c in
     let reading = ap (λ (s : Split). s .reading) (r .read-split .ensures) in
-    placed-judged _ _ (r .before .if1 .left) (c .before .place-in .ensures) reading (c .answer-in-place .ensures)
+    in-place-judged _ _ (r .before .if1 .left) (c .before .place-in .ensures) reading (c .answer-in-place .ensures)
 
 again : tie.Need-returns
 again c = verdict-again _ _ (c .if1 .taken)
@@ -43,7 +43,7 @@ refused : tie.Need-returns-2
 refused c =
     let r = c .before .before in
     let i = r .before .before in
-    refused-placed _ _ (i .if2 .taken) (r .remember .ensures .0) (r .remember .ensures .1) ∙ answered (i .before)
+    refused-in-place _ _ (i .if2 .taken) (r .remember .ensures .0) (r .remember .ensures .1) ∙ answered (i .before)
 
 read-in-requires : tie.Need-read-in-requires
 read-in-requires c κs = (search needs, ap (λ (s : Split). s .commas) (read (placed c .before) .read-split .ensures))
@@ -53,7 +53,7 @@ judged c =
     let r = called c in
     let i = placed (r .before) in
     let reading = ap (λ (s : Split). s .reading) (read (i .before) .read-split .ensures) in
-    read-placed _ _ (i .if2 .left) reading (r .read-in .ensures) ∙ answered (i .before)
+    read-in-place _ _ (i .if2 .left) reading (r .read-in .ensures) ∙ answered (i .before)
 
 pub line-in-spec : {M : Type 1} → statement M
 line-in-spec =
