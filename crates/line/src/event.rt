@@ -160,28 +160,21 @@ pub(crate) fn read_event(line: &[u8], c: Commas, plain: bool) -> Reading
 {
     let n = line.len();
     let c1 = c.c1;
-    let c2 = c.c2;
-    let c3 = c.c3;
-    let c4 = c.c4;
-    let c5 = c.c5;
-    let c6 = c.c6;
-    let c7 = c.c7;
-    let c8 = c.c8;
-    if n <= c6 {
+    if n <= c.c6 {
         return Reading::Refused(5);
     }
-    if c8 < n {
+    if c.c8 < n {
         return Reading::Refused(5);
     }
     let time = &line[0..c1];
-    let source = between(line, c1, c2);
-    let source_instance = between(line, c2, c3);
-    let kind = between(line, c3, c4);
-    let target = between(line, c4, c5);
-    let target_instance = between(line, c5, c6);
-    let action = between(line, c6, c7);
-    let note = between(line, c7, c8);
-    let noted = c7 < n;
+    let source = between(line, c1, c.c2);
+    let source_instance = between(line, c.c2, c.c3);
+    let kind = between(line, c.c3, c.c4);
+    let target = between(line, c.c4, c.c5);
+    let target_instance = between(line, c.c5, c.c6);
+    let action = between(line, c.c6, c.c7);
+    let note = between(line, c.c7, c.c8);
+    let noted = c.c7 < n;
     read_fields(
         time,
         source,

@@ -8,8 +8,9 @@ use native.Mathlib.Omega.{arith}
 use lib.ListN.{length, drop, length-take}
 use Rattle.text.specs.Name.{isName}
 use Rattle.text.proofs.Names.{name-length}
+use Rattle.line.specs.Event.{maxTime}
 use Rattle.rules.specs.Words.{core, semaphore}
-use Rattle.rules.specs.Limits.{lastRefusal}
+use Rattle.rules.specs.Limits.{coreLimit, lastRefusal}
 use Rattle.rules.specs.Chart.{isStateOf}
 use Rattle.rules.specs.Charts.{chartOf}
 use Rattle.rules.specs.History.{hasInstances}
@@ -50,9 +51,9 @@ pub record Valid (names nums ticks : List ℕ) : Type 0 where
   pub date : dateEntry nums ≤ 1
   pub started : startedEntry nums ≤ 1
   pub name-count : nameCount nums ≤ nameRows
-  pub core-count : coreCount nums ≤ 64
+  pub core-count : coreCount nums ≤ coreLimit
   pub instance-count : instanceCount nums ≤ instanceRows
-  pub last-time : lastTime ticks ≤ 72057594037927935
+  pub last-time : lastTime ticks ≤ maxTime
   pub first-time : firstTime ticks ≤ lastTime ticks
   pub name-row : (i : ℕ) → i < nameCount nums → NameRow names nums ticks i
   pub instance-row : (j : ℕ) → j < instanceCount nums → InstanceRow nums j
@@ -75,14 +76,14 @@ line-level-mean nums =
     (means-and (means-le (lineCount nums) 1000000000)
     (means-and (means-le (scaleEntry nums) 5) (means-and (means-le (creatorEntry nums) 1) (means-le (dateEntry nums) 1)))))
 
-pub counts-mean : (nums : List ℕ) → Means (countsOk nums) ((startedEntry nums ≤ 1) × ((nameCount nums ≤ nameRows) × ((coreCount nums ≤ 64) × (instanceCount nums ≤ instanceRows))))
+pub counts-mean : (nums : List ℕ) → Means (countsOk nums) ((startedEntry nums ≤ 1) × ((nameCount nums ≤ nameRows) × ((coreCount nums ≤ coreLimit) × (instanceCount nums ≤ instanceRows))))
 unfolding countsOk
 counts-mean nums =
-    means-and (means-le (startedEntry nums) 1) (means-and (means-le (nameCount nums) nameRows) (means-and (means-le (coreCount nums) 64) (means-le (instanceCount nums) instanceRows)))
+    means-and (means-le (startedEntry nums) 1) (means-and (means-le (nameCount nums) nameRows) (means-and (means-le (coreCount nums) coreLimit) (means-le (instanceCount nums) instanceRows)))
 
-times-mean : (ticks : List ℕ) → Means (timesOk ticks) ((lastTime ticks ≤ 72057594037927935) × (firstTime ticks ≤ lastTime ticks))
+times-mean : (ticks : List ℕ) → Means (timesOk ticks) ((lastTime ticks ≤ maxTime) × (firstTime ticks ≤ lastTime ticks))
 unfolding timesOk
-times-mean ticks = means-and (means-le (lastTime ticks) 72057594037927935) (means-le (firstTime ticks) (lastTime ticks))
+times-mean ticks = means-and (means-le (lastTime ticks) maxTime) (means-le (firstTime ticks) (lastTime ticks))
 
 sums-mean : (ticks : List ℕ) (i : ℕ) → Means (sumsOk ticks i) ((heldAt ticks i ≤ maxSum) × ((idleAt ticks i ≤ maxSum) × ((unknownAt ticks i ≤ maxSum) × (sinceAt ticks i ≤ lastTime ticks))))
 unfolding sumsOk

@@ -51,22 +51,22 @@ fn ends_differ(names: &[u8], name: &[u8], i: usize) -> bool
     differ
 }
 
-// A row from `from` on before which none holds the name.
-fn skip_names(names: &[u8], name: &[u8], from: usize, to: usize) -> usize
+// A row from `start` on before which none holds the name.
+fn skip_names(names: &[u8], name: &[u8], start: usize, to: usize) -> usize
     requires { ⌜ length (now names) ≡ namesSize ⌝ }
-    ensures { λ r. ⌜ («from» ≤ r) × ((nums : List ℕ) → firstFrom (rowIs (now (names .entry)) nums (now (name .entry))) «from» (to - «from»)
+    ensures { λ r. ⌜ (start ≤ r) × ((nums : List ℕ) → firstFrom (rowIs (now (names .entry)) nums (now (name .entry))) start (to - start)
         ≡ firstFrom (rowIs (now (names .entry)) nums (now (name .entry))) r (to - r)) ⌝ }
 {
     if name.len() < 4 {
-        return from;
+        return start;
     }
     if NAME_ROOM < name.len() {
-        return from;
+        return start;
     }
     if NAME_ROWS < to {
-        return from;
+        return start;
     }
-    let mut i = from;
+    let mut i = start;
     while i < to {
         if !ends_differ(names, name, i) {
             return i;
@@ -81,16 +81,16 @@ fn first_row(names: &[u8], nums: &[u32], name: &[u8], n: usize) -> Found
     requires { ⌜ (length (now names) ≡ namesSize) × (length (now nums) ≡ numsSize) ⌝ }
     ensures { λ r. ⌜ r ≡ firstFrom (rowIs (now (names .entry)) (now (nums .entry)) (now (name .entry))) 0 n ⌝ }
 {
-    let mut from = 0;
+    let mut start = 0;
     loop {
-        let i = skip_names(names, name, from, n);
+        let i = skip_names(names, name, start, n);
         if n <= i {
             return Found::Nothing;
         }
         if row_is(names, nums, name, i) {
             return Found::At(i);
         }
-        from = i + 1;
+        start = i + 1;
     }
 }
 
@@ -122,17 +122,17 @@ fn instance_is(nums: &[u32], owner: u32, number: u32, j: usize) -> bool
     nums[OWNER + j] == owner
 }
 
-// Whether one of the eight rows from `from` on is the instance of an owner with a number; `false` is what it promises. All eight are looked
+// Whether one of the eight rows from `start` on is the instance of an owner with a number; `false` is what it promises. All eight are looked
 // at with no exit between, so that they can be compared at once.
-fn eight_have(nums: &[u32], owner: u32, number: u32, from: usize) -> bool
-    requires { ⌜ («from» + 8 ≤ instanceRows) × (length (now nums) ≡ numsSize) ⌝ }
-    ensures { λ r. ⌜ (r ≡ false → lastBelow (instanceIs (now (nums .entry)) owner number) («from» + 8)
-        ≡ lastBelow (instanceIs (now (nums .entry)) owner number) «from») ⌝ }
+fn eight_have(nums: &[u32], owner: u32, number: u32, start: usize) -> bool
+    requires { ⌜ (start + 8 ≤ instanceRows) × (length (now nums) ≡ numsSize) ⌝ }
+    ensures { λ r. ⌜ (r ≡ false → lastBelow (instanceIs (now (nums .entry)) owner number) (start + 8)
+        ≡ lastBelow (instanceIs (now (nums .entry)) owner number) start) ⌝ }
 {
     let mut have = false;
     let mut k = 0;
     while k < 8 {
-        let j = from + k;
+        let j = start + k;
         have = have | ((nums[INSTANCE + j] == number) & (nums[OWNER + j] == owner));
         k += 1;
     }

@@ -1,4 +1,4 @@
--- `tables::find::eight_have` meets its contract. The invariant: where none was the instance yet, its last row is the one below `from`.
+-- `tables::find::eight_have` meets its contract. The invariant: where none was the instance yet, its last row is the one below `start`.
 use mathlib.Core.Path.{_≡_}
 use mathlib.Core.Bool.{false, _&&_}
 use Prim.Native.Nat.{_+_, _-_, _≤_}
@@ -12,11 +12,11 @@ use Rattle.tables.proofs.find.eight_have.Statement.{statement}
 use Rattle.tables.proofs.find.eight_have.Tie as tie
 
 abbrev Inv-loop : tie.InvT-loop
-Inv-loop nums owner number from have₀ k₀ have k =
-    (k ≤ 8) × (have ≡ false → lastBelow (instanceIs nums owner number) (from + k) ≡ lastBelow (instanceIs nums owner number) from)
+Inv-loop nums owner number start have₀ k₀ have k =
+    (k ≤ 8) × (have ≡ false → lastBelow (instanceIs nums owner number) (start + k) ≡ lastBelow (instanceIs nums owner number) start)
 
 abbrev μ-loop : tie.MeasureT-loop
-μ-loop nums owner number from have₀ k₀ have k = 8 - k
+μ-loop nums owner number start have₀ k₀ have k = 8 - k
 
 loop-holds : tie.Need-loop-holds Inv-loop μ-loop
 loop-holds c = (search needs, λ e. gather-start _ _)
@@ -25,11 +25,11 @@ loop-again : tie.Need-loop-again Inv-loop μ-loop
 loop-again c =
     let l = c .before .before .before in
     let a = l .before .args in
-    let j = a .from + l .loop .k in (
+    let j = a .start + l .loop .k in (
       search needs,
       λ e. gather-turn
           (instanceIs (a .nums .now) (a .owner) (a .number))
-          (a .from)
+          (a .start)
           (l .loop .k)
           (l .loop .have)
           (eqb (instanceAt (a .nums .now) j) (a .number) && eqb (ownerAt (a .nums .now) j) (a .owner))

@@ -1,4 +1,4 @@
--- `tables::find::first_row` meets its contract. The invariant: the first row that holds the name is the first such row from `from` on.
+-- `tables::find::first_row` meets its contract. The invariant: the first row that holds the name is the first such row from `start` on.
 use mathlib.Core.Path.{_≡_, sym, _∙_}
 use Prim.Native.Nat.{_-_}
 use native.Mathlib.Nat.{sub-zero}
@@ -9,10 +9,10 @@ use Rattle.tables.proofs.find.first_row.Statement.{statement}
 use Rattle.tables.proofs.find.first_row.Tie as tie
 
 abbrev Inv-loop : tie.InvT-loop
-Inv-loop names nums name n from₀ from = firstFrom (rowIs names nums name) 0 n ≡ firstFrom (rowIs names nums name) from (n - from)
+Inv-loop names nums name n start₀ start = firstFrom (rowIs names nums name) 0 n ≡ firstFrom (rowIs names nums name) start (n - start)
 
 abbrev μ-loop : tie.MeasureT-loop
-μ-loop names nums name n from₀ from = n - from
+μ-loop names nums name n start₀ start = n - start
 
 loop-holds : tie.Need-loop-holds Inv-loop μ-loop
 loop-holds c = rw sub-zero

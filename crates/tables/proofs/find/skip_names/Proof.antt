@@ -1,4 +1,4 @@
--- `tables::find::skip_names` meets its contract. The invariant: the first row that holds the name from `from` on is the first from `i` on.
+-- `tables::find::skip_names` meets its contract. The invariant: the first row that holds the name from `start` on is the first from `i` on.
 use mathlib.Core.Path.{_≡_, refl, _∙_}
 use mathlib.Core.List.{List}
 use Prim.Native.Nat.{ℕ, _-_, _≤_}
@@ -10,11 +10,11 @@ use Rattle.tables.proofs.find.skip_names.Statement.{statement}
 use Rattle.tables.proofs.find.skip_names.Tie as tie
 
 abbrev Inv-loop : tie.InvT-loop
-Inv-loop names name from to i₀ i =
-    (from ≤ i) × ((nums : List ℕ) → firstFrom (rowIs names nums name) from (to - from) ≡ firstFrom (rowIs names nums name) i (to - i))
+Inv-loop names name start to i₀ i =
+    (start ≤ i) × ((nums : List ℕ) → firstFrom (rowIs names nums name) start (to - start) ≡ firstFrom (rowIs names nums name) i (to - i))
 
 abbrev μ-loop : tie.MeasureT-loop
-μ-loop names name from to i₀ i = to - i
+μ-loop names name start to i₀ i = to - i
 
 loop-again : tie.Need-loop-again Inv-loop μ-loop
 loop-again c =
