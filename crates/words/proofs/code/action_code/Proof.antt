@@ -1,4 +1,4 @@
--- `words::code::action_code` meets its contract: each arm gives its code.
+-- `words::code::action_code` meets its contract: each arm gives its code, by the one fact that the match told of it, 38 times.
 use borrow.Author.Needs.{needs}
 use Rattle.words.specs.Action.{actionCode}
 use Rattle.words.proofs.code.action_code.Statement.{statement}
