@@ -34,7 +34,8 @@ read-fields-requires c κs = λ p.
     let target = note .before .before .before in
     let source = target .before .before .before in
     let begun = start (enough (tested source)) in
-    rw (source .between .ensures .bytes, target .between4 .ensures .bytes, note .between7 .ensures .bytes) (plain-fields _ (begun .args .c) (begun .pre .0) (begun .pre .1 p))
+    rw (source .between .ensures .bytes, target .between4 .ensures .bytes, note .between7 .ensures .bytes)
+    (plain-fields _ (begun .args .c) (begun .pre .0) (begun .pre .1 p))
 
 fields-read : tie.Need-returns-3
 fields-read c =

@@ -18,27 +18,49 @@ start c =
 names-are : (c : tie.Else1) → let a = start c .args in hasNames (a .source .now) (a .target .now) (a .note .now) (a .noted) ≡ true
 names-are c = sym (c .before .names .ensures) ∙ not-false _ (c .if1 .left)
 
-pub read-fields-spec : {M : Type 1} → statement M
+-- from the numbers read to the test of the names
+abbrev tested : tie.After-n → tie.Else1
+tested c = c .before .before .before
+
+no-name : tie.Need-returns
 unfolding fieldsReading
+no-name c = rw (← (c .before .names .ensures), not-true (c .before .names .result) (c .if1 .taken))
+
+no-number : tie.Need-returns-2
+unfolding fieldsReading
+no-number c =
+    let read = c .before .before in
+    rw (names-are (read .before), ← (read .read-numbers .ensures), c .enum-told .given .1)
+
+no-pair : tie.Need-returns-3
+unfolding fieldsReading
+no-pair c =
+    let looked-up = c .before .before in
+    let n = looked-up .before .before in
+    rw (names-are (tested n), ← (n .before .before .read-numbers .ensures), n .n .given .1, ← (looked-up .named .ensures), c .enum-told2 .given .1)
+
+known-pair : tie.Need-returns-4
+unfolding fieldsReading
+known-pair c =
+    let p = c .before .before in
+    let looked-up = p .before .before in
+    let n = looked-up .before .before in
+    rw (names-are (tested n), ← (n .before .before .read-numbers .ensures), n .n .given .1, ← (looked-up .named .ensures), p .p .given .1)
+    (c .read-known .ensures)
+
+pub read-fields-spec : {M : Type 1} → statement M
 read-fields-spec =
     tie.close
     (tie.spec
     (λ c κs. search needs)
-    (λ c. rw (← (c .before .names .ensures), not-true (c .before .names .result) (c .if1 .taken)))
+    no-name
     (λ c κs. tt)
     (λ c. search needs)
     (λ c. search needs)
-    (λ c. rw (names-are (c .before .before .before), ← (c .before .before .read-numbers .ensures), c .enum-told .given .1))
+    no-number
     (λ c κs. tt)
     (λ c. search needs)
     (λ c. search needs)
-    (λ c.
-    let asked = c .before .before in
-    let n = asked .before .before in
-    rw (names-are (n .before .before .before), ← (n .before .before .read-numbers .ensures), n .n .given .1, ← (asked .named .ensures), c .enum-told2 .given .1))
+    no-pair
     (λ c κs. tt)
-    (λ c.
-    let p = c .before .before in
-    let asked = p .before .before in
-    let n = asked .before .before in
-    rw (names-are (n .before .before .before), ← (n .before .before .read-numbers .ensures), n .n .given .1, ← (asked .named .ensures), p .p .given .1) (c .read-known .ensures)))
+    known-pair)

@@ -38,30 +38,52 @@ source-is c = sym (c .before .before .read-number2 .ensures) ∙ c .second .give
 target-is : (c : tie.After-third) → numberOf (start (back-to-first (back-to-second c)) .args .target-instance .now) maxInstance ≡ Value (c .third .given .0 .0)
 target-is c = sym (c .before .before .read-number3 .ensures) ∙ c .third .given .1
 
-pub read-numbers-spec : {M : Type 1} → statement M
+no-time : tie.Need-returns
 unfolding numbersOf
+no-time c = rw (← (c .before .before .read-number .ensures), c .enum-told .given .1)
+
+no-source : tie.Need-returns-2
+unfolding numbersOf
+no-source c =
+    let asked = c .before .before in
+    rw (time-is (asked .before .before), ← (asked .read-number2 .ensures), c .enum-told2 .given .1)
+
+no-target : tie.Need-returns-3
+unfolding numbersOf
+no-target c =
+    let asked = c .before .before in
+    let source = asked .before .before in
+    rw (time-is (back-to-first source), source-is source, ← (asked .read-number3 .ensures), c .enum-told3 .given .1)
+
+source-fits : tie.Need-cast-t10
+source-fits c = let h = read-written _ _ _ (source-is (back-to-second (c .before))) .1 in omega arith
+
+target-fits : tie.Need-cast-t11
+target-fits c = let h = read-written _ _ _ (target-is (c .before)) .1 in omega arith
+
+all-three : tie.Need-returns-4
+unfolding numbersOf
+all-three c =
+    let target = c .before in
+    let source = back-to-second target in
+    rw (time-is (back-to-first source), source-is source, target-is target)
+
+pub read-numbers-spec : {M : Type 1} → statement M
 read-numbers-spec =
     tie.close
     (tie.spec
     (λ c κs. tt)
     (λ c. search needs)
     (λ c. search needs)
-    (λ c. rw (← (c .before .before .read-number .ensures), c .enum-told .given .1))
+    no-time
     (λ c κs. tt)
     (λ c. search needs)
     (λ c. search needs)
-    (λ c.
-    let asked = c .before .before in
-    rw (time-is (asked .before .before), ← (asked .read-number2 .ensures), c .enum-told2 .given .1))
+    no-source
     (λ c κs. tt)
     (λ c. search needs)
     (λ c. search needs)
-    (λ c.
-    let asked = c .before .before in
-    let s = asked .before .before in
-    rw (time-is (back-to-first s), source-is s, ← (asked .read-number3 .ensures), c .enum-told3 .given .1))
-    (λ c. let h = read-written _ _ _ (source-is (back-to-second (c .before))) .1 in omega arith)
-    (λ c. let h = read-written _ _ _ (target-is (c .before)) .1 in omega arith)
-    (λ c.
-    let s = back-to-second (c .before) in
-    rw (time-is (back-to-first s), source-is s, target-is (c .before))))
+    no-target
+    source-fits
+    target-fits
+    all-three)

@@ -14,24 +14,45 @@ is-line : (c : tie.Else2) →
     (ltb 1023 (length l) || hasBreak l) ≡ false
 is-line c = rw (le-ltb 1023 _ (c .before .before .before .if1 .left), ← (c .before .broken .ensures), c .if2 .left)
 
-pub read-at-spec : {M : Type 1} → statement M
+too-long : tie.Need-returns
 unfolding readLine
+too-long c = rw (lt-ltb 1023 _ (c .if1 .taken))
+
+plain-known : tie.Need-broken-requires
+plain-known c κs p = sym (c .all-plain .ensures) ∙ p
+
+breaks : tie.Need-returns-2
+unfolding readLine
+breaks c = rw (le-ltb 1023 _ (c .before .before .before .if1 .left), ← (c .before .broken .ensures), c .if2 .taken)
+
+commas-known : tie.Need-read-event-requires
+commas-known c κs =
+    let unbroken = c .before .before in
+    let plain = unbroken .before .before in
+    (plain .before .before .before .pre, λ p. sym (plain .all-plain .ensures) ∙ p)
+
+event : tie.Need-returns-3
+unfolding readLine
+event c =
+    let told = c .before in
+    rw (is-line (told .before .before), ← (told .before .event-line .ensures), told .if3 .taken) (c .read-event .ensures)
+
+parameter : tie.Need-returns-4
+unfolding readLine
+parameter c =
+    let told = c .before in
+    rw (is-line (told .before .before), ← (told .before .event-line .ensures), told .if3 .left) (c .read-parameter .ensures)
+
+pub read-at-spec : {M : Type 1} → statement M
 read-at-spec =
     tie.close
     (tie.spec
-    (λ c. rw (lt-ltb 1023 _ (c .if1 .taken)))
+    too-long
     (λ c κs. tt)
-    (λ c κs p. sym (c .all-plain .ensures) ∙ p)
-    (λ c. rw (le-ltb 1023 _ (c .before .before .before .if1 .left), ← (c .before .broken .ensures), c .if2 .taken))
+    plain-known
+    breaks
     (λ c κs. tt)
-    (λ c κs.
-    let unbroken = c .before .before in
-    let plain = unbroken .before .before in
-    (plain .before .before .before .pre, λ p. sym (plain .all-plain .ensures) ∙ p))
-    (λ c.
-    let e = c .before in
-    rw (is-line (e .before .before), ← (e .before .event-line .ensures), e .if3 .taken) (c .read-event .ensures))
+    commas-known
+    event
     (λ c κs. tt)
-    (λ c.
-    let e = c .before in
-    rw (is-line (e .before .before), ← (e .before .event-line .ensures), e .if3 .left) (c .read-parameter .ensures)))
+    parameter)

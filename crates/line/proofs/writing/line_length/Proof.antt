@@ -12,7 +12,11 @@ use Rattle.line.proofs.Texts.{words-short, length-text, note-none, note
 use Rattle.line.proofs.writing.line_length.Statement.{statement}
 use Rattle.line.proofs.writing.line_length.Tie as tie
 
-short : (c : tie.Start) → length (digitsOf (c .args .event .time)) + length (digitsOf (c .args .event .«source_instance»)) + length (digitsOf (c .args .event .«target_instance»)) + (length (kindWord (c .args .event .kind)) + length (wordOf (c .args .event .action))) ≤ 84
+short : (c : tie.Start) →
+    let e = c .args .event in
+    length (digitsOf (e .time)) + length (digitsOf (e .«source_instance»)) + length (digitsOf (e .«target_instance»))
+    + (length (kindWord (e .kind)) + length (wordOf (e .action)))
+    ≤ 84
 short c = words-short (c .args .event) (omega arith) (omega arith) (omega arith)
 
 -- from a place to the start
@@ -30,13 +34,42 @@ from-third c = from-second (c .before .before)
 abbrev from-words : tie.After-word-length → tie.Start
 from-words c = from-third (c .before .before)
 
-returns : tie.Need-returns
-returns c =
+-- the sums, as they are added up: none wraps
+
+two-numbers : tie.Need-add-numbers
+two-numbers c = omega (arith, short (from-second c))
+
+three-numbers : tie.Need-add-numbers-2
+three-numbers c = omega (arith, short (from-third c))
+
+two-words : tie.Need-add-words
+two-words c = omega (arith, short (from-words c))
+
+numbers-words : tie.Need-add-n
+numbers-words c = omega (arith, short (from-words c))
+
+with-source : tie.Need-add-n-2
+with-source c = omega (arith, short (from-words c))
+
+with-target : tie.Need-add-n-3
+with-target c = omega (arith, short (from-words c))
+
+with-commas : tie.Need-add-n-4
+with-commas c = omega (arith, short (from-words c))
+
+unnoted : tie.Need-returns
+unnoted c =
     let a = from-words (c .before) .args in
     omega (arith, length-text (a .event) (a .source .now) (a .target .now) (a .note .now), ap length (note-none (a .note .now) (c .if1 .taken)))
 
-returns-2 : tie.Need-returns-2
-returns-2 c =
+one-comma-more : tie.Need-add-result
+one-comma-more c = omega (arith, short (from-words (c .before)))
+
+with-note : tie.Need-add-result-2
+with-note c = omega (arith, short (from-words (c .before)))
+
+noted : tie.Need-returns-2
+noted c =
     let a = from-words (c .before) .args in
     omega (arith, length-text (a .event) (a .source .now) (a .target .now) (a .note .now), ap length (note-some (a .note .now) (c .if1 .left)))
 
@@ -47,18 +80,18 @@ line-length-spec =
     (λ c κs. tt)
     (λ c. search needs)
     (λ c κs. tt)
-    (λ c. omega (arith, short (from-second c)))
+    two-numbers
     (λ c. search needs)
     (λ c κs. tt)
-    (λ c. omega (arith, short (from-third c)))
+    three-numbers
     (λ c κs. tt)
     (λ c κs. tt)
-    (λ c. omega (arith, short (from-words c)))
-    (λ c. omega (arith, short (from-words c)))
-    (λ c. omega (arith, short (from-words c)))
-    (λ c. omega (arith, short (from-words c)))
-    (λ c. omega (arith, short (from-words c)))
-    returns
-    (λ c. omega (arith, short (from-words (c .before))))
-    (λ c. omega (arith, short (from-words (c .before))))
-    returns-2)
+    two-words
+    numbers-words
+    with-source
+    with-target
+    with-commas
+    unnoted
+    one-comma-more
+    with-note
+    noted)

@@ -98,22 +98,58 @@ returns c =
     let e3 = d3 e4 in
     let e2 = d2 e3 in
     let e1 = d1 e2 in
-    put-then _ _ _ _ (put-then _ _ _ _ (put-then _ _ _ _ (put-then _ _ _ _ (put-then _ _ _ _ (put-then _ _ _ _ (put-then _ _ _ _ (λ i. e1 .put-number-field .ensures) (e2 .put-name-field .ensures)) (e3 .put-number-field2 .ensures)) (e4 .put-kind-field .ensures)) (e5 .put-name-field2 .ensures)) (e6 .put-number-field3 .ensures)) (e7 .put-word .ensures)) (e8 .put-note .ensures)
+    put-then _ _ _ _
+    (put-then _ _ _ _
+    (put-then _ _ _ _
+    (put-then _ _ _ _
+    (put-then _ _ _ _
+    (put-then _ _ _ _
+    (put-then _ _ _ _ (λ i. e1 .put-number-field .ensures) (e2 .put-name-field .ensures))
+    (e3 .put-number-field2 .ensures))
+    (e4 .put-kind-field .ensures))
+    (e5 .put-name-field2 .ensures))
+    (e6 .put-number-field3 .ensures))
+    (e7 .put-word .ensures))
+    (e8 .put-note .ensures)
     (rw zero-add (d0 e1 .pre))
+
+time-fits : tie.Need-put-number-field-requires
+time-fits c κs = first-room (room-0 (start c))
+
+source-fits : tie.Need-put-name-field-requires
+source-fits c κs = first-room (room-1 (out-1 c .before))
+
+source-instance-fits : tie.Need-put-number-field-requires-2
+source-instance-fits c κs = first-room (room-2 (out-2 c .before))
+
+kind-fits : tie.Need-put-kind-field-requires
+kind-fits c κs = first-room (room-3 (out-3 c .before))
+
+target-fits : tie.Need-put-name-field-requires-2
+target-fits c κs = first-room (room-4 (out-4 c .before))
+
+target-instance-fits : tie.Need-put-number-field-requires-3
+target-instance-fits c κs = first-room (room-5 (out-5 c .before))
+
+note-fits : tie.Need-put-note-requires
+note-fits c κs = first-room (room-7 (out-7 c .before))
+
+as-long : tie.Need-same-length
+as-long c = put-length _ _ _ (returns c)
 
 pub put-line-spec : {M : Type 1} → statement M
 put-line-spec =
     tie.close
     (tie.spec
-    (λ c κs. first-room (room-0 (start c)))
-    (λ c κs. first-room (room-1 (out-1 c .before)))
+    time-fits
+    source-fits
     (λ c. search needs)
-    (λ c κs. first-room (room-2 (out-2 c .before)))
-    (λ c κs. first-room (room-3 (out-3 c .before)))
-    (λ c κs. first-room (room-4 (out-4 c .before)))
+    source-instance-fits
+    kind-fits
+    target-fits
     (λ c. search needs)
-    (λ c κs. first-room (room-5 (out-5 c .before)))
+    target-instance-fits
     (λ c κs. tt)
-    (λ c κs. first-room (room-7 (out-7 c .before)))
-    (λ c. put-length _ _ _ (returns c))
+    note-fits
+    as-long
     returns)
