@@ -1,9 +1,11 @@
 -- `chart::entered` meets its contract. The loop's invariant: the search over all rows answers as the search over those from `at` on.
 use mathlib.Core.Path.{_≡_, refl, sym, _∙_}
-use Prim.Native.Nat.{_≤_, _-_}
+use mathlib.Core.Bool.{cond}
+use mathlib.Core.List.{[]}
+use Prim.Native.Nat.{_+_, _-_, _≤_}
 use native.Mathlib.Omega.{arith}
 use borrow.Author.Needs.{needs}
-use lib.ListN.{length, drop}
+use lib.ListN.{length, getD, drop}
 use Rattle.rules.specs.Rows.{enteredIn}
 use Rattle.rules.proofs.Rows.{row-turn, row-end}
 use Rattle.rules.proofs.chart.entered.Statement.{statement}
@@ -15,18 +17,24 @@ Inv-loop rows word state at₀ at = (at ≤ length rows) × (enteredIn rows word
 abbrev μ-loop : tie.MeasureT-loop
 μ-loop rows word state at₀ at = length rows - at
 
-returns : tie.Need-returns Inv-loop μ-loop
-returns c =
-    let at = c .before .before .before .before in
-    sym (at .loop .inv .1 ∙ row-turn _ (at .loop .at) _ _ (c .before .before .before .loop-test .taken) ∙ rw (sym (c .before .before .row-serves .ensures) ∙ c .before .if1 .taken))
+-- what the search comes to at the row that is tested: the state that it enters, or the search over the rows after it
+tested : (c : tie.After-row-serves Inv-loop μ-loop) →
+    let l = c .before .before in
+    let a = l .before .args in
+    enteredIn (a .rows .now) (a .word) (a .state)
+    ≡ cond (c .row-serves .result) (getD (getD (a .rows .now) (l .loop .at) []) 2 0) (enteredIn (drop (l .loop .at + 1) (a .rows .now)) (a .word) (a .state))
+tested c =
+    let l = c .before .before in
+    l .loop .inv .1 ∙ row-turn _ (l .loop .at) _ _ (c .before .loop-test .taken) ∙ rw (c .row-serves .ensures)
+
+serves : tie.Need-returns Inv-loop μ-loop
+serves c = let told = c .before in sym (tested (told .before) ∙ rw (told .if1 .taken))
 
 loop-again : tie.Need-loop-again Inv-loop μ-loop
-loop-again c =
-    let at = c .before .before .before in
-    (omega arith, at .loop .inv .1 ∙ row-turn _ (at .loop .at) _ _ (c .before .before .loop-test .taken) ∙ rw (sym (c .before .row-serves .ensures) ∙ c .if1 .left))
+loop-again c = (omega arith, tested (c .before) ∙ rw (c .if1 .left))
 
-returns-2 : tie.Need-returns-2 Inv-loop μ-loop
-returns-2 c = sym (c .before .loop .inv .1 ∙ row-end _ (c .before .loop .at) _ _ (c .loop-test .left))
+none-left : tie.Need-returns-2 Inv-loop μ-loop
+none-left c = sym (c .before .loop .inv .1 ∙ row-end _ (c .before .loop .at) _ _ (c .loop-test .left))
 
 pub entered-spec : {M : Type 1} → statement M
 entered-spec =
@@ -39,8 +47,8 @@ entered-spec =
     (λ c. search needs)
     (λ c. search needs)
     (λ c. search needs)
-    returns
+    serves
     (λ c. search needs)
     (λ c. search needs)
     loop-again
-    returns-2)
+    none-left)
