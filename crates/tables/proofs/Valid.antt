@@ -76,10 +76,12 @@ line-level-mean nums =
     (means-and (means-le (lineCount nums) 1000000000)
     (means-and (means-le (scaleEntry nums) 5) (means-and (means-le (creatorEntry nums) 1) (means-le (dateEntry nums) 1)))))
 
-pub counts-mean : (nums : List ℕ) → Means (countsOk nums) ((startedEntry nums ≤ 1) × ((nameCount nums ≤ nameRows) × ((coreCount nums ≤ coreLimit) × (instanceCount nums ≤ instanceRows))))
+pub counts-mean : (nums : List ℕ)
+    → Means (countsOk nums) ((startedEntry nums ≤ 1) × ((nameCount nums ≤ nameRows) × ((coreCount nums ≤ coreLimit) × (instanceCount nums ≤ instanceRows))))
 unfolding countsOk
 counts-mean nums =
-    means-and (means-le (startedEntry nums) 1) (means-and (means-le (nameCount nums) nameRows) (means-and (means-le (coreCount nums) coreLimit) (means-le (instanceCount nums) instanceRows)))
+    means-and (means-le (startedEntry nums) 1)
+    (means-and (means-le (nameCount nums) nameRows) (means-and (means-le (coreCount nums) coreLimit) (means-le (instanceCount nums) instanceRows)))
 
 times-mean : (ticks : List ℕ) → Means (timesOk ticks) ((lastTime ticks ≤ maxTime) × (firstTime ticks ≤ lastTime ticks))
 unfolding timesOk

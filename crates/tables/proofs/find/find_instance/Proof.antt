@@ -1,4 +1,5 @@
--- `tables::find::find_instance` meets its contract. No row that `skip_rows` passes over is the instance. The invariant: the last row of the instance is the last such row below `j`.
+-- `tables::find::find_instance` meets its contract. No row that `skip_rows` passes over is the instance. The invariant: the last row of the
+-- instance is the last such row below `j`.
 use mathlib.Core.Path.{_≡_, sym, _∙_}
 use native.Mathlib.Omega.{arith}
 use borrow.Author.Needs.{needs}

@@ -17,20 +17,28 @@ abbrev μ-loop : tie.MeasureT-loop
 loop-holds : tie.Need-loop-holds Inv-loop μ-loop
 loop-holds c = rw sub-zero
 
-returns : tie.Need-returns Inv-loop μ-loop
-returns c =
-    let at = c .before in
-    sym (at .before .loop .inv ∙ at .skip-names .ensures .1 _ ∙ first-end _ (at .skip-names .result) _ (c .if1 .taken))
+-- the rows passed over hold no such name
+skipped : (c : tie.After-skip-names Inv-loop μ-loop) →
+    let slices = c .before .before in
+    let a = slices .before .before .before .args in
+    let holds = rowIs (a .names .now) (a .nums .now) (a .name .now) in
+    firstFrom holds 0 (a .n) ≡ firstFrom holds (c .skip-names .result) (a .n - c .skip-names .result)
+skipped c = c .before .loop .inv ∙ c .skip-names .ensures .1 _
 
-returns-2 : tie.Need-returns-2 Inv-loop μ-loop
-returns-2 c =
-    let at = c .before .before .before in
-    sym (at .before .loop .inv ∙ at .skip-names .ensures .1 _ ∙ first-hit _ (at .skip-names .result) _ (c .before .before .if1 .left) (sym (c .before .row-is .ensures) ∙ c .if2 .taken))
+none-left : tie.Need-returns Inv-loop μ-loop
+none-left c = let at = c .before in sym (skipped at ∙ first-end _ (at .skip-names .result) _ (c .if1 .taken))
+
+here : tie.Need-returns-2 Inv-loop μ-loop
+here c =
+    let row = c .before .before in
+    let at = row .before in
+    sym (skipped at ∙ first-hit _ (at .skip-names .result) _ (row .if1 .left) (sym (c .before .row-is .ensures) ∙ c .if2 .taken))
 
 loop-again : tie.Need-loop-again Inv-loop μ-loop
 loop-again c =
-    let at = c .before .before .before in
-    at .before .loop .inv ∙ at .skip-names .ensures .1 _ ∙ first-miss _ (at .skip-names .result) _ (c .before .before .if1 .left) (sym (c .before .row-is .ensures) ∙ c .if2 .left)
+    let row = c .before .before in
+    let at = row .before in
+    skipped at ∙ first-miss _ (at .skip-names .result) _ (row .if1 .left) (sym (c .before .row-is .ensures) ∙ c .if2 .left)
 
 pub first-row-spec : {M : Type 1} → statement M
 first-row-spec =
@@ -40,9 +48,9 @@ first-row-spec =
     μ-loop
     loop-holds
     (λ c κs. search needs)
-    returns
+    none-left
     (λ c κs. search needs)
-    returns-2
+    here
     (λ c. search needs)
     (λ c. search needs)
     loop-again)

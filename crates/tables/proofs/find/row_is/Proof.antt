@@ -13,42 +13,58 @@ use Rattle.tables.proofs.Found.{lent-name}
 use Rattle.tables.proofs.find.row_is.Statement.{statement}
 use Rattle.tables.proofs.find.row_is.Tie as tie
 
-returns : tie.Need-returns
-unfolding rowIs
-returns c = stop _ (le-ltb _ _ (c .if1 .taken))
+-- from the test of the row's number to the start, over what is known of the three slices, and from the test of its length to that of its number
+abbrev start : tie.Else1 → tie.Start
+start c =
+    let slices = c .before in
+    slices .before .before .before
 
-returns-2 : tie.Need-returns-2
-unfolding rowIs
-returns-2 c = pass (lt-ltb _ _ (c .before .before .if1 .left)) (stop _ (ne-eqb _ _ (c .if2 .taken)))
+abbrev row-there : tie.Else2 → tie.Else1
+row-there c = c .before .before
 
-returns-3 : tie.Need-returns-3
+no-row : tie.Need-returns
 unfolding rowIs
-returns-3 c = pass (lt-ltb _ _ (c .before .before .before .if1 .left)) (pass (eq-eqb _ _ (c .before .if2 .left)) (stop _ (lt-leb _ _ (c .if3 .taken))))
+no-row c = stop _ (le-ltb _ _ (c .if1 .taken))
 
-returns-4 : tie.Need-returns-4
+cast-n : tie.Need-cast-n
+cast-n c = omega (arith, c .shared-slice-known4 .given (lengthColumn .base + start (c .before) .args .i))
+
+other-length : tie.Need-returns-2
 unfolding rowIs
-returns-4 c =
-    let p = c .before .before in
-    let a = p .before .before .before .before .before .before .before .args in
-    pass (lt-ltb _ _ (p .before .before .before .if1 .left))
-    (pass (eq-eqb _ _ (p .before .if2 .left))
-    (pass (le-leb _ _ (p .if3 .left)) (c .same .ensures ∙ ap (λ (s : List ℕ). sameBytes s (a .name .now)) (lent-name (a .names .now) (a .nums .now) (a .i)))))
+other-length c = pass (lt-ltb _ _ (c .before .before .if1 .left)) (stop _ (ne-eqb _ _ (c .if2 .taken)))
+
+too-long : tie.Need-returns-3
+unfolding rowIs
+too-long c =
+    let as-long = c .before in
+    pass (lt-ltb _ _ (row-there as-long .if1 .left)) (pass (eq-eqb _ _ (as-long .if2 .left)) (stop _ (lt-leb _ _ (c .if3 .taken))))
+
+bytes-compared : tie.Need-returns-4
+unfolding rowIs
+bytes-compared c =
+    let has-room = c .before .before in
+    let as-long = has-room .before in
+    let there = row-there as-long in
+    let a = start there .args in
+    pass (lt-ltb _ _ (there .if1 .left))
+    (pass (eq-eqb _ _ (as-long .if2 .left))
+    (pass (le-leb _ _ (has-room .if3 .left)) (c .same .ensures ∙ ap (λ (s : List ℕ). sameBytes s (a .name .now)) (lent-name (a .names .now) (a .nums .now) (a .i)))))
 
 pub row-is-spec : {M : Type 1} → statement M
 row-is-spec =
     tie.close
     (tie.spec
-    returns
+    no-row
     (λ c. search needs)
     (λ c. search needs)
     (λ c. search needs)
-    (λ c. omega (arith, c .shared-slice-known4 .given (lengthColumn .base + c .before .before .before .before .before .args .i)))
-    returns-2
-    returns-3
+    cast-n
+    other-length
+    too-long
     (λ c. search needs)
     (λ c. search needs)
     (λ c. search needs)
     (λ c. search needs)
     (λ c. search needs)
     (λ c κs. search needs)
-    returns-4)
+    bytes-compared)

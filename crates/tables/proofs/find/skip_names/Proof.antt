@@ -18,10 +18,28 @@ abbrev μ-loop : tie.MeasureT-loop
 
 loop-again : tie.Need-loop-again Inv-loop μ-loop
 loop-again c =
-    let l = c .before .before .before in (
-      search needs,
-      λ nums. l .loop .inv .1 nums ∙ first-miss _ (l .loop .i) _ (c .before .before .loop-test .taken) (c .before .ends-differ .ensures (not-false _ (c .if4 .left)) nums),
-    )
+    let turn = c .before .before in
+    let l = turn .before .loop in
+    let other = c .before .ends-differ .ensures (not-false _ (c .if4 .left)) in
+    (search needs, λ nums. l .inv .1 nums ∙ first-miss _ (l .i) _ (turn .loop-test .taken) (other nums))
+
+short-name : tie.Need-returns Inv-loop μ-loop
+short-name c = (search needs, λ nums. refl)
+
+long-name : tie.Need-returns-2 Inv-loop μ-loop
+long-name c = (search needs, λ nums. refl)
+
+too-many-rows : tie.Need-returns-3 Inv-loop μ-loop
+too-many-rows c = (search needs, λ nums. refl)
+
+loop-holds : tie.Need-loop-holds Inv-loop μ-loop
+loop-holds c = (search needs, λ nums. refl)
+
+here : tie.Need-returns-4 Inv-loop μ-loop
+here c = c .before .before .before .loop .inv
+
+none-left : tie.Need-returns-5 Inv-loop μ-loop
+none-left c = c .before .loop .inv
 
 pub skip-names-spec : {M : Type 1} → statement M
 skip-names-spec =
@@ -29,13 +47,13 @@ skip-names-spec =
     (tie.spec
     Inv-loop
     μ-loop
-    (λ c. (search needs, λ nums. refl))
-    (λ c. (search needs, λ nums. refl))
-    (λ c. (search needs, λ nums. refl))
-    (λ c. (search needs, λ nums. refl))
+    short-name
+    long-name
+    too-many-rows
+    loop-holds
     (λ c κs. search needs)
-    (λ c. c .before .before .before .loop .inv)
+    here
     (λ c. search needs)
     (λ c. search needs)
     loop-again
-    (λ c. c .before .loop .inv))
+    none-left)

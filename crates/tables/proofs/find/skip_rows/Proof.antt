@@ -20,16 +20,28 @@ loop-again c =
     let n : (l .loop .j - 8) + 8 ≡ l .loop .j = omega arith in
     (search needs, l .loop .inv .1 ∙ rw n at (c .before .eight-have .ensures (c .if2 .left)))
 
+too-many-rows : tie.Need-returns Inv-loop μ-loop
+too-many-rows c = refl
+
+loop-holds : tie.Need-loop-holds Inv-loop μ-loop
+loop-holds c = (search needs, refl)
+
+here : tie.Need-returns-2 Inv-loop μ-loop
+here c = c .before .before .before .loop .inv .1
+
+few-left : tie.Need-returns-3 Inv-loop μ-loop
+few-left c = c .before .loop .inv .1
+
 pub skip-rows-spec : {M : Type 1} → statement M
 skip-rows-spec =
     tie.close
     (tie.spec
     Inv-loop
     μ-loop
-    (λ c. refl)
-    (λ c. (search needs, refl))
+    too-many-rows
+    loop-holds
     (λ c κs. search needs)
-    (λ c. c .before .before .before .loop .inv .1)
+    here
     (λ c. search needs)
     loop-again
-    (λ c. c .before .loop .inv .1))
+    few-left)

@@ -12,16 +12,28 @@ Inv-loop s₀ i₀ s i = Zeroed s₀ s i
 abbrev μ-loop : tie.MeasureT-loop
 μ-loop s₀ i₀ s i = length s₀ - i
 
+loop-holds : tie.Need-loop-holds Inv-loop μ-loop
+loop-holds c = zero-none (c .args .s .now)
+
+loop-again : tie.Need-loop-again Inv-loop μ-loop
+loop-again c = zero-more (c .before .loop .inv) (search needs)
+
+as-long : tie.Need-same-length Inv-loop μ-loop
+as-long c = c .before .loop .inv .as-long
+
+all-zero : tie.Need-returns Inv-loop μ-loop
+all-zero c = zero-all (c .before .loop .inv) (search needs)
+
 pub zero-bytes-spec : {M : Type 1} → statement M
 zero-bytes-spec =
     tie.close
     (tie.spec
     Inv-loop
     μ-loop
-    (λ c. zero-none (c .args .s .now))
+    loop-holds
     (λ c. search needs)
     (λ c. search needs)
     (λ c. search needs)
-    (λ c. zero-more (c .before .loop .inv) (search needs))
-    (λ c. c .before .loop .inv .as-long)
-    (λ c. zero-all (c .before .loop .inv) (search needs)))
+    loop-again
+    as-long
+    all-zero)

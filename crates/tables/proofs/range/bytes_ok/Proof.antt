@@ -12,15 +12,23 @@ use Rattle.tables.proofs.Found.{lent-name}
 use Rattle.tables.proofs.range.bytes_ok.Statement.{statement}
 use Rattle.tables.proofs.range.bytes_ok.Tie as tie
 
-returns : tie.Need-returns
-unfolding bytesOk
-returns c = stop _ (lt-leb _ _ (c .if1 .taken))
+-- from the length read to the start
+abbrev start : tie.After-shared-slice-known3 → tie.Start
+start c = c .before .before .before
 
-returns-2 : tie.Need-returns-2
+cast-n : tie.Need-cast-n
+cast-n c = omega (arith, c .shared-slice-known3 .given (lengthColumn .base + start c .args .i))
+
+too-long : tie.Need-returns
 unfolding bytesOk
-returns-2 c =
-    let a = c .before .before .before .before .before .before .args in
-    pass (le-leb _ _ (c .before .before .if1 .left)) (c .name .ensures ∙ ap isName (lent-name (a .names .now) (a .nums .now) (a .i)))
+too-long c = stop _ (lt-leb _ _ (c .if1 .taken))
+
+has-room : tie.Need-returns-2
+unfolding bytesOk
+has-room c =
+    let short = c .before .before in
+    let a = start (short .before) .args in
+    pass (le-leb _ _ (short .if1 .left)) (c .name .ensures ∙ ap isName (lent-name (a .names .now) (a .nums .now) (a .i)))
 
 pub bytes-ok-spec : {M : Type 1} → statement M
 bytes-ok-spec =
@@ -29,12 +37,12 @@ bytes-ok-spec =
     (λ c. search needs)
     (λ c. search needs)
     (λ c. search needs)
-    (λ c. omega (arith, c .shared-slice-known3 .given (lengthColumn .base + c .before .before .before .args .i)))
-    returns
+    cast-n
+    too-long
     (λ c. search needs)
     (λ c. search needs)
     (λ c. search needs)
     (λ c. search needs)
     (λ c. search needs)
     (λ c κs. search needs)
-    returns-2)
+    has-room)

@@ -7,13 +7,37 @@ use Rattle.tables.proofs.Valid.{counts-mean}
 use Rattle.tables.proofs.range.in_range.Statement.{statement}
 use Rattle.tables.proofs.range.in_range.Tie as tie
 
-returns : tie.Need-returns
-unfolding inRange
-returns c = rw (failed (c .before .counts-ok .ensures) (c .if1 .taken), and-false)
+-- from the counts tested to the start, over what is known of the three tables
+abbrev start : tie.Else1 → tie.Start
+start c =
+    let tables = c .before .before in
+    tables .before .before .before
 
-returns-2 : tie.Need-returns-2
+wrong-counts : tie.Need-returns
 unfolding inRange
-returns-2 c =
+wrong-counts c = rw (failed (c .before .counts-ok .ensures) (c .if1 .taken), and-false)
+
+-- how many names and instances there are, once their counts are tested
+few : (c : tie.Else1) → Counted (start c .args .nums .now)
+few c =
+    let h = counts-mean _ .holds (passed (c .before .counts-ok .ensures) (c .if1 .left)) in
+    record { size = start c .pre .nums-size; names = h .1 .0; instances = h .1 .1 .1 }
+
+cast-n : tie.Need-cast-n
+cast-n c = let h = few (c .before) in search needs
+
+cast-m : tie.Need-cast-m
+cast-m c = let h = few (c .before .before) in search needs
+
+names-ok-requires : tie.Need-names-ok-requires
+names-ok-requires c κs = let h = few (c .before .before) in search needs
+
+instances-ok-requires : tie.Need-instances-ok-requires
+instances-ok-requires c κs = let h = few (c .before .before .before) in search needs
+
+other-tests : tie.Need-returns-2
+unfolding inRange
+other-tests c =
     let level = c .before in
     let instances = level .before in
     let names = instances .before in
@@ -26,24 +50,18 @@ returns-2 c =
       passed (counts .before .counts-ok .ensures) (counts .if1 .left),
     )
 
--- how many names and instances there are, once their counts are tested
-few : (c : tie.Else1) → Counted (c .before .before .before .before .before .args .nums .now)
-few c =
-    let h = counts-mean _ .holds (passed (c .before .counts-ok .ensures) (c .if1 .left)) in
-    record { size = c .before .before .before .before .before .pre .nums-size; names = h .1 .0; instances = h .1 .1 .1 }
-
 pub in-range-spec : {M : Type 1} → statement M
 in-range-spec =
     tie.close
     (tie.spec
     (λ c κs. search needs)
-    returns
+    wrong-counts
     (λ c. search needs)
-    (λ c. let h = few (c .before) in search needs)
+    cast-n
     (λ c. search needs)
-    (λ c. let h = few (c .before .before) in search needs)
-    (λ c κs. let h = few (c .before .before) in search needs)
-    (λ c κs. let h = few (c .before .before .before) in search needs)
+    cast-m
+    names-ok-requires
+    instances-ok-requires
     (λ c κs. search needs)
     (λ c κs. search needs)
-    returns-2)
+    other-tests)

@@ -6,29 +6,35 @@ use Rattle.tables.proofs.Valid.{sizes-mean}
 use Rattle.tables.proofs.range.table_answer.Statement.{statement}
 use Rattle.tables.proofs.range.table_answer.Tie as tie
 
-returns : tie.Need-returns
+-- from the sizes tested to the start, over what is known of the three tables
+abbrev start : tie.Else1 → tie.Start
+start c =
+    let tables = c .before .before in
+    tables .before .before .before
+
+wrong-size : tie.Need-returns
 unfolding tableAnswer
-returns c = rw (failed (c .before .sized .ensures) (c .if1 .taken))
+wrong-size c = rw (failed (c .before .sized .ensures) (c .if1 .taken))
 
 in-range-requires : tie.Need-in-range-requires
 in-range-requires c κs =
-    let a = c .before .before .before .before .before .args in
+    let a = start c .args in
     sizes-mean (a .names .now) (a .nums .now) (a .ticks .now) .holds (passed (c .before .sized .ensures) (c .if1 .left))
 
-returns-2 : tie.Need-returns-2
+in-range : tie.Need-returns-2
 unfolding tableAnswer
-returns-2 c = rw (passed (c .before .before .before .sized .ensures) (c .before .before .if1 .left), ← c .before .in-range .ensures, c .if2 .taken)
+in-range c = rw (passed (c .before .before .before .sized .ensures) (c .before .before .if1 .left), ← c .before .in-range .ensures, c .if2 .taken)
 
-returns-3 : tie.Need-returns-3
+out-of-range : tie.Need-returns-3
 unfolding tableAnswer
-returns-3 c = rw (passed (c .before .before .before .sized .ensures) (c .before .before .if1 .left), ← c .before .in-range .ensures, c .if2 .left)
+out-of-range c = rw (passed (c .before .before .before .sized .ensures) (c .before .before .if1 .left), ← c .before .in-range .ensures, c .if2 .left)
 
 pub table-answer-spec : {M : Type 1} → statement M
 table-answer-spec =
     tie.close
     (tie.spec
     (λ c κs. search needs)
-    returns
+    wrong-size
     in-range-requires
-    returns-2
-    returns-3)
+    in-range
+    out-of-range)
