@@ -15,8 +15,9 @@ use Rattle.rules.specs.Chart.{isStateOf}
 use Rattle.rules.specs.Charts.{chartOf}
 use Rattle.rules.specs.History.{hasInstances}
 use Rattle.tables.specs.Entry.{nameRows, instanceRows, nameRoom, namesSize, numsSize, ticksSize}
-use Rattle.tables.specs.Entry.{verdictNumber, verdictLine, lineCount, scaleEntry, creatorEntry, dateEntry, startedEntry, nameCount, coreCount, instanceCount}
-use Rattle.tables.specs.Entry.{kindAt, lengthAt, standingAt, numberedAt, ownerAt, stateAt, firstTime, lastTime, heldAt, idleAt, unknownAt, sinceAt, nameAt}
+use Rattle.tables.specs.Entry.{verdictNumber, verdictLine, lineCount, scaleEntry, creatorEntry, dateEntry, startedEntry}
+use Rattle.tables.specs.Entry.{nameCount, coreCount, instanceCount, kindAt, lengthAt, standingAt, numberedAt, ownerAt, stateAt}
+use Rattle.tables.specs.Entry.{firstTime, lastTime, heldAt, idleAt, unknownAt, sinceAt, nameAt}
 use Rattle.tables.specs.Sized.{Sized, isSized}
 use Rattle.tables.specs.Range.{lineLevelOk, countsOk, timesOk, standingOk, maxSum, sumsOk, bytesOk, nameOk, instanceOk, inRange, tableAnswer}
 use Rattle.tables.proofs.Means.{Means, means-le, means-lt, means-eq, means-true, means-and, means-up, means-as, fails}
@@ -68,7 +69,9 @@ sizes-mean names nums ticks =
     (λ s. (s .names-size, (s .nums-size, s .ticks-size)))
 
 line-level-mean : (nums : List ℕ)
-    → Means (lineLevelOk nums) ((verdictNumber nums ≤ lastRefusal) × ((verdictLine nums ≤ 1000000001) × ((lineCount nums ≤ 1000000000) × ((scaleEntry nums ≤ 5) × ((creatorEntry nums ≤ 1) × (dateEntry nums ≤ 1))))))
+    → Means (lineLevelOk nums)
+    ((verdictNumber nums ≤ lastRefusal)
+    × ((verdictLine nums ≤ 1000000001) × ((lineCount nums ≤ 1000000000) × ((scaleEntry nums ≤ 5) × ((creatorEntry nums ≤ 1) × (dateEntry nums ≤ 1))))))
 unfolding lineLevelOk
 line-level-mean nums =
     means-and (means-le (verdictNumber nums) lastRefusal)
@@ -87,7 +90,8 @@ times-mean : (ticks : List ℕ) → Means (timesOk ticks) ((lastTime ticks ≤ m
 unfolding timesOk
 times-mean ticks = means-and (means-le (lastTime ticks) maxTime) (means-le (firstTime ticks) (lastTime ticks))
 
-sums-mean : (ticks : List ℕ) (i : ℕ) → Means (sumsOk ticks i) ((heldAt ticks i ≤ maxSum) × ((idleAt ticks i ≤ maxSum) × ((unknownAt ticks i ≤ maxSum) × (sinceAt ticks i ≤ lastTime ticks))))
+sums-mean : (ticks : List ℕ) (i : ℕ)
+    → Means (sumsOk ticks i) ((heldAt ticks i ≤ maxSum) × ((idleAt ticks i ≤ maxSum) × ((unknownAt ticks i ≤ maxSum) × (sinceAt ticks i ≤ lastTime ticks))))
 unfolding sumsOk
 sums-mean ticks i =
     means-and (means-le (heldAt ticks i) maxSum)
@@ -126,7 +130,8 @@ unfolding instanceOk
 instance-mean nums j =
     let kind = kindAt nums (ownerAt nums j) in
     means-as
-    (means-and (means-lt (ownerAt nums j) (nameCount nums)) (means-and (means-true (hasInstances kind)) (means-true (isStateOf (chartOf kind) (stateAt nums j)))))
+    (means-and (means-lt (ownerAt nums j) (nameCount nums))
+    (means-and (means-true (hasInstances kind)) (means-true (isStateOf (chartOf kind) (stateAt nums j)))))
     (λ p. record { owner = p .0; owner-kind = p .1 .0; state = p .1 .1 })
     (λ r. (r .owner, (r .owner-kind, r .state)))
 

@@ -37,7 +37,8 @@ loop-again : tie.Need-loop-again Inv-loop μ-loop
 loop-again c =
     let i = c .before in
     let l = i .before .before .loop in
-    (omega arith, omega arith, omega arith, field-turn _ _ _ _ (i .find .ensures) (l .inv .0) (l .inv .3) (c .if2 .left), at-turn _ _ _ _ (i .find .ensures) (l .inv .0) (l .inv .4))
+    let next = field-turn _ _ _ _ (i .find .ensures) (l .inv .0) (l .inv .3) (c .if2 .left) in
+    (omega arith, omega arith, omega arith, next, at-turn _ _ _ _ (i .find .ensures) (l .inv .0) (l .inv .4))
 
 -- the last part starts at `a` and ends at a comma or at the end
 ends : (c : tie.After-find2 Inv-loop μ-loop) →

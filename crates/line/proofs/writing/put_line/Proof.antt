@@ -44,47 +44,68 @@ out-6 c = c .before .before
 abbrev out-7 : tie.After-put-note-arg → tie.After-out7
 out-7 c = c .before .before
 
--- from the place after a field to the place after the one before it, and the room that the fields after it have
+-- from the place after a field to the place after the one before it, all fields as seen from there, and the room that those after it have
 abbrev d0 : tie.After-put-number-field → tie.Start
 d0 c = start (c .before)
 
-room-1 : (c : tie.After-put-number-field) → Room (c .put-number-field .last .1 .0) (c .put-number-field .result) (drop 1 (fields (d0 c)))
+abbrev fields-1 : tie.After-put-number-field → List (List ℕ)
+fields-1 c = fields (d0 c)
+
+room-1 : (c : tie.After-put-number-field) → Room (c .put-number-field .last .1 .0) (c .put-number-field .result) (drop 1 (fields-1 c))
 room-1 c = next-room (room-0 (d0 c)) (c .put-number-field .ensures)
 
 abbrev d1 : tie.After-put-name-field → tie.After-put-number-field
 d1 c = out-1 (c .before) .before
 
-room-2 : (c : tie.After-put-name-field) → Room (c .put-name-field .last .1 .0) (c .put-name-field .result) (drop 2 (fields (d0 (d1 c))))
+abbrev fields-2 : tie.After-put-name-field → List (List ℕ)
+fields-2 c = fields-1 (d1 c)
+
+room-2 : (c : tie.After-put-name-field) → Room (c .put-name-field .last .1 .0) (c .put-name-field .result) (drop 2 (fields-2 c))
 room-2 c = next-room (room-1 (d1 c)) (c .put-name-field .ensures)
 
 abbrev d2 : tie.After-put-number-field2 → tie.After-put-name-field
 d2 c = out-2 (c .before) .before
 
-room-3 : (c : tie.After-put-number-field2) → Room (c .put-number-field2 .last .1 .0) (c .put-number-field2 .result) (drop 3 (fields (d0 (d1 (d2 c)))))
+abbrev fields-3 : tie.After-put-number-field2 → List (List ℕ)
+fields-3 c = fields-2 (d2 c)
+
+room-3 : (c : tie.After-put-number-field2) → Room (c .put-number-field2 .last .1 .0) (c .put-number-field2 .result) (drop 3 (fields-3 c))
 room-3 c = next-room (room-2 (d2 c)) (c .put-number-field2 .ensures)
 
 abbrev d3 : tie.After-put-kind-field → tie.After-put-number-field2
 d3 c = out-3 (c .before) .before
 
-room-4 : (c : tie.After-put-kind-field) → Room (c .put-kind-field .last .1 .0) (c .put-kind-field .result) (drop 4 (fields (d0 (d1 (d2 (d3 c))))))
+abbrev fields-4 : tie.After-put-kind-field → List (List ℕ)
+fields-4 c = fields-3 (d3 c)
+
+room-4 : (c : tie.After-put-kind-field) → Room (c .put-kind-field .last .1 .0) (c .put-kind-field .result) (drop 4 (fields-4 c))
 room-4 c = next-room (room-3 (d3 c)) (c .put-kind-field .ensures)
 
 abbrev d4 : tie.After-put-name-field2 → tie.After-put-kind-field
 d4 c = out-4 (c .before) .before
 
-room-5 : (c : tie.After-put-name-field2) → Room (c .put-name-field2 .last .1 .0) (c .put-name-field2 .result) (drop 5 (fields (d0 (d1 (d2 (d3 (d4 c)))))))
+abbrev fields-5 : tie.After-put-name-field2 → List (List ℕ)
+fields-5 c = fields-4 (d4 c)
+
+room-5 : (c : tie.After-put-name-field2) → Room (c .put-name-field2 .last .1 .0) (c .put-name-field2 .result) (drop 5 (fields-5 c))
 room-5 c = next-room (room-4 (d4 c)) (c .put-name-field2 .ensures)
 
 abbrev d5 : tie.After-put-number-field3 → tie.After-put-name-field2
 d5 c = out-5 (c .before) .before
 
-room-6 : (c : tie.After-put-number-field3) → Room (c .put-number-field3 .last .1 .0) (c .put-number-field3 .result) (drop 6 (fields (d0 (d1 (d2 (d3 (d4 (d5 c))))))))
+abbrev fields-6 : tie.After-put-number-field3 → List (List ℕ)
+fields-6 c = fields-5 (d5 c)
+
+room-6 : (c : tie.After-put-number-field3) → Room (c .put-number-field3 .last .1 .0) (c .put-number-field3 .result) (drop 6 (fields-6 c))
 room-6 c = next-room (room-5 (d5 c)) (c .put-number-field3 .ensures)
 
 abbrev d6 : tie.After-put-word → tie.After-put-number-field3
 d6 c = out-6 (c .before) .before
 
-room-7 : (c : tie.After-put-word) → Room (c .put-word .last .1 .0) (c .put-word .result) (drop 7 (fields (d0 (d1 (d2 (d3 (d4 (d5 (d6 c)))))))))
+abbrev fields-7 : tie.After-put-word → List (List ℕ)
+fields-7 c = fields-6 (d6 c)
+
+room-7 : (c : tie.After-put-word) → Room (c .put-word .last .1 .0) (c .put-word .result) (drop 7 (fields-7 c))
 room-7 c = next-room (room-6 (d6 c)) (c .put-word .ensures)
 
 returns : tie.Need-returns

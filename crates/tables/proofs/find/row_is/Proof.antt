@@ -46,9 +46,10 @@ bytes-compared c =
     let as-long = has-room .before in
     let there = row-there as-long in
     let a = start there .args in
+    let lent = lent-name (a .names .now) (a .nums .now) (a .i) in
     pass (lt-ltb _ _ (there .if1 .left))
     (pass (eq-eqb _ _ (as-long .if2 .left))
-    (pass (le-leb _ _ (has-room .if3 .left)) (c .same .ensures ∙ ap (λ (s : List ℕ). sameBytes s (a .name .now)) (lent-name (a .names .now) (a .nums .now) (a .i)))))
+    (pass (le-leb _ _ (has-room .if3 .left)) (c .same .ensures ∙ ap (λ (s : List ℕ). sameBytes s (a .name .now)) lent)))
 
 pub row-is-spec : {M : Type 1} → statement M
 row-is-spec =
