@@ -5,7 +5,7 @@ use Prim.Native.Nat.{_-_, _≤_}
 use native.Mathlib.Numerals.{add-one}
 use native.Mathlib.Omega.{arith}
 use borrow.Author.Needs.{needs}
-use Rattle.tables.specs.Entry.{nameCount}
+use Rattle.tables.specs.Entry.{namesIndex, nameCount}
 use Rattle.sheet.specs.Figure.{chargeTo, chargeIn}
 use Rattle.sheet.proofs.figure.charge.Statement.{statement}
 use Rattle.sheet.proofs.figure.charge.Tie as tie
@@ -16,6 +16,13 @@ Inv-loop nums ticks i n sum₀ k₀ sum k = (k ≤ n) × (sum ≡ chargeTo nums 
 abbrev μ-loop : tie.MeasureT-loop
 μ-loop nums ticks i n sum₀ k₀ sum k = n - k
 
+-- from the loop to the place where both tables are lent, and to the start
+abbrev lent : tie.At-loop Inv-loop μ-loop → tie.After-shared-slice-known2 Inv-loop μ-loop
+lent c = c .before .before .before
+
+abbrev start : tie.At-loop Inv-loop μ-loop → tie.Start Inv-loop μ-loop
+start c = lent c .before .before
+
 loop-holds : tie.Need-loop-holds Inv-loop μ-loop
 unfolding chargeTo
 loop-holds c = (search needs, refl)
@@ -24,14 +31,19 @@ loop-again : tie.Need-loop-again Inv-loop μ-loop
 unfolding chargeTo
 loop-again c =
     let at = c .before .before .before in
-    let e = c .before .holds-core .ensures in
-    (search needs, ⊎-elim (λ w. rw (add-one, sym e ∙ w .0 .taken, ← (at .loop .inv .1), ← (w .1 .ensures)) (w .3 ∙ w .2 .ensures)) (λ w. rw (add-one, sym e ∙ w .0 .left) (w .1 ∙ at .loop .inv .1)) (c .if1 .came))
+    let e = c .before .holds-core .ensures in (
+      search needs,
+      ⊎-elim
+          (λ w. rw (add-one, sym e ∙ w .0 .taken, ← (at .loop .inv .1), ← (w .1 .ensures)) (w .3 ∙ w .2 .ensures))
+          (λ w. rw (add-one, sym e ∙ w .0 .left) (w .1 ∙ at .loop .inv .1))
+          (c .if1 .came),
+    )
 
 returns : tie.Need-returns Inv-loop μ-loop
 unfolding chargeIn
 returns c =
     let at = c .before in
-    let e : at .loop .k ≡ nameCount (at .before .before .before .before .before .args .nums .now) = omega arith in
+    let e : at .loop .k ≡ nameCount (start at .args .nums .now) = omega arith in
     at .loop .inv .1 ∙ rw e
 
 pub charge-spec : {M : Type 1} → statement M
@@ -41,7 +53,7 @@ charge-spec =
     Inv-loop
     μ-loop
     (λ c. search needs)
-    (λ c. omega (arith, c .shared-slice-known3 .given 7))
+    (λ c. omega (arith, c .shared-slice-known3 .given namesIndex))
     (λ c. search needs)
     (λ c. search needs)
     (λ c. search needs)

@@ -17,13 +17,16 @@ use Rattle.sheet.proofs.row.put_figures.Statement.{statement}
 use Rattle.sheet.proofs.row.put_figures.Tie as tie
 
 -- all figures have room, whatever the section is found to be
-has-room : (c : tie.Start) (s : Section) → c .args .section ≡ s → c .args .at + length (figuresText (figuresIn s (c .args .nums .now) (c .args .ticks .now) (c .args .i))) ≤ length (c .args .out .now)
+has-room : (c : tie.Start) (s : Section)
+    → let a = c .args in
+    a .section ≡ s → a .at + length (figuresText (figuresIn s (a .nums .now) (a .ticks .now) (a .i))) ≤ length (a .out .now)
 has-room c s e = rw e at (c .pre .1 .1 .1 .1)
 
--- ---- a core: from the place after a figure to the place after the one before it, and what is put there
+-- from the place where all that is lent is known to the start
+abbrev start : tie.After-slice-known → tie.Start
+start c = c .before .before .before
 
-abbrev d0 : tie.After-enum-told → tie.Start
-d0 c = c .before .before .before .before .before
+-- ---- a core
 
 abbrev held : tie.Start → ℕ
 held c = heldIn (c .args .nums .now) (c .args .ticks .now) (c .args .i)
@@ -34,36 +37,65 @@ idle c = idleIn (c .args .nums .now) (c .args .ticks .now) (c .args .i)
 abbrev unknown : tie.Start → ℕ
 unknown c = unknownAt (c .args .ticks .now) (c .args .i)
 
-all-room : (c : tie.After-enum-told) → d0 c .args .at + length (figuresText (held (d0 c) ∷ idle (d0 c) ∷ unknown (d0 c) ∷ [])) ≤ length (d0 c .args .out .now)
-all-room c = has-room (d0 c) Cores (c .enum-told .given .1)
+abbrev core-start : tie.After-enum-told → tie.Start
+core-start c = start (c .before .before)
 
-abbrev d1 : tie.After-put-figure → tie.After-enum-told
-d1 c = c .before .before .before
+all-room : (c : tie.After-enum-told)
+    → let s = core-start c in s .args .at + length (figuresText (held s ∷ idle s ∷ unknown s ∷ [])) ≤ length (s .args .out .now)
+all-room c = has-room (core-start c) Cores (c .enum-told .given .1)
 
-put-1 : (c : tie.After-put-figure) → after (c .put-figure .result) (c .put-figure .last .1 .0) ≡ put (d0 (d1 c) .args .out .now) (d0 (d1 c) .args .at) (figuresText (held (d0 (d1 c)) ∷ []))
-put-1 c = rw (← (c .before .before .held-ticks .ensures)) (c .put-figure .ensures)
+-- from the place after a figure to the one where its ticks are taken, from there to the figure before it, and what is put
+abbrev held-taken : tie.After-put-figure → tie.After-held-ticks
+held-taken c = c .before .before
 
-abbrev d2 : tie.After-put-figure2 → tie.After-put-figure
-d2 c = c .before .before .before .before .before
+abbrev core : tie.After-put-figure → tie.After-enum-told
+core c = held-taken c .before
 
-put-2 : (c : tie.After-put-figure2) → after (c .put-figure2 .result) (c .put-figure2 .last .1 .0) ≡ put (d2 c .put-figure .last .1 .0) (d2 c .put-figure .result) (figuresText (idle (d0 (d1 (d2 c))) ∷ []))
-put-2 c = rw (← (c .before .before .idle-ticks .ensures)) (c .put-figure2 .ensures)
+held-put : (c : tie.After-put-figure)
+    → let s = core-start (core c) in
+    after (c .put-figure .result) (c .put-figure .last .1 .0) ≡ put (s .args .out .now) (s .args .at) (figuresText (held s ∷ []))
+held-put c = rw (← (held-taken c .held-ticks .ensures)) (c .put-figure .ensures)
 
-returns : tie.Need-returns
-returns c =
+abbrev idle-taken : tie.After-put-figure2 → tie.After-idle-ticks
+idle-taken c = c .before .before
+
+abbrev first : tie.After-put-figure2 → tie.After-put-figure
+first c = idle-taken c .before .before .before
+
+idle-put : (c : tie.After-put-figure2)
+    → let p = first c .put-figure in
+    after (c .put-figure2 .result) (c .put-figure2 .last .1 .0) ≡ put (p .last .1 .0) (p .result) (figuresText (idle (core-start (core (first c))) ∷ []))
+idle-put c = rw (← (idle-taken c .idle-ticks .ensures)) (c .put-figure2 .ensures)
+
+abbrev unknown-taken : tie.After-put-figure3 → tie.After-shared-slice-known3
+unknown-taken c = c .before .before
+
+abbrev second : tie.After-put-figure3 → tie.After-put-figure2
+second c = unknown-taken c .before .before .before
+
+of-core : tie.Need-returns
+of-core c =
     let e3 = c .before .before in
-    let e2 = e3 .before .before .before .before .before in
-    let e1 = d2 e2 in
-    let e0 = d1 e1 in
-    let t = three-figures (held (d0 e0)) (idle (d0 e0)) (unknown (d0 e0)) in
-    rw (e0 .enum-told .given .1, t) (put-then _ _ _ _ (put-two _ _ _ _ (put-1 e1) (put-2 e2)) (e3 .put-figure3 .ensures) (rw t at (all-room e0)))
+    let e2 = second e3 in
+    let e1 = first e2 in
+    let s = core-start (core e1) in
+    let t = three-figures (held s) (idle s) (unknown s) in
+    rw (core e1 .enum-told .given .1, t)
+    (put-then _ _ _ _ (put-two _ _ _ _ (held-put e1) (idle-put e2)) (e3 .put-figure3 .ensures) (rw t at (all-room (core e1))))
+
+same-length : tie.Need-same-length
+same-length c = put-length _ _ _ (of-core c)
 
 -- ---- a process
 
-returns-2 : tie.Need-returns-2
-returns-2 c =
+of-process : tie.Need-returns-2
+of-process c =
     let p = c .before .before in
-    rw (p .before .before .before .enum-told2 .given .1, ← (p .before .before .charge .ensures)) (p .put-figure4 .ensures)
+    let charged = p .before .before in
+    rw (charged .before .enum-told2 .given .1, ← (charged .charge .ensures)) (p .put-figure4 .ensures)
+
+same-length-2 : tie.Need-same-length-2
+same-length-2 c = put-length _ _ _ (of-process c)
 
 pub put-figures-spec : {M : Type 1} → statement M
 put-figures-spec =
@@ -81,7 +113,7 @@ put-figures-spec =
     (λ c. search needs)
     (λ c κs. search needs)
     (λ c κs. tt)
-    (λ c. put-length _ _ _ (returns c))
-    returns
-    (λ c. put-length _ _ _ (returns-2 c))
-    returns-2)
+    same-length
+    of-core
+    same-length-2
+    of-process)

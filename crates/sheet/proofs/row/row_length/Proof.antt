@@ -20,25 +20,56 @@ valid-at c = valid _ _ _ (c .pre .0)
 abbrev row : tie.Start → Row
 row c = rowIn (c .args .section) (c .args .names .now) (c .args .nums .now) (c .args .ticks .now) (c .args .i)
 
-abbrev d : tie.After-figures-length → tie.Start
-d c = c .before .before .before .before .before
+-- from the place where the tables are lent to the start
+abbrev start : tie.After-shared-slice-known3 → tie.Start
+start c = c .before .before .before
 
-sum : (c : tie.After-figures-length) → lengthAt (d c .args .nums .now) (d c .args .i) + c .figures-length .result + 1 ≡ length (rowText (row (d c)))
+-- ---- the length of the name
+
+add-name : tie.Need-add-name
+add-name c = omega (arith, valid-at (start c))
+
+mul-name : tie.Need-mul-name
+mul-name c = omega (arith, valid-at (start c))
+
+read-name : tie.Need-shared-slice-read-name
+read-name c = omega (arith, valid-at (start (c .before)))
+
+cast-name : tie.Need-cast-name
+cast-name c = omega (arith, c .shared-slice-known4 .given (lengthColumn .base + start (c .before) .args .i))
+
+figures-length-requires : tie.Need-figures-length-requires
+figures-length-requires c κs = let v = valid-at (start (c .before)) in search needs
+
+-- ---- with the figures
+
+abbrev line-start : tie.After-figures-length → tie.Start
+line-start c = start (c .before .before)
+
+sum : (c : tie.After-figures-length)
+    → let s = line-start c in lengthAt (s .args .nums .now) (s .args .i) + c .figures-length .result + 1 ≡ length (rowText (row s))
 sum c =
-    omega (arith, c .figures-length .ensures, length-row (row (d c)), name-sized (valid-at (d c)) (d c .args .i) (d c .pre .1))
+    let s = line-start c in
+    omega (arith, c .figures-length .ensures, length-row (row s), name-sized (valid-at s) (s .args .i) (s .pre .1))
 
-no-wrap : (c : tie.After-figures-length) → length (rowText (row (d c))) ≤ 128
-no-wrap c = row-short (valid-at (d c)) (d c .args .section) (d c .args .i) (d c .pre .1)
+short : (c : tie.After-figures-length) → length (rowText (row (line-start c))) ≤ 128
+short c = let s = line-start c in row-short (valid-at s) (s .args .section) (s .args .i) (s .pre .1)
+
+add-figures : tie.Need-add-result
+add-figures c = omega (arith, sum c, short c)
+
+add-end : tie.Need-add-result-2
+add-end c = omega (arith, sum c, short c)
 
 pub row-length-spec : {M : Type 1} → statement M
 row-length-spec =
     tie.close
     (tie.spec
-    (λ c. omega (arith, valid-at (c .before .before .before)))
-    (λ c. omega (arith, valid-at (c .before .before .before)))
-    (λ c. omega (arith, valid-at (c .before .before .before .before)))
-    (λ c. omega (arith, c .shared-slice-known4 .given (lengthColumn .base + c .before .before .before .before .args .i)))
-    (λ c κs. let v = valid-at (c .before .before .before .before) in search needs)
-    (λ c. omega (arith, sum c, no-wrap c))
-    (λ c. omega (arith, sum c, no-wrap c))
+    add-name
+    mul-name
+    read-name
+    cast-name
+    figures-length-requires
+    add-figures
+    add-end
     sum)

@@ -19,38 +19,72 @@ use Rattle.sheet.proofs.Rooms.{section-room}
 abbrev rows : tie.Start → List Row
 rows c = rowsIn (c .args .section) (c .args .names .now) (c .args .nums .now) (c .args .ticks .now)
 
--- from the place after a piece to the place after the one before it, what is put there, and the room that the pieces after it have
-abbrev d0 : tie.After-put-title → tie.Start
-d0 c = c .before .before .before .before .before .before .before
+-- back over what is known of the output and of the three tables
+abbrev lent : tie.After-slice-known → tie.After-shared-slice-known3
+lent c = c .before
 
-room-1 : (c : tie.After-put-title) → Room (c .put-title .last .1 .0) (c .put-title .result) (digitsOf (length (rows (d0 c))) ∷ (10 ∷ []) ∷ rowsText (rows (d0 c)) ∷ [])
-room-1 c = next-room (section-room (d0 c .args .out .now) (d0 c .args .at) (title (d0 c .args .section)) (rows (d0 c)) (d0 c .pre .1)) (c .put-title .ensures)
+abbrev start : tie.After-slice-known → tie.Start
+start c = lent c .before .before .before
 
-abbrev d1 : tie.After-put-number → tie.After-put-title
-d1 c = c .before .before .before .before
+-- from the place where a piece is put to the one after the piece before it, what is put there, and the room that the pieces after it have
+abbrev counted : tie.After-put-title → tie.After-rows-count
+counted c = c .before .before
 
-put-2 : (c : tie.After-put-number) → after (c .put-number .result) (c .put-number .last .1 .0) ≡ put (d1 c .put-title .last .1 .0) (d1 c .put-title .result) (digitsOf (length (rows (d0 (d1 c)))))
-put-2 c = rw (← (d1 c .before .before .rows-count .ensures)) (c .put-number .ensures)
+abbrev title-start : tie.After-put-title → tie.Start
+title-start c = start (counted c .before)
 
-room-2 : (c : tie.After-put-number) → Room (c .put-number .last .1 .0) (c .put-number .result) ((10 ∷ []) ∷ rowsText (rows (d0 (d1 c))) ∷ [])
-room-2 c = next-room (room-1 (d1 c)) (put-2 c)
+title-room : (c : tie.After-put-title)
+    → let rs = rows (title-start c) in Room (c .put-title .last .1 .0) (c .put-title .result) (digitsOf (length rs) ∷ (10 ∷ []) ∷ rowsText rs ∷ [])
+title-room c =
+    let s = title-start c in
+    next-room (section-room (s .args .out .now) (s .args .at) (title (s .args .section)) (rows s) (s .pre .1)) (c .put-title .ensures)
 
-abbrev d2 : tie.After-put-bytes → tie.After-put-number
-d2 c = c .before .before .before .before .before
+abbrev titled : tie.After-put-number-arg → tie.After-put-title
+titled c = c .before .before .before
 
-room-3 : (c : tie.After-put-bytes) → Room (c .put-bytes .last .1 .0) (c .put-bytes .result) (rowsText (rows (d0 (d1 (d2 c)))) ∷ [])
-room-3 c = next-room (room-2 (d2 c)) (c .put-bytes .ensures)
+abbrev number-start : tie.After-put-number → tie.Start
+number-start c = title-start (titled (c .before))
+
+number-put : (c : tie.After-put-number)
+    → let t = titled (c .before) .put-title in
+    after (c .put-number .result) (c .put-number .last .1 .0) ≡ put (t .last .1 .0) (t .result) (digitsOf (length (rows (number-start c))))
+number-put c = rw (← (counted (titled (c .before)) .rows-count .ensures)) (c .put-number .ensures)
+
+number-room : (c : tie.After-put-number) → Room (c .put-number .last .1 .0) (c .put-number .result) ((10 ∷ []) ∷ rowsText (rows (number-start c)) ∷ [])
+number-room c = next-room (title-room (titled (c .before))) (number-put c)
+
+abbrev numbered : tie.After-put-bytes-arg → tie.After-put-number
+numbered c = c .before .before .before
+
+abbrev before-end : tie.After-put-bytes → tie.After-put-number
+before-end c = numbered (c .before .before)
+
+end-room : (c : tie.After-put-bytes) → Room (c .put-bytes .last .1 .0) (c .put-bytes .result) (rowsText (rows (number-start (before-end c))) ∷ [])
+end-room c = next-room (number-room (before-end c)) (c .put-bytes .ensures)
+
+abbrev ended : tie.After-put-rows-arg → tie.After-put-bytes
+ended c = c .before .before .before
+
+put-rows-requires : tie.Need-put-rows-requires
+put-rows-requires c κs = (number-start (before-end (ended c)) .pre .0, first-room (end-room (ended c)))
 
 returns : tie.Need-returns
 unfolding sectionText
 returns c =
-    let e4 = c .before .before in
-    let e3 = e4 .before .before .before .before in
-    let e2 = d2 e3 in
-    let e1 = d1 e2 in
-    let s = d0 e1 in
+    let lines = c .before .before in
+    let end = ended (lines .before) in
+    let number = before-end end in
+    let title-put = titled (number .before) .put-title .ensures in
+    let s = number-start number in
+    let t = title (s .args .section) in
     let n = digitsOf (length (rows s)) in
-    put-then _ _ (title (s .args .section) ++ n) (10 ∷ rowsText (rows s)) (put-two _ _ (title (s .args .section)) n (e1 .put-title .ensures) (put-2 e2)) (put-two _ _ (10 ∷ []) (rowsText (rows s)) (e3 .put-bytes .ensures) (e4 .put-rows .ensures) (omega (arith, room-2 e2 .fit))) (s .pre .1)
+    put-then _ _ (t ++ n) (10 ∷ rowsText (rows s))
+    (put-two _ _ t n title-put (number-put number))
+    (put-two _ _ (10 ∷ []) (rowsText (rows s)) (end .put-bytes .ensures) (lines .put-rows .ensures) (omega (arith, number-room number .fit)))
+    (s .pre .1)
+
+same-length : tie.Need-same-length
+same-length c = put-length _ _ _ (returns c)
 
 pub put-section-spec : {M : Type 1} → statement M
 put-section-spec =
@@ -61,6 +95,6 @@ put-section-spec =
     (λ c κs. tt)
     (λ c. search needs)
     (λ c κs. tt)
-    (λ c κs. let e3 = c .before .before .before in (d0 (d1 (d2 e3)) .pre .0, first-room (room-3 e3)))
-    (λ c. put-length _ _ _ (returns c))
+    put-rows-requires
+    same-length
     returns)

@@ -7,7 +7,7 @@ use native.Mathlib.Omega.{arith}
 use borrow.Author.Needs.{needs}
 use lib.ListN.{length}
 use Rattle.bill.specs.Text.{rowsText}
-use Rattle.tables.specs.Entry.{nameRows, numsSize, nameCount}
+use Rattle.tables.specs.Entry.{nameRows, numsSize, namesIndex, nameCount}
 use Rattle.tables.proofs.Valid.{valid}
 use Rattle.sheet.specs.Sheet.{rowsTo, rowsIn}
 use Rattle.sheet.proofs.Rows.{length-in, row-out}
@@ -16,39 +16,60 @@ use Rattle.sheet.proofs.sheet.rows_length.Statement.{statement}
 use Rattle.sheet.proofs.sheet.rows_length.Tie as tie
 
 abbrev Inv-loop : tie.InvT-loop
-Inv-loop names nums ticks section n sum₀ i₀ sum i = (i ≤ n) × (n ≤ nameRows) × (length nums ≡ numsSize) × (sum ≡ length (rowsText (rowsTo section names nums ticks i)))
+Inv-loop names nums ticks section n sum₀ i₀ sum i =
+    (i ≤ n) × (n ≤ nameRows) × (length nums ≡ numsSize) × (sum ≡ length (rowsText (rowsTo section names nums ticks i)))
 
 abbrev μ-loop : tie.MeasureT-loop
 μ-loop names nums ticks section n sum₀ i₀ sum i = n - i
 
+-- from the place where the count of names was read to the one where the tables are lent, and to the start
+abbrev lent : tie.After-shared-slice-known4 Inv-loop μ-loop → tie.After-shared-slice-known3 Inv-loop μ-loop
+lent c = c .before
+
+abbrev start : tie.After-shared-slice-known4 Inv-loop μ-loop → tie.Start Inv-loop μ-loop
+start c = lent c .before .before .before
+
+-- from the test of a row to its turn of the loop
+abbrev turn : tie.After-in-section Inv-loop μ-loop → tie.In-loop Inv-loop μ-loop
+turn c = c .before .before
+
 loop-holds : tie.Need-loop-holds Inv-loop μ-loop
 unfolding rowsTo rowsText
 loop-holds c =
-    let v = valid _ _ _ (c .before .before .before .before .pre) in
+    let v = valid _ _ _ (start c .pre) in
     (omega arith, v .name-count, v .sizes .nums-size, refl)
 
 add-sum : tie.Need-add-sum Inv-loop μ-loop
 add-sum c =
-    let turn = c .before .before .before .before in
-    let at = turn .before in
-    let s = at .before .before .before .before .before in
+    let t = turn (c .before .before) in
+    let at = t .before in
+    let s = start (at .before) in
     let v = valid _ _ _ (s .pre) in
-    omega (arith, c .row-length .ensures, row-short v (s .args .section) (at .loop .i) (turn .loop-test .taken), rows-short v (s .args .section) (at .loop .i) (at .loop .inv .0))
+    let row = row-short v (s .args .section) (at .loop .i) (t .loop-test .taken) in
+    let rows = rows-short v (s .args .section) (at .loop .i) (at .loop .inv .0) in
+    omega (arith, c .row-length .ensures, row, rows)
 
 loop-again : tie.Need-loop-again Inv-loop μ-loop
 loop-again c =
-    let at = c .before .before .before .before in
+    let at = turn (c .before) .before in
     let inv = at .loop .inv in
-    let a = at .before .before .before .before .before .args in
+    let a = start (at .before) .args in
     let out = row-out (a .section) (a .names .now) (a .nums .now) (a .ticks .now) (at .loop .i) in
-    let e = sym (c .before .in-section .ensures) in
-    (search needs, inv .1, inv .2, ⊎-elim (λ w. w .2 ∙ rw (inv .3, w .1 .ensures) (sym (length-in _ _ _ _ _ (e ∙ w .0 .taken)))) (λ w. rw (out (e ∙ w .0 .left)) (w .1 ∙ inv .3)) (c .if1 .came))
+    let e = sym (c .before .in-section .ensures) in (
+      search needs,
+      inv .1,
+      inv .2,
+      ⊎-elim
+          (λ w. w .2 ∙ rw (inv .3, w .1 .ensures) (sym (length-in _ _ _ _ _ (e ∙ w .0 .taken))))
+          (λ w. rw (out (e ∙ w .0 .left)) (w .1 ∙ inv .3))
+          (c .if1 .came),
+    )
 
 returns : tie.Need-returns Inv-loop μ-loop
 unfolding rowsIn
 returns c =
     let at = c .before in
-    let e : at .loop .i ≡ nameCount (at .before .before .before .before .before .args .nums .now) = omega arith in
+    let e : at .loop .i ≡ nameCount (start (at .before) .args .nums .now) = omega arith in
     at .loop .inv .3 ∙ rw e
 
 pub rows-length-spec : {M : Type 1} → statement M
@@ -57,8 +78,8 @@ rows-length-spec =
     (tie.spec
     Inv-loop
     μ-loop
-    (λ c. omega (arith, valid _ _ _ (c .before .before .before .before .pre)))
-    (λ c. omega (arith, c .shared-slice-known4 .given 7))
+    (λ c. omega (arith, valid _ _ _ (start c .pre)))
+    (λ c. omega (arith, c .shared-slice-known4 .given namesIndex))
     loop-holds
     (λ c. search needs)
     (λ c. search needs)

@@ -22,17 +22,35 @@ rows c = rowsIn (c .args .section) (c .args .names .now) (c .args .nums .now) (c
 abbrev text : tie.Start → List ℕ
 text c = sectionText (title (c .args .section)) (rows c)
 
-abbrev d : tie.After-digit-count → tie.Start
-d c = c .before .before .before .before .before .before .before
+-- from the last of the lengths to the count of rows, which is taken where the tables are lent, and to the start
+abbrev counted : tie.After-digit-count → tie.After-rows-count
+counted c = c .before .before .before
 
-sum : (c : tie.After-digit-count) → c .before .title-length .result + c .digit-count .result + 1 + c .before .before .rows-length .result ≡ length (text (d c))
+abbrev lent : tie.After-rows-count → tie.After-shared-slice-known3
+lent c = c .before
+
+abbrev start : tie.After-digit-count → tie.Start
+start c = lent (counted c) .before .before .before
+
+sum : (c : tie.After-digit-count)
+    → c .before .title-length .result + c .digit-count .result + 1 + c .before .before .rows-length .result ≡ length (text (start c))
 sum c =
+    let s = start c in
     let t = c .before in
-    let n : c .digit-count .result ≡ length (digitsOf (length (rows (d c)))) = rw (← (t .before .before .rows-count .ensures)) (c .digit-count .ensures) in
-    omega (arith, t .title-length .ensures, t .before .rows-length .ensures, length-section (title (d c .args .section)) (rows (d c)))
+    let n : c .digit-count .result ≡ length (digitsOf (length (rows s))) = rw (← (counted c .rows-count .ensures)) (c .digit-count .ensures) in
+    omega (arith, t .title-length .ensures, t .before .rows-length .ensures, length-section (title (s .args .section)) (rows s))
 
-no-wrap : (c : tie.After-digit-count) → length (text (d c)) ≤ 32800
-no-wrap c = section-short (valid _ _ _ (d c .pre)) (d c .args .section)
+short : (c : tie.After-digit-count) → length (text (start c)) ≤ 32800
+short c = section-short (valid _ _ _ (start c .pre)) (start c .args .section)
+
+add-digits : tie.Need-add-result
+add-digits c = omega (arith, sum c, short c)
+
+add-end : tie.Need-add-result-2
+add-end c = omega (arith, sum c, short c)
+
+add-rows : tie.Need-add-result-3
+add-rows c = omega (arith, sum c, short c)
 
 pub section-length-spec : {M : Type 1} → statement M
 section-length-spec =
@@ -42,7 +60,7 @@ section-length-spec =
     (λ c κs. search needs)
     (λ c κs. tt)
     (λ c κs. tt)
-    (λ c. omega (arith, sum c, no-wrap c))
-    (λ c. omega (arith, sum c, no-wrap c))
-    (λ c. omega (arith, sum c, no-wrap c))
+    add-digits
+    add-end
+    add-rows
     sum)
