@@ -4,17 +4,26 @@ use Rattle.run.proofs.Turns.{left-long, left-more}
 use Rattle.run.proofs.chunk.carry_over.Statement.{statement}
 use Rattle.run.proofs.chunk.carry_over.Tie as tie
 
-returns : tie.Need-returns
-returns c =
-    let q = c .before .before .before .before .before .before in
-    let i = q .before .before .before .before .before .before in
-    left-long _ _ _ _ (i .before .before .before .before .before .pre) (i .if1 .taken) (q .feed .ensures)
+-- from the place where the tables and the buffer are known to the start
+abbrev start : tie.After-slice-known4 → tie.Start
+start c =
+    let nums-known = c .before .before in
+    nums-known .before .before
 
-returns-2 : tie.Need-returns-2
-returns-2 c =
+long : tie.Need-returns
+long c =
+    let nums-known = c .before .before in
+    let names-known = nums-known .before .before in
+    let q = names-known .before .before in
+    let ticks-lent = q .before .before .before in
+    let i = ticks-lent .before .before .before in
+    left-long _ _ _ _ (start (i .before) .pre) (i .if1 .taken) (q .feed .ensures)
+
+moved : tie.Need-returns-2
+moved c =
     let q = c .before .before in
     let i = q .before .before in
-    left-more _ _ _ _ (i .before .before .before .before .before .pre) (i .if1 .left) (q .shift .ensures)
+    left-more _ _ _ _ (start (i .before) .pre) (i .if1 .left) (q .shift .ensures)
 
 pub carry-over-spec : {M : Type 1} → statement M
 carry-over-spec =
@@ -29,7 +38,7 @@ carry-over-spec =
     (λ c. search needs)
     (λ c. search needs)
     (λ c. search needs)
-    returns
+    long
     (λ c κs. search needs)
     (λ c. search needs)
-    returns-2)
+    moved)
