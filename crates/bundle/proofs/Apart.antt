@@ -95,7 +95,9 @@ pub trace-inside : (s : List ℕ) (at : ℕ) {w : Entry} {end size : ℕ} → w 
 unfolding entryFrom
 trace-inside s at {w} {end} {size} e p = by-end (ltb (findFrom 10 s at) (length s)) (sym e ∙ p)
   where
-    by-end : (b : Bool) → cond b (headerEntry s (findFrom 10 s at) (lengthIn (take (findFrom 10 s at - at) (drop at s)))) Untold ≡ Trace end size → Inside s at end size
+    by-end : (b : Bool)
+        → cond b (headerEntry s (findFrom 10 s at) (lengthIn (take (findFrom 10 s at - at) (drop at s)))) Untold ≡ Trace end size
+        → Inside s at end size
     by-end true z = entry-inside s at (findFrom 10 s at) (lengthIn (take (findFrom 10 s at - at) (drop at s))) (find-ge 10 s at) z
     by-end false z = absurd (let x : _≡_ {A = ℕ} 0 1 = cc in omega arith)
 

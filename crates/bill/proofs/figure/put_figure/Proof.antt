@@ -15,15 +15,15 @@ use Rattle.bill.proofs.figure.put_figure.Tie as tie
 add-length : tie.Need-add-length
 add-length c = let a = c .before .before .args in omega (arith, c .digit-count .ensures, digits-short (a .n) (omega arith))
 
-returns : tie.Need-returns
-returns c =
+nothing-put : tie.Need-returns
+nothing-put c =
     let d = c .before .before in
     let a = d .before .before .args in
     let full = sym (c .before .room .ensures) ∙ not-true (c .before .room .result) (c .if1 .taken) in
     sym (put-full (a .out .now) (a .at) (figuresText (a .n ∷ [])) (omega (arith, leb-false, length-figure (a .n), d .digit-count .ensures)))
 
-returns-2 : tie.Need-returns-2
-returns-2 c =
+both-put : tie.Need-returns-2
+both-put c =
     let b = c .before .before in
     let between = b .before .before in
     let p = between .before .before in
@@ -41,9 +41,9 @@ put-figure-spec =
     (λ c κs. tt)
     add-length
     (λ c κs. tt)
-    returns
+    nothing-put
     (λ c. search needs)
     (λ c κs. tt)
     (λ c κs. tt)
     (λ c. search needs)
-    returns-2)
+    both-put)

@@ -34,4 +34,15 @@ returns c =
     p .put-bytes .ensures ∙ rw (w .scale-length .ensures, w .before .scale-start .ensures, n, scale-part a .0)
 
 pub put-scale-spec : {M : Type 1} → statement M
-put-scale-spec = tie.close (tie.spec (λ c κs. tt) (λ c κs. tt) add-to (λ c. search needs) (λ c. search needs) part-put-bytes-end (λ c κs. tt) (λ c. search needs) returns)
+put-scale-spec =
+    tie.close
+    (tie.spec
+    (λ c κs. tt)
+    (λ c κs. tt)
+    add-to
+    (λ c. search needs)
+    (λ c. search needs)
+    part-put-bytes-end
+    (λ c κs. tt)
+    (λ c. search needs)
+    returns)

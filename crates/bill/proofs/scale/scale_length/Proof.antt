@@ -9,16 +9,16 @@ use Rattle.bill.proofs.Scales.{scale-past, scale-two}
 use Rattle.bill.proofs.scale.scale_length.Statement.{statement}
 use Rattle.bill.proofs.scale.scale_length.Tie as tie
 
-returns : tie.Need-returns
+one-byte : tie.Need-returns
 unfolding scaleText scaleWord
-returns c = rw (c .if1 .taken)
+one-byte c = rw (c .if1 .taken)
 
-returns-2 : tie.Need-returns-2
+none : tie.Need-returns-2
 unfolding scaleText
-returns-2 c = ⊎-elim (λ w. rw (w .taken)) (λ w. sym (ap length (scale-past (c .before .before .args .scale) (ltb-true 5 _ (w .1 .taken))))) (c .if2 .came)
+none c = ⊎-elim (λ w. rw (w .taken)) (λ w. sym (ap length (scale-past (c .before .before .args .scale) (ltb-true 5 _ (w .1 .taken))))) (c .if2 .came)
 
-returns-3 : tie.Need-returns-3
-returns-3 c = let e = c .before in sym (scale-two _ (e .if2 .left) (e .before .if1 .left) (ltb-false 5 _ (c .if3 .left)))
+two-bytes : tie.Need-returns-3
+two-bytes c = let e = c .before in sym (scale-two _ (e .if2 .left) (e .before .if1 .left) (ltb-false 5 _ (c .if3 .left)))
 
 pub scale-length-spec : {M : Type 1} → statement M
-scale-length-spec = tie.close (tie.spec returns returns-2 returns-3)
+scale-length-spec = tie.close (tie.spec one-byte none two-bytes)

@@ -6,12 +6,12 @@ use Rattle.bill.proofs.Scales.{start-past}
 use Rattle.bill.proofs.scale.scale_start.Statement.{statement}
 use Rattle.bill.proofs.scale.scale_start.Tie as tie
 
-returns : tie.Need-returns
-returns c = sym (start-past _ (c .if1 .taken))
+past-end : tie.Need-returns
+past-end c = sym (start-past _ (c .if1 .taken))
 
-returns-2 : tie.Need-returns-2
+in-table : tie.Need-returns-2
 unfolding scaleStart
-returns-2 c = search needs
+in-table c = search needs
 
 pub scale-start-spec : {M : Type 1} → statement M
-scale-start-spec = tie.close (tie.spec returns (λ c. search needs) (λ c. search needs) returns-2)
+scale-start-spec = tie.close (tie.spec past-end (λ c. search needs) (λ c. search needs) in-table)

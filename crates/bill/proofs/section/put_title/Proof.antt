@@ -3,13 +3,13 @@ use borrow.Author.Needs.{needs}
 use Rattle.bill.proofs.section.put_title.Statement.{statement}
 use Rattle.bill.proofs.section.put_title.Tie as tie
 
-returns : tie.Need-returns
-returns c =
+cores : tie.Need-returns
+cores c =
     let p = c .before .before in
     rw (p .before .before .before .enum-told .given .1) (p .put-bytes .ensures)
 
-returns-2 : tie.Need-returns-2
-returns-2 c =
+processes : tie.Need-returns-2
+processes c =
     let p = c .before .before in
     rw (p .before .before .before .enum-told2 .given .1) (p .put-bytes2 .ensures)
 
@@ -24,6 +24,6 @@ put-title-spec =
     (λ c. search needs)
     (λ c κs. tt)
     (λ c. search needs)
-    returns
+    cores
     (λ c. search needs)
-    returns-2)
+    processes)

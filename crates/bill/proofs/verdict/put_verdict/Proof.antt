@@ -20,8 +20,8 @@ fits c =
     let l = c .before .before .verdict-length in
     omega (arith, l .ensures, has-room _ (a .at + l .result) (length (a .out .now)) (c .before .room .ensures) (c .if1 .left))
 
-returns : tie.Need-returns
-returns c =
+full : tie.Need-returns
+full c =
     let a = begun (c .before) .args in
     let l = c .before .before .verdict-length in
     let h = no-room _ (a .at + l .result) (length (a .out .now)) (c .before .room .ensures) (c .if1 .taken) in
@@ -30,8 +30,8 @@ returns c =
 put-accepted-requires : tie.Need-put-accepted-requires
 put-accepted-requires c κs = let i = c .before in let e = i .before .before in rw (verdict-accepted (begun (e .before) .args .v) (i .if2 .taken)) at (fits e)
 
-returns-2 : tie.Need-returns-2
-returns-2 c =
+accepted : tie.Need-returns-2
+accepted c =
     let p = c .before .before in
     let i = p .before .before in
     rw (verdict-accepted (begun (i .before .before .before) .args .v) (i .if2 .taken)) (p .put-accepted .ensures)
@@ -39,8 +39,8 @@ returns-2 c =
 put-refused-requires : tie.Need-put-refused-requires
 put-refused-requires c κs = let i = c .before in let e = i .before .before in rw (verdict-refused (begun (e .before) .args .v) (i .if2 .left)) at (fits e)
 
-returns-3 : tie.Need-returns-3
-returns-3 c =
+refused : tie.Need-returns-3
+refused c =
     let p = c .before .before in
     let i = p .before .before in
     rw (verdict-refused (begun (i .before .before .before) .args .v) (i .if2 .left)) (p .put-refused .ensures)
@@ -51,10 +51,10 @@ put-verdict-spec =
     (tie.spec
     (λ c κs. tt)
     (λ c κs. tt)
-    returns
+    full
     put-accepted-requires
     (λ c. search needs)
-    returns-2
+    accepted
     put-refused-requires
     (λ c. search needs)
-    returns-3)
+    refused)

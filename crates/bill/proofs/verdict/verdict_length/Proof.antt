@@ -37,19 +37,37 @@ refused c =
     let e = ap length (verdict-refused v (i .if1 .left)) ∙ length-refused (v .number) (v .line) in
     (omega arith, omega (arith, digits-short (v .number) (omega arith), digits-short (v .line) (omega arith)))
 
+add-span : tie.Need-add-result
+add-span c = omega (arith, accepted c)
+
+add-accepted : tie.Need-add-result-2
+add-accepted c = omega (arith, accepted c)
+
+is-accepted : tie.Need-returns
+is-accepted c = accepted c .0
+
+add-line : tie.Need-add-result-3
+add-line c = omega (arith, refused c)
+
+add-refused : tie.Need-add-result-4
+add-refused c = omega (arith, refused c)
+
+is-refused : tie.Need-returns-2
+is-refused c = refused c .0
+
 pub verdict-length-spec : {M : Type 1} → statement M
 verdict-length-spec =
     tie.close
     (tie.spec
     (λ c κs. tt)
     (λ c κs. tt)
-    (λ c. omega (arith, accepted c))
-    (λ c. omega (arith, accepted c))
-    (λ c. accepted c .0)
+    add-span
+    add-accepted
+    is-accepted
     (λ c. search needs)
     (λ c κs. tt)
     (λ c. search needs)
     (λ c κs. tt)
-    (λ c. omega (arith, refused c))
-    (λ c. omega (arith, refused c))
-    (λ c. refused c .0))
+    add-line
+    add-refused
+    is-refused)

@@ -14,30 +14,46 @@ end-ge c = rw (c .find .ensures) (find-ge 10 (c .before .before .args .s .now) (
 abbrev ended : tie.After-length-in → tie.Else1
 ended c = c .before .before
 
-returns : tie.Need-returns
-returns c = no-end _ _ _ (c .before .find .ensures) (c .if1 .taken)
+-- from the place where the length was told to the header's
+abbrev measured : tie.After-n → tie.After-length-in
+measured c = c .before .before
 
-returns-2 : tie.Need-returns-2
-returns-2 c =
+-- from the byte behind the trace, over the rest that is long enough, to the length
+abbrev reached : tie.After-shared-slice-known2 → tie.After-n
+reached c =
+    let long = c .before in
+    long .before .before .before
+
+endless : tie.Need-returns
+endless c = no-end _ _ _ (c .before .find .ensures) (c .if1 .taken)
+
+sub-length-in : tie.Need-sub-length-in
+sub-length-in c = end-ge (c .before)
+
+part-start : tie.Need-part-length-in-start
+part-start c = let h = end-ge (c .before) in omega arith
+
+lengthless : tie.Need-returns-2
+lengthless c =
     let l = c .before .before in
     no-length _ _ _ (ended l .before .find .ensures) (ended l .if1 .left) (l .length-in .ensures) (c .enum-told .given .1)
 
-returns-3 : tie.Need-returns-3
-returns-3 c =
+short : tie.Need-returns-3
+short c =
     let n = c .before .before .before in
-    let l = n .before .before in
+    let l = measured n in
     too-short _ _ _ (ended l .before .find .ensures) (ended l .if1 .left) (l .length-in .ensures) (n .n .given .1) (c .if2 .taken)
 
-returns-4 : tie.Need-returns-4
-returns-4 c =
-    let n = c .before .before .before .before .before in
-    let l = n .before .before in
+other : tie.Need-returns-4
+other c =
+    let n = reached (c .before) in
+    let l = measured n in
     other-byte _ _ _ (ended l .before .find .ensures) (ended l .if1 .left) (l .length-in .ensures) (n .n .given .1) (c .if3 .taken)
 
-returns-5 : tie.Need-returns-5
-returns-5 c =
-    let n = c .before .before .before .before .before in
-    let l = n .before .before in
+there : tie.Need-returns-5
+there c =
+    let n = reached (c .before) in
+    let l = measured n in
     trace-there _ _ _ (ended l .before .find .ensures) (ended l .if1 .left) (l .length-in .ensures) (n .n .given .1) (c .if3 .left)
 
 pub entry-from-spec : {M : Type 1} → statement M
@@ -45,19 +61,19 @@ entry-from-spec =
     tie.close
     (tie.spec
     (λ c κs. search needs)
-    returns
-    (λ c. end-ge (c .before))
-    (λ c. let h = end-ge (c .before) in omega arith)
+    endless
+    sub-length-in
+    part-start
     (λ c. search needs)
     (λ c κs. search needs)
     (λ c. search needs)
     (λ c. search needs)
-    returns-2
+    lengthless
     (λ c. search needs)
     (λ c. search needs)
     (λ c. search needs)
     (λ c. search needs)
-    returns-3
+    short
     (λ c. search needs)
-    returns-4
-    returns-5)
+    other
+    there)

@@ -17,4 +17,13 @@ part-result-start : tie.Need-part-result-start
 part-result-start c = let h = blank-ge (c .before) in omega arith
 
 pub label-in-spec : {M : Type 1} → statement M
-label-in-spec = tie.close (tie.spec (λ c κs. search needs) (λ c. search needs) (λ c. search needs) sub-result part-result-start (λ c. search needs) (λ c. search needs))
+label-in-spec =
+    tie.close
+    (tie.spec
+    (λ c κs. search needs)
+    (λ c. search needs)
+    (λ c. search needs)
+    sub-result
+    part-result-start
+    (λ c. search needs)
+    (λ c. search needs))

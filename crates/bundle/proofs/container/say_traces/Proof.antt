@@ -26,17 +26,40 @@ inside : (c : tie.After-end Inv-loop μ-loop) →
     (top (found c) .loop .at ≤ t .0) × (t .0 + 1 + t .1 .0 < length (top (found c) .before .before .args .s .now))
 inside c = trace-inside _ _ (found c .entry-from .ensures) (c .end .given .1)
 
+holds : tie.Need-loop-holds Inv-loop μ-loop
+holds c = (search needs, search needs, all-remain _)
+
 broken : tie.Need-returns Inv-loop μ-loop
 broken c =
     let e = c .before .before in
     broken-here (top e .loop .inv .2) (e .before .loop-test .taken) (e .entry-from .ensures) (c .enum-told .given .1)
 
+say-entry-requires : tie.Need-say-entry-requires Inv-loop μ-loop
+say-entry-requires c κs = inside (c .before)
+
+-- ---- once the trace is said
+
+abbrev told : tie.After-say-entry Inv-loop μ-loop → tie.After-end Inv-loop μ-loop
+told c = c .before .before
+
+add-at : tie.Need-add-at Inv-loop μ-loop
+add-at c = omega (arith, inside (told c))
+
+add-at-2 : tie.Need-add-at-2 Inv-loop μ-loop
+add-at-2 c = omega (arith, inside (told c))
+
+less : tie.Need-loop-less Inv-loop μ-loop
+less c = omega (arith, inside (told c))
+
 again : tie.Need-loop-again Inv-loop μ-loop
 again c =
-    let t = c .before .before in
+    let t = told c in
     let e = found t in
     let i = inside t in
     (omega arith, omega arith, one-less (top e .loop .inv .2) (e .before .loop-test .taken) (e .entry-from .ensures) (t .end .given .1))
+
+all-said : tie.Need-returns-2 Inv-loop μ-loop
+all-said c = none-remain (c .before .loop .inv .2) (search needs)
 
 pub say-traces-spec : {M : Type 1} → statement M
 say-traces-spec =
@@ -44,15 +67,15 @@ say-traces-spec =
     (tie.spec
     Inv-loop
     μ-loop
-    (λ c. (search needs, search needs, all-remain _))
+    holds
     (λ c κs. search needs)
     (λ c. search needs)
     (λ c. search needs)
     broken
-    (λ c κs. inside (c .before))
-    (λ c. omega (arith, inside (c .before .before)))
-    (λ c. omega (arith, inside (c .before .before)))
+    say-entry-requires
+    add-at
+    add-at-2
     (λ c. search needs)
-    (λ c. omega (arith, inside (c .before .before)))
+    less
     again
-    (λ c. none-remain (c .before .loop .inv .2) (search needs)))
+    all-said)
