@@ -42,7 +42,9 @@ turn-step t buf n rest r rs e =
   where
     by-tests : (a : ℕ) (b : Bool) (u : Tables) (s : List ℕ) → length s ≤ length buf →
         goesOn
-        (ifZero a (cond b (record { turn = Stop; left = fedLine u s .left; buffer = buf }) (record { turn = More (length s); left = u; buffer = written buf 0 s }))
+        (ifZero a
+        (cond b (record { turn = Stop; left = fedLine u s .left; buffer = buf })
+        (record { turn = More (length s); left = u; buffer = written buf 0 s }))
         (record { turn = Stop; left = u; buffer = buf })) rs
         ≡ ifZero a (cond b (stopped (fedLine u s .left)) (readOn u s rs)) (stopped u)
     by-tests zero true u s h = refl

@@ -137,7 +137,9 @@ module _ {names nums ticks : List ℕ} {v : Verdict} {n : ℕ} (t : Told names n
       module _ {j : ℕ} (c : r ≡ Done j) where
         done : (n + j ≤ length out) × ((j ≡ length s) × (m ≡ written (drop n out) 0 s))
         done =
-            ⊎-elim (λ w. let l : j ≡ length s = cc in (omega (arith, length-drop n out), (l, w .1 .1))) (λ w. absurd (let y : _≡_ {A = ℕ} 0 1 = cc in omega arith))
+            ⊎-elim
+            (λ w. let l : j ≡ length s = cc in (omega (arith, length-drop n out), (l, w .1 .1)))
+            (λ w. absurd (let y : _≡_ {A = ℕ} 0 1 = cc in omega arith))
             left
 
         pub printed-fits : n + j ≤ length out
@@ -146,7 +148,8 @@ module _ {names nums ticks : List ℕ} {v : Verdict} {n : ℕ} (t : Told names n
         behind : backed out n m ≡ written out n s
         behind = rw (done .1 .1) (back-written out n fit s (omega (arith, done)))
 
-        pub report-done : {i : ℕ} {k : List ℕ} → after i k ≡ put (backed out n m) 0 (verdictText v) → sheeted (Done (n + j)) k ≡ reportWritten names nums ticks out
+        pub report-done : {i : ℕ} {k : List ℕ}
+            → after i k ≡ put (backed out n m) 0 (verdictText v) → sheeted (Done (n + j)) k ≡ reportWritten names nums ticks out
         report-done {i} {k} f =
             let q = t .sized in
             let l = ap length behind ∙ length-written out n s in

@@ -58,7 +58,8 @@ module _ (t : Tables) (l : List ℕ) (u n : ℕ) (h : u + n ≤ length l) where
       let s : (u + n) - u ≡ n = omega arith in
       rw (lt-ltb 1024 (length (take n (drop u l))) (omega (arith, left-length))) (ap (λ (y : After). stop (y .left)) (rw s at q))
 
-  pub left-more : {m : List ℕ} → n ≤ 1024 → m ≡ written l 0 (take n (drop u l)) → record { turn = More n; left = t; buffer = m } ≡ carriedOver t (take n (drop u l)) l
+  pub left-more : {m : List ℕ}
+      → n ≤ 1024 → m ≡ written l 0 (take n (drop u l)) → record { turn = More n; left = t; buffer = m } ≡ carriedOver t (take n (drop u l)) l
   unfolding carriedOver
   left-more k q = rw (le-ltb 1024 (length (take n (drop u l))) (omega (arith, left-length)), q, left-length)
 

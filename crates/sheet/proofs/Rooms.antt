@@ -12,5 +12,6 @@ use Rattle.bill.proofs.Texts.{length-row, length-section}
 pub row-room : (l : List ℕ) (at : ℕ) (r : Row) → at + length (rowText r) ≤ length l → Room l at (r .name ∷ figuresText (r .figures) ∷ (10 ∷ []) ∷ [])
 row-room l at r h = record { fit = omega (arith, length-row r) }
 
-pub section-room : (l : List ℕ) (at : ℕ) (t : List ℕ) (rs : List Row) → at + length (sectionText t rs) ≤ length l → Room l at (t ∷ digitsOf (length rs) ∷ (10 ∷ []) ∷ rowsText rs ∷ [])
+pub section-room : (l : List ℕ) (at : ℕ) (t : List ℕ) (rs : List Row)
+    → at + length (sectionText t rs) ≤ length l → Room l at (t ∷ digitsOf (length rs) ∷ (10 ∷ []) ∷ rowsText rs ∷ [])
 section-room l at t rs h = record { fit = omega (arith, length-section t rs) }

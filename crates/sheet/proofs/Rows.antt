@@ -20,7 +20,8 @@ use Rattle.tables.specs.Entry.{nameCount, kindAt}
 use Rattle.sheet.specs.Sheet.{belongs, rowIn, rowsTo, rowsIn}
 
 -- a row that may be left out makes the lines longer by at most its own
-pub keep-lines : (b : Bool) (rs : List Row) (r : Row) → let n = length (rowsText (rs ++ keep b r [])) in (length (rowsText rs) ≤ n) × (n ≤ length (rowsText rs) + length (rowText r))
+pub keep-lines : (b : Bool) (rs : List Row) (r : Row)
+    → let n = length (rowsText (rs ++ keep b r [])) in (length (rowsText rs) ≤ n) × (n ≤ length (rowsText rs) + length (rowText r))
 keep-lines true rs r = (omega (arith, length-rows rs r), omega (arith, length-rows rs r))
 keep-lines false rs r = rw append-nil (omega arith, omega arith)
 
@@ -53,9 +54,17 @@ module _ (s : Section) (names nums ticks : List ℕ) where
   unfolding rowsTo
   rows-grow n zero h = let e : n ≡ 0 = omega arith in rw e (omega arith)
   rows-grow n (suc m) h =
-      ⊎-elim (λ e. rw e (omega arith)) (λ l. omega (arith, rows-grow n m (omega arith), keep-lines (belongs s (kindAt nums m)) (rows m) (row m) .0)) (eq-or-lt-of-le h)
+      ⊎-elim
+      (λ e. rw e (omega arith))
+      (λ l. omega (arith, rows-grow n m (omega arith), keep-lines (belongs s (kindAt nums m)) (rows m) (row m) .0))
+      (eq-or-lt-of-le h)
 
-  module _ (l : List ℕ) (at n : ℕ) (e : belongs s (kindAt nums n) ≡ true) (h : n < nameCount nums) (k : at + length (rowsText (rowsIn s names nums ticks)) ≤ length l) where
+  module _
+      (l : List ℕ)
+      (at n : ℕ)
+      (e : belongs s (kindAt nums n) ≡ true)
+      (h : n < nameCount nums)
+      (k : at + length (rowsText (rowsIn s names nums ticks)) ≤ length l) where
     lines-fit : at + length (rowsText (rows n)) + length (rowText (row n)) ≤ length l
     unfolding rowsIn
     lines-fit = omega (arith, rows-grow (n + 1) (nameCount nums) (omega arith), length-in n e)
@@ -63,6 +72,9 @@ module _ (s : Section) (names nums ticks : List ℕ) where
     pub line-room : {j : ℕ} {m : List ℕ} → after j m ≡ put l at (rowsText (rows n)) → j + length (rowText (row n)) ≤ length m
     line-room p = first-room (next-room {ts = rowText (row n) ∷ []} (record { fit = omega (arith, lines-fit) }) p)
 
-    pub line-put : {j j′ : ℕ} {m m′ : List ℕ} → after j m ≡ put l at (rowsText (rows n)) → after j′ m′ ≡ put m j (rowText (row n)) → after j′ m′ ≡ put l at (rowsText (rows (n + 1)))
+    pub line-put : {j j′ : ℕ} {m m′ : List ℕ}
+        → after j m ≡ put l at (rowsText (rows n)) → after j′ m′ ≡ put m j (rowText (row n)) → after j′ m′ ≡ put l at (rowsText (rows (n + 1)))
     line-put p q =
-        rw (row-in n e, rows-snoc (rows n) (row n)) (put-two l at (rowsText (rows n)) (rowText (row n)) p q (omega (arith, lines-fit, length-append (rowsText (rows n)) (rowText (row n)))))
+        let before = rowsText (rows n) in
+        let line = rowText (row n) in
+        rw (row-in n e, rows-snoc (rows n) (row n)) (put-two l at before line p q (omega (arith, lines-fit, length-append before line)))

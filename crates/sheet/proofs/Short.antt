@@ -41,15 +41,21 @@ module _ (nums ticks : List ℕ) (i : ℕ) where
   charge-to-below : (n : ℕ) → heldAt ticks i < entryEnd → chargeTo nums ticks i n < entryEnd
   unfolding chargeTo
   charge-to-below zero h = h
-  charge-to-below (suc n) h = either-below (holdsCore nums i n) ((chargeTo nums ticks i n + openAt ticks n) % 2 ^ 64) (chargeTo nums ticks i n) entryEnd (omega arith) (charge-to-below n h)
+  charge-to-below (suc n) h =
+      let c = chargeTo nums ticks i n in
+      either-below (holdsCore nums i n) ((c + openAt ticks n) % 2 ^ 64) c entryEnd (omega arith) (charge-to-below n h)
 
   charge-below : heldAt ticks i < entryEnd → chargeIn nums ticks i < entryEnd
   unfolding chargeIn
   charge-below h = charge-to-below (nameCount nums) h
 
-  pub figures-short : (s : Section) → heldAt ticks i < entryEnd → idleAt ticks i < entryEnd → unknownAt ticks i < entryEnd → length (figuresText (figuresIn s nums ticks i)) ≤ 63
+  pub figures-short : (s : Section)
+      → heldAt ticks i < entryEnd → idleAt ticks i < entryEnd → unknownAt ticks i < entryEnd → length (figuresText (figuresIn s nums ticks i)) ≤ 63
   figures-short Cores h k u =
-      omega (arith, length-three (heldIn nums ticks i) (idleIn nums ticks i) (unknownAt ticks i), digits-short (heldIn nums ticks i) (held-below h), digits-short (idleIn nums ticks i) (idle-below k), digits-short (unknownAt ticks i) u)
+      let held = heldIn nums ticks i in
+      let idle = idleIn nums ticks i in
+      let unknown = unknownAt ticks i in
+      omega (arith, length-three held idle unknown, digits-short held (held-below h), digits-short idle (idle-below k), digits-short unknown u)
   figures-short Processes h k u = omega (arith, length-figure (chargeIn nums ticks i), digits-short (chargeIn nums ticks i) (charge-below h))
 
 -- ---- a section has a title of at most 10 bytes, a count, and at most 256 lines of a name, its figures and an end
@@ -75,17 +81,21 @@ module _ {names nums ticks : List ℕ} (v : Valid names nums ticks) where
   pub row-short : (s : Section) (i : ℕ) → i < nameCount nums → length (rowText (rowIn s names nums ticks i)) ≤ 128
   row-short s i h =
       let r = v .name-row i h in
-      omega (arith, length-row (rowIn s names nums ticks i), name-sized i h, r, figures-short nums ticks i s (omega (arith, r)) (omega (arith, r)) (omega (arith, r)))
+      let figures = figures-short nums ticks i s (omega (arith, r)) (omega (arith, r)) (omega (arith, r)) in
+      omega (arith, length-row (rowIn s names nums ticks i), name-sized i h, r, figures)
 
   pub rows-short : (s : Section) (n : ℕ) → n ≤ nameCount nums → length (rowsText (rowsTo s names nums ticks n)) ≤ 128 * n
   unfolding rowsTo rowsText
   rows-short s zero h = omega arith
   rows-short s (suc n) h =
-      omega (arith, keep-lines (belongs s (kindAt nums n)) (rowsTo s names nums ticks n) (rowIn s names nums ticks n) .1, row-short s n (omega arith), rows-short s n (omega arith))
+      let one-more = keep-lines (belongs s (kindAt nums n)) (rowsTo s names nums ticks n) (rowIn s names nums ticks n) in
+      omega (arith, one-more .1, row-short s n (omega arith), rows-short s n (omega arith))
 
   pub section-short : (s : Section) → length (sectionText (title s) (rowsIn s names nums ticks)) ≤ 32800
   unfolding rowsIn
   section-short s =
       let n = nameCount nums in
+      let rows = rowsTo s names nums ticks n in
       let few = rows-few s names nums ticks n in
-      omega (arith, v .name-count, length-section (title s) (rowsTo s names nums ticks n), title-short s, digits-short (length (rowsTo s names nums ticks n)) (omega (arith, v .name-count)), rows-short s n (omega arith))
+      let count = digits-short (length rows) (omega (arith, v .name-count)) in
+      omega (arith, v .name-count, length-section (title s) rows, title-short s, count, rows-short s n (omega arith))

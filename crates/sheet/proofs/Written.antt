@@ -37,7 +37,8 @@ module _ (names nums ticks : List ℕ) where
     pub sheet-room : length text ≤ length out → Room out 0 (sectionIn Cores ∷ sectionIn Processes ∷ [])
     sheet-room h = record { fit = omega (arith, sheet-length) }
 
-    pub sheet-put : {j n : ℕ} {k m : List ℕ} → length text ≤ length out → after n m ≡ put out 0 (sectionIn Cores) → after j k ≡ put m n (sectionIn Processes) → after j k ≡ put out 0 text
+    pub sheet-put : {j n : ℕ} {k m : List ℕ}
+        → length text ≤ length out → after n m ≡ put out 0 (sectionIn Cores) → after j k ≡ put m n (sectionIn Processes) → after j k ≡ put out 0 text
     sheet-put h p q = rw two-sections (put-two out 0 (sectionIn Cores) (sectionIn Processes) p q (omega (arith, ap length two-sections)))
 
     -- ---- what is left
@@ -50,7 +51,11 @@ module _ (names nums ticks : List ℕ) where
     unfolding sheetWritten
     sheet-full e h = rw (e, lt-leb (length text) (length out) h)
 
-    pub sheet-done : {n : ℕ} {m : List ℕ} → tableAnswer names nums ticks ≡ 0 → length text ≤ length out → after n m ≡ put out 0 text → sheeted (Done (length text)) m ≡ sheetWritten names nums ticks out
+    pub sheet-done : {n : ℕ} {m : List ℕ}
+        → tableAnswer names nums ticks ≡ 0
+        → length text ≤ length out
+        → after n m ≡ put out 0 text
+        → sheeted (Done (length text)) m ≡ sheetWritten names nums ticks out
     unfolding sheetWritten
     sheet-done {n} {m} e h p =
         let w : m ≡ written out 0 text = ap (λ (q : Put). q .output) (p ∙ put-fits out 0 text (omega arith)) in

@@ -24,6 +24,9 @@ loop-again c =
     let s = c .before .before .before in
     (omega arith, simp length-set (l .inv .1), shift-more _ _ (s .args .n) _ (s .pre) (c .before .loop-test .taken) (l .inv .2))
 
+same-length : tie.Need-same-length Inv-loop μ-loop
+same-length c = c .before .loop .inv .1
+
 returns : tie.Need-returns Inv-loop μ-loop
 returns c =
     let l = c .before .loop in
@@ -43,5 +46,5 @@ shift-spec =
     (λ c. omega arith)
     (λ c. omega arith)
     loop-again
-    (λ c. c .before .loop .inv .1)
+    same-length
     returns)

@@ -23,6 +23,9 @@ lent c = c .before .before .before
 abbrev start : tie.At-loop Inv-loop μ-loop → tie.Start Inv-loop μ-loop
 start c = lent c .before .before
 
+cast-n : tie.Need-cast-n Inv-loop μ-loop
+cast-n c = omega (arith, c .shared-slice-known3 .given namesIndex)
+
 loop-holds : tie.Need-loop-holds Inv-loop μ-loop
 unfolding chargeTo
 loop-holds c = (search needs, refl)
@@ -53,7 +56,7 @@ charge-spec =
     Inv-loop
     μ-loop
     (λ c. search needs)
-    (λ c. omega (arith, c .shared-slice-known3 .given namesIndex))
+    cast-n
     (λ c. search needs)
     (λ c. search needs)
     (λ c. search needs)

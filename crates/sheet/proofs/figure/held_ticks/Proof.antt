@@ -5,13 +5,13 @@ use Rattle.sheet.specs.Figure.{heldIn}
 use Rattle.sheet.proofs.figure.held_ticks.Statement.{statement}
 use Rattle.sheet.proofs.figure.held_ticks.Tie as tie
 
-returns : tie.Need-returns
+not-held : tie.Need-returns
 unfolding heldIn
-returns c = rw (lt-ltb _ 2 (c .before .if1 .taken))
+not-held c = rw (lt-ltb _ 2 (c .before .if1 .taken))
 
-returns-2 : tie.Need-returns-2
+held : tie.Need-returns-2
 unfolding heldIn
-returns-2 c = rw (le-ltb _ 2 (c .before .before .before .if1 .left), ← (c .before .open-ticks .ensures)) (c .wrapping-add-u64 .ensures)
+held c = rw (le-ltb _ 2 (c .before .before .before .if1 .left), ← (c .before .open-ticks .ensures)) (c .wrapping-add-u64 .ensures)
 
 pub held-ticks-spec : {M : Type 1} → statement M
 held-ticks-spec =
@@ -23,10 +23,10 @@ held-ticks-spec =
     (λ c. search needs)
     (λ c. search needs)
     (λ c. search needs)
-    returns
+    not-held
     (λ c. search needs)
     (λ c. search needs)
     (λ c. search needs)
     (λ c κs. search needs)
     (λ c κs. search needs)
-    returns-2)
+    held)

@@ -5,13 +5,13 @@ use Rattle.sheet.specs.Figure.{idleIn}
 use Rattle.sheet.proofs.figure.idle_ticks.Statement.{statement}
 use Rattle.sheet.proofs.figure.idle_ticks.Tie as tie
 
-returns : tie.Need-returns
+not-idle : tie.Need-returns
 unfolding idleIn
-returns c = rw (ne-eqb _ 1 (c .before .if1 .taken))
+not-idle c = rw (ne-eqb _ 1 (c .before .if1 .taken))
 
-returns-2 : tie.Need-returns-2
+idle : tie.Need-returns-2
 unfolding idleIn
-returns-2 c = rw (eq-eqb _ 1 (c .before .before .before .if1 .left), ← (c .before .open-ticks .ensures)) (c .wrapping-add-u64 .ensures)
+idle c = rw (eq-eqb _ 1 (c .before .before .before .if1 .left), ← (c .before .open-ticks .ensures)) (c .wrapping-add-u64 .ensures)
 
 pub idle-ticks-spec : {M : Type 1} → statement M
 idle-ticks-spec =
@@ -23,10 +23,10 @@ idle-ticks-spec =
     (λ c. search needs)
     (λ c. search needs)
     (λ c. search needs)
-    returns
+    not-idle
     (λ c. search needs)
     (λ c. search needs)
     (λ c. search needs)
     (λ c κs. search needs)
     (λ c κs. search needs)
-    returns-2)
+    idle)

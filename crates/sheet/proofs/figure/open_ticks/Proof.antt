@@ -5,13 +5,13 @@ use Rattle.sheet.specs.Figure.{openAt}
 use Rattle.sheet.proofs.figure.open_ticks.Statement.{statement}
 use Rattle.sheet.proofs.figure.open_ticks.Tie as tie
 
-returns : tie.Need-returns
+none-open : tie.Need-returns
 unfolding openAt
-returns c = omega arith
+none-open c = omega arith
 
-returns-2 : tie.Need-returns-2
+some-open : tie.Need-returns-2
 unfolding openAt
-returns-2 c = search needs
+some-open c = search needs
 
 pub open-ticks-spec : {M : Type 1} → statement M
 open-ticks-spec =
@@ -21,10 +21,10 @@ open-ticks-spec =
     (λ c. search needs)
     (λ c. search needs)
     (λ c. search needs)
-    returns
+    none-open
     (λ c. search needs)
     (λ c. search needs)
     (λ c. search needs)
     (λ c. search needs)
     (λ c. search needs)
-    returns-2)
+    some-open)

@@ -31,6 +31,12 @@ start c = lent c .before .before .before
 abbrev turn : tie.After-in-section Inv-loop μ-loop → tie.In-loop Inv-loop μ-loop
 turn c = c .before .before
 
+read-n : tie.Need-shared-slice-read-n Inv-loop μ-loop
+read-n c = omega (arith, valid _ _ _ (start c .pre))
+
+cast-n : tie.Need-cast-n Inv-loop μ-loop
+cast-n c = omega (arith, c .shared-slice-known4 .given namesIndex)
+
 loop-holds : tie.Need-loop-holds Inv-loop μ-loop
 unfolding rowsTo
 loop-holds c =
@@ -72,8 +78,8 @@ rows-count-spec =
     (tie.spec
     Inv-loop
     μ-loop
-    (λ c. omega (arith, valid _ _ _ (start c .pre)))
-    (λ c. omega (arith, c .shared-slice-known4 .given namesIndex))
+    read-n
+    cast-n
     loop-holds
     (λ c. search needs)
     (λ c. search needs)
