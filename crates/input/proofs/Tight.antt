@@ -68,7 +68,10 @@ one-line (b ∷ s) e = absurd (omega (arith, e))
 lines-none : (s : List ℕ) → length (linesOf s) ≡ 0 → length s ≡ 0
 unfolding linesOf
 lines-none s e =
-    ⊎-elim (λ h. absurd (omega (arith, rw (cut-whole s h) at e))) (λ h. one-line s (rw (none-whole s h, none-rest s h) at e)) (lt-or-ge (toByte 10 s) (length s))
+    ⊎-elim
+    (λ h. absurd (omega (arith, rw (cut-whole s h) at e)))
+    (λ h. one-line s (rw (none-whole s h, none-rest s h) at e))
+    (lt-or-ge (toByte 10 s) (length s))
 
 -- which is taken or refused
 all-taken : (ls : List (List ℕ)) → refusalOn [] ls .0 ≡ 0 → length (takenLines [] ls) ≡ length ls

@@ -22,6 +22,28 @@ within c =
       rw (c .find .ensures) (find-le 10 s (l .loop .at) (length s) (omega arith) (omega arith)),
     )
 
+sub-line : tie.Need-sub-say-line Inv-loop μ-loop
+sub-line c = let h = within c in omega arith
+
+line-start : tie.Need-part-say-line-start Inv-loop μ-loop
+line-start c = let h = within c in omega arith
+
+line-end : tie.Need-part-say-line-end Inv-loop μ-loop
+line-end c = let h = within c in omega arith
+
+-- once the line is said
+abbrev found : tie.After-say-line Inv-loop μ-loop → tie.After-find Inv-loop μ-loop
+found c = c .before .before
+
+add-at : tie.Need-add-at Inv-loop μ-loop
+add-at c = let h = within (found c) in omega arith
+
+less : tie.Need-loop-less Inv-loop μ-loop
+less c = let h = within (found c) in omega arith
+
+again : tie.Need-loop-again Inv-loop μ-loop
+again c = let h = within (found c) in omega arith
+
 pub say-lines-spec : {M : Type 1} → statement M
 say-lines-spec =
     tie.close
@@ -30,11 +52,11 @@ say-lines-spec =
     μ-loop
     (λ c. omega arith)
     (λ c κs. tt)
-    (λ c. let h = within c in omega arith)
-    (λ c. let h = within c in omega arith)
-    (λ c. let h = within c in omega arith)
+    sub-line
+    line-start
+    line-end
     (λ c κs. tt)
-    (λ c. let h = within (c .before .before) in omega arith)
-    (λ c. let h = within (c .before .before) in omega arith)
-    (λ c. let h = within (c .before .before) in omega arith)
+    add-at
+    less
+    again
     (λ c. tt))

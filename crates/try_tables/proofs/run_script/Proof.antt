@@ -26,6 +26,28 @@ within c =
 abbrev found : tie.After-ticks Inv-loop μ-loop → tie.After-find Inv-loop μ-loop
 found c = c .before .before .before
 
+sub-step : tie.Need-sub-run-step Inv-loop μ-loop
+sub-step c = let h = within (found c) in omega arith
+
+step-start : tie.Need-part-run-step-start Inv-loop μ-loop
+step-start c = let h = within (found c) in omega arith
+
+step-end : tie.Need-part-run-step-end Inv-loop μ-loop
+step-end c = let h = within (found c) in omega arith
+
+-- once the step is run
+abbrev ran : tie.After-run-step Inv-loop μ-loop → tie.After-ticks Inv-loop μ-loop
+ran c = c .before .before
+
+add-at : tie.Need-add-at Inv-loop μ-loop
+add-at c = let h = within (found (ran c)) in omega arith
+
+less : tie.Need-loop-less Inv-loop μ-loop
+less c = let h = within (found (ran c)) in omega arith
+
+again : tie.Need-loop-again Inv-loop μ-loop
+again c = let h = within (found (ran c)) in omega arith
+
 pub run-script-spec : {M : Type 1} → statement M
 run-script-spec =
     tie.close
@@ -34,11 +56,11 @@ run-script-spec =
     μ-loop
     (λ c. omega arith)
     (λ c κs. tt)
-    (λ c. let h = within (found c) in omega arith)
-    (λ c. let h = within (found c) in omega arith)
-    (λ c. let h = within (found c) in omega arith)
+    sub-step
+    step-start
+    step-end
     (λ c κs. tt)
-    (λ c. let h = within (found (c .before .before)) in omega arith)
-    (λ c. let h = within (found (c .before .before)) in omega arith)
-    (λ c. let h = within (found (c .before .before)) in omega arith)
+    add-at
+    less
+    again
     (λ c. tt))

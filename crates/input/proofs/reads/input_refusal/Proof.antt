@@ -5,13 +5,13 @@ use Rattle.input.specs.Reads.{inputRefusal}
 use Rattle.input.proofs.reads.input_refusal.Statement.{statement}
 use Rattle.input.proofs.reads.input_refusal.Tie as tie
 
-returns : tie.Need-returns
+wrong-buffer : tie.Need-returns
 unfolding inputRefusal
-returns c = rw (ne-eqb _ _ (c .if1 .taken))
+wrong-buffer c = rw (ne-eqb _ _ (c .if1 .taken))
 
-returns-2 : tie.Need-returns-2
+right-buffer : tie.Need-returns-2
 unfolding inputRefusal
-returns-2 c = rw (eq-eqb _ _ (c .before .if1 .left)) (c .table-answer .ensures)
+right-buffer c = rw (eq-eqb _ _ (c .before .if1 .left)) (c .table-answer .ensures)
 
 pub input-refusal-spec : {M : Type 1} → statement M
-input-refusal-spec = tie.close (tie.spec returns (λ c κs. search needs) returns-2)
+input-refusal-spec = tie.close (tie.spec wrong-buffer (λ c κs. search needs) right-buffer)

@@ -16,11 +16,11 @@ Inv-loop s t i₀ i = (i ≤ length s) × (length s ≡ length t) × (sameBytes 
 abbrev μ-loop : tie.MeasureT-loop
 μ-loop s t i₀ i = length s - i
 
-returns : tie.Need-returns Inv-loop μ-loop
-returns c = sym (other-length _ _ (c .if1 .taken))
+other-lengths : tie.Need-returns Inv-loop μ-loop
+other-lengths c = sym (other-length _ _ (c .if1 .taken))
 
-returns-2 : tie.Need-returns-2 Inv-loop μ-loop
-returns-2 c =
+entries-differ : tie.Need-returns-2 Inv-loop μ-loop
+entries-differ c =
     let entries = c .before .before in
     let l = entries .before .before in
     sym (l .loop .inv .2 ∙ same-stop _ _ (l .loop .i) (omega arith) (omega arith) (c .if2 .taken))
@@ -31,8 +31,8 @@ loop-again c =
     let l = entries .before .before in
     (search needs, search needs, l .loop .inv .2 ∙ same-turn _ _ (l .loop .i) (omega arith) (omega arith) (c .if2 .left))
 
-returns-3 : tie.Need-returns-3 Inv-loop μ-loop
-returns-3 c =
+all-same : tie.Need-returns-3 Inv-loop μ-loop
+all-same c =
     let l = c .before in
     sym (l .loop .inv .2 ∙ same-end _ _ (l .loop .i) (omega arith) (omega arith))
 
@@ -42,14 +42,14 @@ same-nums-spec =
     (tie.spec
     Inv-loop
     μ-loop
-    returns
+    other-lengths
     (λ c. search needs)
     (λ c. search needs)
     (λ c. search needs)
     (λ c. search needs)
     (λ c. search needs)
-    returns-2
+    entries-differ
     (λ c. search needs)
     (λ c. search needs)
     loop-again
-    returns-3)
+    all-same)
