@@ -13,20 +13,21 @@ use Rattle.rules.specs.Refusals.{countAllowed}
 use Rattle.rules.specs.Words.{free, unlock, lock}
 use Rattle.tables.specs.declared.find.Found.{Found}
 use Rattle.tables.specs.declared.find.Found.the-variants.{At, Nothing}
+use Rattle.tables.specs.Entry.{heldFrom, heldBy}
 use Rattle.decide.specs.declared.look.LookedUp.{LookedUp}
 use Rattle.decide.specs.Known.{rowsAdded, newCore}
 use Rattle.decide.specs.PlanCode.{leastCount}
 
 -- a core's state is 2 more than the row of the process whose instance holds it
-pub row-named : (m j : ℕ) → 2 ≤ m → eqb (m - 2) j ≡ eqb m (j + 2)
-row-named m j h = by-test (eqb (m - 2) j) refl
+pub row-named : (m j : ℕ) → heldFrom ≤ m → eqb (m - heldFrom) j ≡ eqb m (heldBy j)
+row-named m j h = by-test (eqb (m - heldFrom) j) refl
   where
-    by-test : (b : Bool) → eqb (m - 2) j ≡ b → b ≡ eqb m (j + 2)
-    by-test true q = sym (eq-eqb m (j + 2) (omega (arith, eqb-true (m - 2) j q)))
-    by-test false q = sym (ne-eqb m (j + 2) (λ e. eqb-false (m - 2) j q (omega arith)))
+    by-test : (b : Bool) → eqb (m - heldFrom) j ≡ b → b ≡ eqb m (heldBy j)
+    by-test true q = sym (eq-eqb m (heldBy j) (omega (arith, eqb-true (m - heldFrom) j q)))
+    by-test false q = sym (ne-eqb m (heldBy j) (λ e. eqb-false (m - heldFrom) j q (omega arith)))
 
-pub row-unnamed : (m j : ℕ) → m < 2 → false ≡ eqb m (j + 2)
-row-unnamed m j h = sym (ne-eqb m (j + 2) (λ q. omega arith))
+pub row-unnamed : (m j : ℕ) → m < heldFrom → false ≡ eqb m (heldBy j)
+row-unnamed m j h = sym (ne-eqb m (heldBy j) (λ q. omega arith))
 
 pub one-at-most : {r : ℕ} (b : Bool) (f : Found) → r ≡ rowsAdded b f → r ≤ 1
 one-at-most false f e = omega arith

@@ -43,7 +43,7 @@ use Rattle.rules.proofs.Tests.{clash}
 use Rattle.rules.proofs.CoreWords.{on-process}
 use Rattle.tables.specs.declared.find.Found.{Found}
 use Rattle.tables.specs.declared.find.Found.the-variants.{At, Nothing}
-use Rattle.tables.specs.Entry.{startedEntry, lastTime}
+use Rattle.tables.specs.Entry.{idleCore, heldBy, startedEntry, lastTime}
 use Rattle.decide.specs.declared.look.LookedUp.{LookedUp}
 use Rattle.decide.specs.declared.plan.Plan.{Plan}
 use Rattle.decide.specs.declared.plan.Plan.the-variants.{Refuse, Take}
@@ -98,7 +98,7 @@ another-differs x = rw (ne-eqb (suc (x .kind)) (x .kind) (λ q. omega arith))
 
 idle-unheld : (number : ℕ) (f : Found) (n : ℕ) → isHolder 1 number f n ≡ false
 idle-unheld number Nothing n = refl
-idle-unheld number (At p) n = rw (ne-eqb 1 (p + 2) (λ q. omega arith))
+idle-unheld number (At p) n = rw (ne-eqb idleCore (heldBy p) (λ q. omega arith))
 
 module _ (class number : ℕ) (f : Found) (x : Instance) (first : Bool) where
   serves-in : (t : Bool) → eqb class takes-core ≡ t → (standing : ℕ) →

@@ -12,7 +12,7 @@ use Rattle.rules.specs.History.{hasInstances, isTracked}
 use Rattle.rules.specs.Refusals.{Known}
 use Rattle.tables.specs.declared.find.Found.{Found}
 use Rattle.tables.specs.declared.find.Found.the-variants.{At, Nothing}
-use Rattle.tables.specs.Entry.{Column, entryAt, kindColumn, standingColumn, numberColumn, numberedColumn, stateColumn, startedEntry, lastTime, nameCount, coreCount, instanceCount}
+use Rattle.tables.specs.Entry.{Column, entryAt, kindColumn, standingColumn, numberColumn, numberedColumn, stateColumn, startedEntry, lastTime, nameCount, coreCount, instanceCount, idleCore, heldBy}
 use Rattle.decide.specs.declared.look.LookedUp.{LookedUp}
 
 -- an entry of a column, in the row found; 0 where there is none
@@ -62,10 +62,10 @@ another x = record { kind = suc (x .kind); name = x .name; number = x .number }
 -- a core's state and number name the instance n of the name in a row
 abbrev pub isHolder : ℕ → ℕ → Found → ℕ → Bool
 isHolder standing number Nothing n = false
-isHolder standing number (At p) n = eqb standing (p + 2) && eqb number n
+isHolder standing number (At p) n = eqb standing (heldBy p) && eqb number n
 
 unfoldable pub coreIn : ℕ → ℕ → Found → Instance → Core
-coreIn standing number f x = cond (eqb standing 0) unknown (cond (eqb standing 1) idle (cond (isHolder standing number f (x .number)) (held x) (held (another x))))
+coreIn standing number f x = cond (eqb standing 0) unknown (cond (eqb standing idleCore) idle (cond (isHolder standing number f (x .number)) (held x) (held (another x))))
 
 unfoldable pub knownBy : List ℕ → List ℕ → LookedUp → Event → Known
 knownBy nums ticks s e = record {

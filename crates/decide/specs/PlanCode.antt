@@ -16,7 +16,7 @@ use Rattle.rules.specs.declared.chart.Move.{Move}
 use Rattle.rules.specs.declared.chart.Move.the-variants.{To, Off}
 use Rattle.rules.specs.History.{isTracked, activates}
 use Rattle.rules.specs.Refusals.{countAllowed}
-use Rattle.tables.specs.Entry.{startedEntry, lastTime, nameCount, coreCount, instanceCount}
+use Rattle.tables.specs.Entry.{startedEntry, lastTime, nameCount, coreCount, instanceCount, idleCore}
 use Rattle.decide.specs.declared.look.LookedUp.{LookedUp}
 use Rattle.decide.specs.declared.plan.Plan.{Plan}
 use Rattle.decide.specs.declared.plan.Plan.the-variants.{Refuse, Take}
@@ -46,7 +46,7 @@ notNextIn nums s k a n = activates k a && (not (eqb (numberedIn nums (s .target)
 
 -- whether a core serves an event of a class: `holder`, the event's instance holds it, and `first`, that instance is seen for the first time
 unfoldable pub coreServes : ℕ → ℕ → Bool → Bool → Bool
-coreServes class standing holder first = cond (eqb class takes-core) (leb standing 1) (cond (eqb standing 0) first holder)
+coreServes class standing holder first = cond (eqb class takes-core) (leb standing idleCore) (cond (eqb standing 0) first holder)
 
 unfoldable pub coreBrokenIn : List ℕ → LookedUp → ℕ → ℕ → Bool
 coreBrokenIn nums s k n =

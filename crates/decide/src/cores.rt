@@ -1,26 +1,26 @@
 // The refusal 13 of an event line: its core.
 ghost use mathlib.Core.Path.{_≡_};
-ghost use Prim.Native.Nat.{_+_};
 ghost use lib.Dec.{eqb};
 ghost use lib.ListN.{length};
 ghost use Rattle.decide.specs.PlanCode.{coreServes, coreBrokenIn};
 ghost use Rattle.decide.specs.Known.{isHolder};
-ghost use Rattle.tables.specs.Entry.{numsSize};
+ghost use Rattle.tables.specs.Entry.{numsSize, heldBy};
 use crate::known::number_in;
 use crate::known::standing_in;
 use crate::known::state_in;
 use crate::look::LookedUp;
 use rules::numbers::*;
+use tables::entry::*;
 use tables::find::Found;
 
 // Whether a core's state names the process in row p.
 fn names_row(standing: u32, p: usize) -> bool
-    ensures { λ r. ⌜ r ≡ eqb standing (p + 2) ⌝ }
+    ensures { λ r. ⌜ r ≡ eqb standing (heldBy p) ⌝ }
 {
-    if standing < 2 {
+    if standing < HELD_FROM {
         return false;
     }
-    standing as usize - 2 == p
+    (standing - HELD_FROM) as usize == p
 }
 
 // Whether a core's state and number name the instance n of the process in a row.
@@ -33,13 +33,13 @@ fn is_holder(standing: u32, number: u32, process: Found, n: u32) -> bool
     names_row(standing, p) & (number == n)
 }
 
-// Whether a core in the state standing serves an event of the class: 0 unknown, 1 idle, from 2 on held. `holder` tells whether the event's
+// Whether a core in the state standing serves an event of the class. `holder` tells whether the event's
 // instance holds it, `first` whether that is seen for the first time.
 fn core_serves(class: u32, standing: u32, holder: bool, first: bool) -> bool
     ensures { λ r. ⌜ r ≡ coreServes class standing holder first ⌝ }
 {
     if class == TAKES_CORE {
-        return standing <= 1;
+        return standing <= IDLE_CORE;
     }
     if standing == 0 {
         return first;

@@ -11,7 +11,7 @@ use borrow.Author.Tests.{ltb-true}
 use Rattle.rules.specs.Words.{core, semaphore}
 use Rattle.rules.specs.Core.{no-core, gives-core}
 use Rattle.rules.specs.History.{hasInstances, activates}
-use Rattle.tables.specs.Entry.{nameRows, numsSize, linesIndex, startedIndex, namesIndex, coresIndex, instancesIndex}
+use Rattle.tables.specs.Entry.{idleCore, heldBy, nameRows, numsSize, linesIndex, startedIndex, namesIndex, coresIndex, instancesIndex}
 use Rattle.tables.specs.Entry.{kindColumn, standingColumn, numberColumn, numberedColumn, ownerColumn, stateColumn}
 use Rattle.tables.specs.Entry.{lineCount, nameCount, coreCount, instanceCount}
 use Rattle.tables.specs.Entry.{standingAt, numberAt}
@@ -129,24 +129,24 @@ module _ (nums : List ℕ) (class i p n : ℕ) where
   unfolding withCore
   core-beside x out =
       entry-if (eqb class no-core) nums _ x (λ e. refl)
-      (λ e. entry-if (eqb class gives-core) (storeStanding nums i 1) (storeHolder nums i p n) x
+      (λ e. entry-if (eqb class gives-core) (storeStanding nums i idleCore) (storeHolder nums i p n) x
       (λ f. standing-beside nums i x 1 (λ l u. out (omega arith) (omega arith)))
       (λ f. holder-beside nums i x p n out))
 
   module _ (z : length nums ≡ numsSize) (k : eqb class no-core ≡ false → p < nameRows) (r : ℕ) (h : r < nameRows) where
     -- a column of which the stores to the core's row are known
     core-column : (d idle held : ℕ) →
-        (getD (storeStanding nums i 1) (d + r) 0 ≡ cond (eqb r i) idle (getD nums (d + r) 0)) →
+        (getD (storeStanding nums i idleCore) (d + r) 0 ≡ cond (eqb r i) idle (getD nums (d + r) 0)) →
         (p < nameRows → getD (storeHolder nums i p n) (d + r) 0 ≡ cond (eqb r i) held (getD nums (d + r) 0)) →
         getD (withCore nums class i p n) (d + r) 0 ≡ cond (not (eqb class no-core) && eqb r i) (cond (eqb class gives-core) idle held) (getD nums (d + r) 0)
     unfolding withCore
     core-column d idle held f g =
         entry-if (eqb class no-core) nums _ (d + r) (λ e. rw e)
-        (λ e. rw e (entry-if (eqb class gives-core) (storeStanding nums i 1) (storeHolder nums i p n) (d + r) (λ t. rw t f) (λ t. rw t (g (k e)))))
+        (λ e. rw e (entry-if (eqb class gives-core) (storeStanding nums i idleCore) (storeHolder nums i p n) (d + r) (λ t. rw t f) (λ t. rw t (g (k e)))))
 
     pub core-standing : standingAt (withCore nums class i p n) r
-        ≡ cond (not (eqb class no-core) && eqb r i) (cond (eqb class gives-core) 1 (p + 2)) (standingAt nums r)
-    core-standing = core-column (standingColumn .base) 1 (p + 2) (standing-standing nums z i r h 1) (λ o. holder-standing nums z i p n r o h)
+        ≡ cond (not (eqb class no-core) && eqb r i) (cond (eqb class gives-core) idleCore (heldBy p)) (standingAt nums r)
+    core-standing = core-column (standingColumn .base) idleCore (heldBy p) (standing-standing nums z i r h idleCore) (λ o. holder-standing nums z i p n r o h)
 
     pub core-number : numberAt (withCore nums class i p n) r
         ≡ cond (not (eqb class no-core) && eqb r i) (cond (eqb class gives-core) (numberAt nums r) n) (numberAt nums r)

@@ -11,7 +11,7 @@ use Rattle.rules.specs.Words.{core, semaphore}
 use Rattle.rules.specs.Event.{Event}
 use Rattle.rules.specs.Core.{no-core, gives-core}
 use Rattle.rules.specs.History.{hasInstances, activates}
-use Rattle.tables.specs.Entry.{verdictIndex, verdictLineIndex, linesIndex, scaleIndex, creatorIndex}
+use Rattle.tables.specs.Entry.{idleCore, heldBy, verdictIndex, verdictLineIndex, linesIndex, scaleIndex, creatorIndex}
 use Rattle.tables.specs.Entry.{dateIndex, startedIndex, namesIndex, coresIndex, instancesIndex}
 use Rattle.tables.specs.Entry.{nameRows, instanceRows, numsSize}
 use Rattle.tables.specs.Entry.{kindColumn, lengthColumn, standingColumn, numberColumn, numberedColumn, ownerColumn, instanceColumn, stateColumn}
@@ -87,7 +87,7 @@ module _ (nums : List ℕ) (z : length nums ≡ numsSize) (s : LookedUp) (t : �
 
   pub standing-taken : (eqb (s .class) no-core ≡ false → targetRow nums s < nameRows) → (r : ℕ) → r < nameRows →
       standingAt (takenNums nums s t e) r
-      ≡ cond (not (eqb (s .class) no-core) && eqb r (coreRow nums s)) (cond (eqb (s .class) gives-core) 1 (targetRow nums s + 2))
+      ≡ cond (not (eqb (s .class) no-core) && eqb r (coreRow nums s)) (cond (eqb (s .class) gives-core) idleCore (heldBy (targetRow nums s)))
       (cond (eqb (e .kind) semaphore && eqb r (targetRow nums s)) t (orNone nums s (e .kind) r (standingAt nums r)))
   standing-taken k r h =
       from-cored (standingColumn .base + r) (omega arith)

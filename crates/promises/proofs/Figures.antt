@@ -24,7 +24,7 @@ use Rattle.rules.proofs.Tests.{clash}
 use Rattle.rules.proofs.Tracked.{named-kind}
 use Rattle.rules.proofs.Totals.{core-total}
 use Rattle.rules.proofs.Charges.{charge-at-most}
-use Rattle.tables.specs.Entry.{kindAt, standingAt, heldAt, unknownAt}
+use Rattle.tables.specs.Entry.{idleCore, heldFrom, heldBy, kindAt, standingAt, heldAt, unknownAt}
 use Rattle.judge.specs.Feed.{Tables}
 use Rattle.sheet.specs.Figure.{openAt, heldIn, idleIn, holdsCore, chargeTo, chargeIn}
 use Rattle.promises.specs.Places.{rowOf}
@@ -38,27 +38,27 @@ use Rattle.promises.proofs.Bounds.{span-most}
 
 -- ---- what the state of a core says in the tables
 
-idle-standing : (h : List Event) (c : Core) → oneIf (eqb (coreStanding h c) 1) ≡ isIdle c
+idle-standing : (h : List Event) (c : Core) → oneIf (eqb (coreStanding h c) idleCore) ≡ isIdle c
 idle-standing h unknown = refl
 idle-standing h idle = refl
-idle-standing h (held x) = rw (ne-eqb (rowOf h (x .name) + 2) 1 (λ q. omega arith))
+idle-standing h (held x) = rw (ne-eqb (heldBy (rowOf h (x .name))) idleCore (λ q. omega arith))
 
-held-standing : (h : List Event) (c : Core) → oneIf (not (ltb (coreStanding h c) 2)) ≡ isHeld c
+held-standing : (h : List Event) (c : Core) → oneIf (not (ltb (coreStanding h c) heldFrom)) ≡ isHeld c
 held-standing h unknown = refl
 held-standing h idle = refl
-held-standing h (held x) = rw (le-ltb (rowOf h (x .name) + 2) 2 (omega arith))
+held-standing h (held x) = rw (le-ltb (heldBy (rowOf h (x .name))) heldFrom (omega arith))
 
 module _ (h : List Event) (a : Accepted h) (t : Tables) (s : Shown h t) (p : List ℕ) (listed : any (sameBytes p) (names h) ≡ true) where
   -- two states name one row exactly if it is of one name
-  own-row : (n : List ℕ) → any (sameBytes n) (names h) ≡ true → eqb (rowOf h n + 2) (rowOf h p + 2) ≡ sameBytes p n
+  own-row : (n : List ℕ) → any (sameBytes n) (names h) ≡ true → eqb (heldBy (rowOf h n)) (heldBy (rowOf h p)) ≡ sameBytes p n
   own-row n q =
       standings-alike (rowOf h n) (rowOf h p) ∙ eqb-turned (rowOf h n) (rowOf h p) ∙ one-row sameBytes same-eq same-refl p n (names h) listed q
 
   -- the state of a core names the row of its holder's name
   holder-standing : (c : Core) → ((x : Instance) → c ≡ held x → any (sameBytes (x .name)) (names h) ≡ true) →
-      oneIf (eqb (coreStanding h c) (rowOf h p + 2)) ≡ isHeldBy p c
-  holder-standing unknown l = rw (ne-eqb 0 (rowOf h p + 2) (λ q. omega arith))
-  holder-standing idle l = rw (ne-eqb 1 (rowOf h p + 2) (λ q. omega arith))
+      oneIf (eqb (coreStanding h c) (heldBy (rowOf h p))) ≡ isHeldBy p c
+  holder-standing unknown l = rw (ne-eqb 0 (heldBy (rowOf h p)) (λ q. omega arith))
+  holder-standing idle l = rw (ne-eqb idleCore (heldBy (rowOf h p)) (λ q. omega arith))
   holder-standing (held x) l = rw (own-row (x .name) (l x refl))
 
   holds-shown : (c : List ℕ) → any (sameBytes c) (names h) ≡ true → oneIf (holdsCore (t .nums) (rowOf h p) (rowOf h c)) ≡ isHeldBy p (coreAt c h)
@@ -68,7 +68,7 @@ module _ (h : List Event) (a : Accepted h) (t : Tables) (s : Shown h t) (p : Lis
       m : ℕ
       m = standingAt (t .nums) (rowOf h c)
 
-      by-kind : (b : Bool) → eqb (kindAt (t .nums) (rowOf h c)) core ≡ b → oneIf (b && eqb m (rowOf h p + 2)) ≡ isHeldBy p (coreAt c h)
+      by-kind : (b : Bool) → eqb (kindAt (t .nums) (rowOf h c)) core ≡ b → oneIf (b && eqb m (heldBy (rowOf h p))) ≡ isHeldBy p (coreAt c h)
       by-kind true k = rw (s .each-name c q .standing .of-core k) (holder-standing (coreAt c h) (holder-named h a c))
       by-kind false k =
           sym (ap (isHeldBy p) (core-unknown c h a (λ z.
@@ -99,8 +99,8 @@ module _ (h : List Event) (a : Accepted h) (met : AllMet h) (t : Tables) (s : Sh
     unfolding heldIn openAt
     held-shown =
         rw standing
-        (turned (ltb (coreStanding h (coreAt c h)) 2) _ _
-        ∙ sum-shown (not (ltb (coreStanding h (coreAt c h)) 2)) _ _ _ _ (held-standing h (coreAt c h)) (stored .held-ticks) (omega (arith, core-total h a c)))
+        (turned (ltb (coreStanding h (coreAt c h)) heldFrom) _ _
+        ∙ sum-shown (not (ltb (coreStanding h (coreAt c h)) heldFrom)) _ _ _ _ (held-standing h (coreAt c h)) (stored .held-ticks) (omega (arith, core-total h a c)))
       where
         turned : (b : Bool) (x y : ℕ) → cond b x y ≡ cond (not b) y x
         turned true x y = refl
@@ -110,7 +110,7 @@ module _ (h : List Event) (a : Accepted h) (met : AllMet h) (t : Tables) (s : Sh
     unfolding idleIn openAt
     idle-shown =
         rw standing
-        (sum-shown (eqb (coreStanding h (coreAt c h)) 1) _ _ _ _ (idle-standing h (coreAt c h)) (stored .idle-ticks) (omega (arith, core-total h a c)))
+        (sum-shown (eqb (coreStanding h (coreAt c h)) idleCore) _ _ _ _ (idle-standing h (coreAt c h)) (stored .idle-ticks) (omega (arith, core-total h a c)))
 
     pub unknown-shown : unknownAt (t .ticks) (rowOf h c) ≡ unknownTicks c h
     unknown-shown = stored .unknown-ticks

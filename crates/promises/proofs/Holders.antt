@@ -18,6 +18,7 @@ use Rattle.rules.specs.Refusals.{serves}
 use Rattle.rules.specs.Verdict.{Accepted}
 use Rattle.rules.proofs.Tests.{clash, instance-true, instance-refl}
 use Rattle.tables.specs.declared.find.Found.the-variants.{At, Nothing}
+use Rattle.tables.specs.Entry.{idleCore, heldBy}
 use Rattle.decide.specs.Known.{another, isHolder, coreIn}
 use Rattle.decide.proofs.Plans.{another-differs}
 use Rattle.promises.specs.Places.{seek, rowOf}
@@ -27,17 +28,17 @@ use Rattle.promises.proofs.CoreNames.{holder-kind, holder-named}
 use Rattle.promises.proofs.Told.{Only}
 
 -- two states name one row exactly if the rows are one
-pub standings-alike : (i j : ℕ) → eqb (i + 2) (j + 2) ≡ eqb i j
+pub standings-alike : (i j : ℕ) → eqb (heldBy i) (heldBy j) ≡ eqb i j
 standings-alike i j = by-test (eqb i j) refl
   where
-    by-test : (b : Bool) → eqb i j ≡ b → eqb (i + 2) (j + 2) ≡ b
-    by-test true q = eq-eqb _ _ (ap (λ (k : ℕ). k + 2) (eqb-true i j q))
-    by-test false q = ne-eqb _ _ (λ (p : i + 2 ≡ j + 2). eqb-false i j q (omega arith))
+    by-test : (b : Bool) → eqb i j ≡ b → eqb (heldBy i) (heldBy j) ≡ b
+    by-test true q = eq-eqb _ _ (ap heldBy (eqb-true i j q))
+    by-test false q = ne-eqb _ _ (λ (p : heldBy i ≡ heldBy j). eqb-false i j q (omega arith))
 
 module _ (h : List Event) (a : Accepted h) (x : Instance) (only : Only (kindOf (x .name) h) (x .kind)) where
   -- state and number name the instance x exactly if it is the holder: its name has one kind
   holds-own : (c : List ℕ) (y : Instance) → coreAt c h ≡ held y →
-      isHolder (rowOf h (y .name) + 2) (y .number) (seek (sameBytes (x .name)) (names h)) (x .number) ≡ sameInstance y x
+      isHolder (heldBy (rowOf h (y .name))) (y .number) (seek (sameBytes (x .name)) (names h)) (x .number) ≡ sameInstance y x
   unfolding seek
   holds-own c y p = by-row (any (sameBytes (x .name)) (names h)) refl
     where
@@ -52,7 +53,7 @@ module _ (h : List Event) (a : Accepted h) (x : Instance) (only : Only (kindOf (
       by-name false r = sym (and-false (eqb (y .kind) (x .kind)))
 
       by-row : (b : Bool) → any (sameBytes (x .name)) (names h) ≡ b →
-          isHolder (rowOf h (y .name) + 2) (y .number) (cond b (At (rowOf h (x .name))) Nothing) (x .number) ≡ sameInstance y x
+          isHolder (heldBy (rowOf h (y .name))) (y .number) (cond b (At (rowOf h (x .name))) Nothing) (x .number) ≡ sameInstance y x
       by-row true q =
           rw (standings-alike (rowOf h (y .name)) (rowOf h (x .name)), one-row sameBytes same-eq same-refl (y .name) (x .name) (names h) listed q)
           (by-name (sameBytes (y .name) (x .name)) refl)
@@ -75,8 +76,8 @@ module _ (h : List Event) (a : Accepted h) (x : Instance) (only : Only (kindOf (
       by-core idle p = refl
       by-core (held y) p =
           rw (
-            ne-eqb (rowOf h (y .name) + 2) 0 (λ q. omega arith),
-            ne-eqb (rowOf h (y .name) + 2) 1 (λ q. omega arith),
+            ne-eqb (heldBy (rowOf h (y .name))) 0 (λ q. omega arith),
+            ne-eqb (heldBy (rowOf h (y .name))) idleCore (λ q. omega arith),
             told y p,
             holds-own c y p,
           )

@@ -28,7 +28,7 @@ use Rattle.rules.proofs.Tracked.{named-kind}
 use Rattle.rules.proofs.Totals.{core-total}
 use Rattle.rules.proofs.Charges.{charge-at-most}
 use Rattle.rules.proofs.Alone.{alone}
-use Rattle.tables.specs.Entry.{verdictNumber, verdictLine, lineCount, scaleEntry, creatorEntry, dateEntry, nameCount}
+use Rattle.tables.specs.Entry.{heldFrom, heldBy, verdictNumber, verdictLine, lineCount, scaleEntry, creatorEntry, dateEntry, nameCount}
 use Rattle.tables.specs.Entry.{kindAt, standingAt, ownerAt, stateAt, heldAt, idleAt, unknownAt, sinceAt, lastTime}
 use Rattle.tables.specs.Range.{holderOk, coreOk, standingOk, maxSum}
 use Rattle.tables.proofs.Valid.{NameRow, InstanceRow, Valid}
@@ -56,8 +56,8 @@ module _ (h : List Event) (a : Accepted h) (met : AllMet h) (t : Tables) (s : Sh
   core-ok n idle p k = refl
   core-ok n (held x) p k =
       let o = name-of (x .name) (x .kind) (holder-kind h a n x p) in
-      let row : (rowOf h (x .name) + 2) - 2 ≡ rowOf h (x .name) = omega arith in
-      rw (le-ltb (rowOf h (x .name) + 2) 2 (omega arith), row, lt-ltb _ _ (o .0), o .1, alone h a .holder-occupies n x p .0)
+      let row : heldBy (rowOf h (x .name)) - heldFrom ≡ rowOf h (x .name) = omega arith in
+      rw (le-ltb (heldBy (rowOf h (x .name))) heldFrom (omega arith), row, lt-ltb _ _ (o .0), o .1, alone h a .holder-occupies n x p .0)
 
   standing-ok : (n : List ℕ) → any (sameBytes n) (names h) ≡ true →
       standingOk (t .nums) (kindAt (t .nums) (rowOf h n)) (standingAt (t .nums) (rowOf h n)) ≡ true

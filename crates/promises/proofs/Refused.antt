@@ -18,7 +18,7 @@ use Rattle.rules.specs.Event.{Event}
 use Rattle.rules.specs.Lines.{eventFrom}
 use Rattle.rules.specs.Lists.{ifZero}
 use Rattle.rules.specs.PlaceCode.{answerByReading}
-use Rattle.tables.specs.Entry.{numsSize, verdictNumber}
+use Rattle.tables.specs.Entry.{numsSize, linesIndex, verdictNumber}
 use Rattle.tables.specs.Range.{tableAnswer}
 use Rattle.decide.specs.declared.plan.Plan.{Plan}
 use Rattle.decide.specs.declared.plan.Plan.the-variants.{Refuse, Take}
@@ -37,7 +37,7 @@ use Rattle.promises.proofs.Numbers.{judged-numbered}
 -- nothing but the two entries of the remembered verdict
 pub record OnlyVerdict (t u : Tables) : Type 0 where
   pub names : u .names ≡ t .names
-  pub nums : AgreeFrom 2 (t .nums) (u .nums)
+  pub nums : AgreeFrom linesIndex (t .nums) (u .nums)
   pub ticks : u .ticks ≡ t .ticks
 
 unchanged : (t : Tables) → OnlyVerdict t t

@@ -8,7 +8,7 @@ use lib.Dec.{eqb, ltb}
 use lib.ListN.{length, getD, length-set}
 use borrow.Author.Tests.{ne-eqb, lt-ltb, ltb-true, ltb-false}
 use Rattle.rules.proofs.Tests.{both}
-use Rattle.tables.specs.Entry.{nameRows, instanceRows, numsSize}
+use Rattle.tables.specs.Entry.{heldBy, nameRows, instanceRows, numsSize}
 use Rattle.tables.specs.Entry.{kindColumn, lengthColumn, standingColumn, numberColumn, numberedColumn, ownerColumn, instanceColumn, stateColumn}
 use Rattle.tables.specs.Entry.{kindAt, lengthAt, standingAt, numberAt, numberedAt, ownerAt, instanceAt, stateAt}
 use Rattle.tables.proofs.Stores.{cell, Outside, beside}
@@ -79,10 +79,10 @@ module _ (nums : List ℕ) (z : length nums ≡ numsSize) (i r : ℕ) (h : r < n
 
 -- the stores of a core's holder, where its name has a row
 module _ (nums : List ℕ) (z : length nums ≡ numsSize) (i p n r : ℕ) (o : p < nameRows) (h : r < nameRows) where
-  pub holder-standing : standingAt (storeHolder nums i p n) r ≡ cond (eqb r i) (p + 2) (standingAt nums r)
+  pub holder-standing : standingAt (storeHolder nums i p n) r ≡ cond (eqb r i) (heldBy p) (standingAt nums r)
   unfolding storeHolder
   holder-standing =
-      row-if nameRows i (ltb i nameRows && ltb p nameRows) (named-too nameRows i p o) _ nums (standingColumn .base) r (p + 2) h
+      row-if nameRows i (ltb i nameRows && ltb p nameRows) (named-too nameRows i p o) _ nums (standingColumn .base) r (heldBy p) h
       (λ k. simp (cell numsSize nameRows, length-set, z))
 
   pub holder-number : numberAt (storeHolder nums i p n) r ≡ cond (eqb r i) n (numberAt nums r)

@@ -18,7 +18,7 @@ use Rattle.rules.specs.Lawful.{Fits}
 use Rattle.rules.proofs.Tests.{both, clash}
 use Rattle.rules.proofs.Answers.{Passed, room-fits}
 use Rattle.rules.proofs.CoreWords.{gives-only}
-use Rattle.tables.specs.Entry.{nameRows, kindAt, standingAt, numberAt, numberedAt}
+use Rattle.tables.specs.Entry.{idleCore, heldBy, nameRows, kindAt, standingAt, numberAt, numberedAt}
 use Rattle.rules.proofs.CoreClasses.{class-on}
 use Rattle.store.specs.Store.{coreRow, targetRow, takenNums}
 use Rattle.judge.specs.Feed.{Tables}
@@ -126,7 +126,7 @@ module _ (h : List Event) (t : Tables) (s : Shown h t) (e : Event) (f : Passed h
     kind-at = kind-taken (t .nums) (s .sized .nums-size) (lookedUpIn h t e) state e row bound ∙ new-or-old (e .kind) core (kindAt (t .nums) row)
 
     pub standing-at : standingAt next row ≡
-        cond (on n e) (cond (gives (e .word)) 1 (rowOf (e ∷ h) (e .target) + 2))
+        cond (on n e) (cond (gives (e .word)) idleCore (heldBy (rowOf (e ∷ h) (e .target))))
         (cond (eqb (e .kind) semaphore && sameBytes n (e .target)) state (orOld h e n 0 0 (standingAt (t .nums) row)))
     unfolding lookedUpIn
     standing-at =

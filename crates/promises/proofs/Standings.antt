@@ -20,7 +20,7 @@ use Rattle.rules.specs.Verdict.{Accepted}
 use Rattle.rules.proofs.Tests.{both, and-true, clash, instance-true}
 use Rattle.rules.proofs.Changes.{state-other, core-other}
 use Rattle.rules.proofs.Answers.{Passed}
-use Rattle.tables.specs.Entry.{kindAt, standingAt}
+use Rattle.tables.specs.Entry.{idleCore, heldBy, kindAt, standingAt}
 use Rattle.store.specs.Store.{takenTables}
 use Rattle.judge.specs.Feed.{Tables}
 use Rattle.promises.specs.Places.{rowOf}
@@ -50,7 +50,7 @@ module _ (h : List Event) (a : Accepted h) (t : Tables) (s : Shown h t) (e : Eve
   core-standing-stays (held x) p = rw (row-stays h e (f .kinds) (x .name) (holder-named h a n x p))
 
   -- the event is one on the core
-  standing-of-core : on n e ≡ true → StandingShown (e ∷ h) n (kindAt (after .nums) row) (cond (gives (e .word)) 1 (rowOf (e ∷ h) (e .target) + 2))
+  standing-of-core : on n e ≡ true → StandingShown (e ∷ h) n (kindAt (after .nums) row) (cond (gives (e .word)) idleCore (heldBy (rowOf (e ∷ h) (e .target))))
   standing-of-core x =
       let k = source-kinded h t s e f state n q x in
       record {
@@ -59,7 +59,7 @@ module _ (h : List Event) (a : Accepted h) (t : Tables) (s : Shown h t) (e : Eve
         of-other = λ c d. absurd (clash _ (eq-eqb (kindAt (after .nums) row) core k) c);
       }
     where
-      by-word : (g : Bool) → cond g 1 (rowOf (e ∷ h) (e .target) + 2) ≡ coreStanding (e ∷ h) (becomes g (instanceOf e))
+      by-word : (g : Bool) → cond g idleCore (heldBy (rowOf (e ∷ h) (e .target))) ≡ coreStanding (e ∷ h) (becomes g (instanceOf e))
       by-word true = refl
       by-word false = refl
 
@@ -114,7 +114,7 @@ module _ (h : List Event) (a : Accepted h) (t : Tables) (s : Shown h t) (e : Eve
     where
       by-tests : (x : Bool) → on n e ≡ x → (y : Bool) → eqb (e .kind) semaphore && sameBytes n (e .target) ≡ y → NameFrom h e n →
           StandingShown (e ∷ h) n (kindAt (after .nums) row)
-          (cond x (cond (gives (e .word)) 1 (rowOf (e ∷ h) (e .target) + 2)) (cond y state (orOld h e n 0 0 (standingAt (t .nums) row))))
+          (cond x (cond (gives (e .word)) idleCore (heldBy (rowOf (e ∷ h) (e .target)))) (cond y state (orOld h e n 0 0 (standingAt (t .nums) row))))
       by-tests true x y v r = standing-of-core x
       by-tests false x true v r = standing-of-semaphore v
       by-tests false x false v (before p) =

@@ -17,7 +17,7 @@ use Rattle.rules.specs.Rows.{opened}
 use Rattle.rules.specs.Lines.{eventsOf}
 use Rattle.rules.specs.Trace.{placeOf}
 use Rattle.tables.specs.Sized.{Sized}
-use Rattle.tables.specs.Entry.{creatorEntry, dateEntry, startedEntry, nameCount, coreCount, instanceCount}
+use Rattle.tables.specs.Entry.{idleCore, heldBy, creatorEntry, dateEntry, startedEntry, nameCount, coreCount, instanceCount}
 use Rattle.tables.specs.Entry.{kindAt, lengthAt, standingAt, numberAt, numberedAt, ownerAt, instanceAt}
 use Rattle.tables.specs.Entry.{stateAt, firstTime, lastTime, heldAt, idleAt, unknownAt, sinceAt, nameAt}
 use Rattle.judge.specs.Feed.{Tables, placeIn}
@@ -50,8 +50,8 @@ pub record SinglesShown (h : List Event) (nums ticks : List ℕ) : Type 0 where
 -- a core that is idle, or held by an instance of the name in a row
 abbrev pub coreStanding : List Event → Core → ℕ
 coreStanding h unknown = 0
-coreStanding h idle = 1
-coreStanding h (held x) = rowOf h (x .name) + 2
+coreStanding h idle = idleCore
+coreStanding h (held x) = heldBy (rowOf h (x .name))
 
 abbrev pub theSemaphore : List ℕ → Instance
 theSemaphore n = record { kind = semaphore; name = n; number = 0 }

@@ -24,7 +24,7 @@ pub(crate) fn held_ticks(nums: &[u32], ticks: &[u64], i: usize) -> u64
     requires { ⌜ (length (now nums) ≡ numsSize) × ((length (now ticks) ≡ ticksSize) × (i < nameRows)) ⌝ }
     ensures { λ r. ⌜ r ≡ heldIn (now (nums .entry)) (now (ticks .entry)) i ⌝ }
 {
-    if nums[STANDING + i] < 2 {
+    if nums[STANDING + i] < HELD_FROM {
         return ticks[HELD + i];
     }
     wrapping_add_u64(ticks[HELD + i], open_ticks(ticks, i))
@@ -35,7 +35,7 @@ pub(crate) fn idle_ticks(nums: &[u32], ticks: &[u64], i: usize) -> u64
     requires { ⌜ (length (now nums) ≡ numsSize) × ((length (now ticks) ≡ ticksSize) × (i < nameRows)) ⌝ }
     ensures { λ r. ⌜ r ≡ idleIn (now (nums .entry)) (now (ticks .entry)) i ⌝ }
 {
-    if nums[STANDING + i] != 1 {
+    if nums[STANDING + i] != IDLE_CORE {
         return ticks[IDLE + i];
     }
     wrapping_add_u64(ticks[IDLE + i], open_ticks(ticks, i))
@@ -46,7 +46,7 @@ fn holds_core(nums: &[u32], i: usize, k: usize) -> bool
     requires { ⌜ (length (now nums) ≡ numsSize) × ((i < nameRows) × (k < nameRows)) ⌝ }
     ensures { λ r. ⌜ r ≡ holdsCore (now (nums .entry)) i k ⌝ }
 {
-    (nums[KIND + k] == CORE) & (nums[STANDING + k] as usize == i + 2)
+    (nums[KIND + k] == CORE) & (nums[STANDING + k] as usize == i + HELD_FROM as usize)
 }
 
 // The charge of the process in row i.

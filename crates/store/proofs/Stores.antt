@@ -13,7 +13,7 @@ use Rattle.rules.specs.Words.{core, semaphore}
 use Rattle.rules.specs.Core.{no-core, takes-core, gives-core}
 use Rattle.rules.specs.Event.{Event}
 use Rattle.rules.specs.History.{hasInstances, activates}
-use Rattle.tables.specs.Entry.{Tables, tables, nameRows, instanceRows, nameRoom, linesIndex, startedIndex, namesIndex, coresIndex, instancesIndex}
+use Rattle.tables.specs.Entry.{idleCore, Tables, tables, nameRows, instanceRows, nameRoom, linesIndex, startedIndex, namesIndex, coresIndex, instancesIndex}
 use Rattle.tables.specs.Entry.{lineCount, startedEntry, nameCount, coreCount, instanceCount, firstTime}
 use Rattle.tables.specs.Sized.{Sized}
 use Rattle.tables.proofs.Stores.{other}
@@ -167,7 +167,7 @@ pub length-withCore : (nums : List ℕ) (class i p n : ℕ) → length (withCore
 unfolding withCore
 length-withCore nums class i p n =
     length-cond (eqb class no-core) nums _ refl
-    (length-cond (eqb class gives-core) (storeStanding nums i 1) (storeHolder nums i p n) (length-storeStanding nums i 1) (length-storeHolder nums i p n))
+    (length-cond (eqb class gives-core) (storeStanding nums i idleCore) (storeHolder nums i p n) (length-storeStanding nums i idleCore) (length-storeHolder nums i p n))
 
 pub length-withCounts : (nums : List ℕ) (names cores instances : ℕ) → length (withCounts nums names cores instances) ≡ length nums
 unfolding withCounts

@@ -14,7 +14,7 @@ use Rattle.tables.specs.declared.find.Found.{Found}
 use Rattle.tables.specs.declared.find.Found.the-variants.{At, Nothing}
 use Rattle.tables.specs.Entry.{Tables, tables, storeAt, nameRows, instanceRows, nameRoom, linesIndex, startedIndex, namesIndex, coresIndex, instancesIndex, firstIndex, lastIndex}
 use Rattle.tables.specs.Entry.{kindColumn, lengthColumn, standingColumn, numberColumn, numberedColumn, ownerColumn, instanceColumn, stateColumn, heldColumn, idleColumn, unknownColumn, sinceColumn}
-use Rattle.tables.specs.Entry.{lineCount, startedEntry, nameCount, coreCount, instanceCount, firstTime, heldAt, idleAt, sinceAt}
+use Rattle.tables.specs.Entry.{idleCore, heldBy, lineCount, startedEntry, nameCount, coreCount, instanceCount, firstTime, heldAt, idleAt, sinceAt}
 use Rattle.tables.specs.Sized.{isSized}
 use Rattle.decide.specs.declared.look.LookedUp.{LookedUp}
 use Rattle.decide.specs.Known.{newCore, newName, newInstance}
@@ -61,9 +61,9 @@ storeInstance nums j owner number state =
 unfoldable pub storeStanding : List ℕ → ℕ → ℕ → List ℕ
 storeStanding nums i standing = cond (ltb i nameRows) (storeAt standingColumn nums i standing) nums
 
--- the holder of a core: 2 more than the row of its name, and its number
+-- the holder of a core: the row of its name, and its number
 unfoldable pub storeHolder : List ℕ → ℕ → ℕ → ℕ → List ℕ
-storeHolder nums i p n = cond (ltb i nameRows && ltb p nameRows) (storeAt numberColumn (storeAt standingColumn nums i (p + 2)) i n) nums
+storeHolder nums i p n = cond (ltb i nameRows && ltb p nameRows) (storeAt numberColumn (storeAt standingColumn nums i (heldBy p)) i n) nums
 
 -- a last number or count
 unfoldable pub storeNumber : List ℕ → ℕ → ℕ → List ℕ
@@ -91,7 +91,7 @@ withTarget nums i j t kind word n c =
 
 -- "make it held" by the instance n of the process in row p, "make it idle": an idle core's number stays as it was, and nothing looks at it
 unfoldable pub withCore : List ℕ → ℕ → ℕ → ℕ → ℕ → List ℕ
-withCore nums class i p n = cond (eqb class no-core) nums (cond (eqb class gives-core) (storeStanding nums i 1) (storeHolder nums i p n))
+withCore nums class i p n = cond (eqb class no-core) nums (cond (eqb class gives-core) (storeStanding nums i idleCore) (storeHolder nums i p n))
 
 unfoldable pub withCounts : List ℕ → ℕ → ℕ → ℕ → List ℕ
 withCounts nums names cores instances =

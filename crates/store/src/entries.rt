@@ -84,7 +84,7 @@ pub(crate) fn store_holder(nums: &mut [u32], i: usize, p: usize, number: u32)
     if NAME_ROWS <= p {
         return;
     }
-    nums[STANDING + i] = p as u32 + 2;
+    nums[STANDING + i] = p as u32 + HELD_FROM;
     nums[NUMBER + i] = number;
 }
 

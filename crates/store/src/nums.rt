@@ -71,7 +71,7 @@ fn store_core(nums: &mut [u32], class: u32, i: usize, p: usize, number: u32)
         return;
     }
     if class == GIVES_CORE {
-        store_standing(nums, i, 1);
+        store_standing(nums, i, IDLE_CORE);
         return;
     }
     store_holder(nums, i, p, number);

@@ -95,6 +95,16 @@ numberColumn = column (past standingColumn) nameRows
 abbrev pub numberedColumn : Column
 numberedColumn = column (past numberColumn) nameRows
 
+-- what a core's state says: idle, or held by an instance of the name in row p; 0 is unknown, the state of none yet
+abbrev pub idleCore : ℕ
+idleCore = 1
+
+abbrev pub heldFrom : ℕ
+heldFrom = 2
+
+abbrev pub heldBy : ℕ → ℕ
+heldBy p = p + heldFrom
+
 -- by instance: the row of its name, its number, its state
 abbrev pub ownerColumn : Column
 ownerColumn = column (past numberedColumn) instanceRows

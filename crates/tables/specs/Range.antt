@@ -12,7 +12,7 @@ use Rattle.rules.specs.Limits.{coreLimit, lastRefusal}
 use Rattle.rules.specs.Chart.{isStateOf}
 use Rattle.rules.specs.Charts.{isProcess, chartOf}
 use Rattle.rules.specs.History.{hasInstances}
-use Rattle.tables.specs.Entry.{nameRows, instanceRows, nameRoom, numsSize}
+use Rattle.tables.specs.Entry.{nameRows, instanceRows, nameRoom, numsSize, idleCore, heldFrom}
 use Rattle.tables.specs.Entry.{verdictNumber, verdictLine, lineCount, scaleEntry, creatorEntry, dateEntry, startedEntry, nameCount, coreCount, instanceCount}
 use Rattle.tables.specs.Entry.{kindAt, lengthAt, standingAt, numberedAt, ownerAt, stateAt, firstTime, lastTime, heldAt, idleAt, unknownAt, sinceAt, nameAt}
 use Rattle.tables.specs.Sized.{isSized}
@@ -45,7 +45,7 @@ holderOk nums p = ltb p (nameCount nums) && isProcess (kindAt nums p)
 -- the state of a core: idle, 1, or held by an instance of the process in row p, 2 + p. The instance's number, which lies in the core's own entry of
 -- numbers, may be any, and whether that instance has a row is not asked: 16 asks what an entry is by itself and what it points to.
 unfoldable pub coreOk : List ℕ → ℕ → Bool
-coreOk nums standing = cond (ltb standing 2) (eqb standing 1) (holderOk nums (standing - 2))
+coreOk nums standing = cond (ltb standing heldFrom) (eqb standing idleCore) (holderOk nums (standing - heldFrom))
 
 -- the state of a name by its kind: a core's; of a semaphore none yet, 0, or one of its chart's; any other name has none
 unfoldable pub standingOk : List ℕ → ℕ → ℕ → Bool

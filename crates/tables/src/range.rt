@@ -71,10 +71,10 @@ fn core_ok(nums: &[u32], standing: u32) -> bool
     requires { ⌜ Counted (now nums) ⌝ }
     ensures { λ r. ⌜ r ≡ coreOk (now (nums .entry)) standing ⌝ }
 {
-    if standing < 2 {
-        return standing == 1;
+    if standing < HELD_FROM {
+        return standing == IDLE_CORE;
     }
-    holder_ok(nums, standing - 2)
+    holder_ok(nums, standing - HELD_FROM)
 }
 
 // The state of a name by its kind: a core's; of a semaphore none yet (0) or one of its chart's; any other name has none.

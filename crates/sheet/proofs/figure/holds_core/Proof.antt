@@ -21,4 +21,5 @@ holds-core-spec =
     (λ c. search needs)
     (λ c. omega (arith, c .shared-slice-known2 .given (standingColumn .base + c .before .before .args .k)))
     (λ c. search needs)
+    (λ c. search needs)
     (λ c. refl))
