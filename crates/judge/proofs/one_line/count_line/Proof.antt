@@ -1,9 +1,9 @@
--- `judge::feed::count_line` meets its contract: the entry grows by one.
+-- `judge::one_line::count_line` meets its contract: the entry grows by one.
 use mathlib.Core.Path.{refl}
 use borrow.Author.Needs.{needs}
 use Rattle.judge.specs.Feed.{counted}
-use Rattle.judge.proofs.feed.count_line.Statement.{statement}
-use Rattle.judge.proofs.feed.count_line.Tie as tie
+use Rattle.judge.proofs.one_line.count_line.Statement.{statement}
+use Rattle.judge.proofs.one_line.count_line.Tie as tie
 
 returns : tie.Need-returns
 unfolding counted

@@ -1,10 +1,10 @@
--- `judge::feed::count_entry` meets its contract: a store, and one line more.
+-- `judge::one_line::count_entry` meets its contract: a store, and one line more.
 use mathlib.Core.Path.{ap, _∙_}
 use lib.ListN.{length}
 use borrow.Author.Needs.{needs}
 use Rattle.judge.proofs.Sizes.{length-entry}
-use Rattle.judge.proofs.feed.count_entry.Statement.{statement}
-use Rattle.judge.proofs.feed.count_entry.Tie as tie
+use Rattle.judge.proofs.one_line.count_entry.Statement.{statement}
+use Rattle.judge.proofs.one_line.count_entry.Tie as tie
 
 pub count-entry-spec : {M : Type 1} → statement M
 count-entry-spec =

@@ -1,11 +1,11 @@
--- `judge::feed::line_in` meets its contract: a verdict stays, and a line is refused by its place or read.
+-- `judge::one_line::line_in` meets its contract: a verdict stays, and a line is refused by its place or read.
 use mathlib.Core.Path.{_≡_, ap, _∙_}
 use borrow.Author.Needs.{needs}
 use Rattle.line.specs.declared.reading.Split.{Split}
 use Rattle.judge.specs.Feed.{tables, judgedInPlace, judgedLine}
 use Rattle.judge.proofs.Feeds.{verdict-again, in-place-judged, refused-in-place, read-in-place}
-use Rattle.judge.proofs.feed.line_in.Statement.{statement}
-use Rattle.judge.proofs.feed.line_in.Tie as tie
+use Rattle.judge.proofs.one_line.line_in.Statement.{statement}
+use Rattle.judge.proofs.one_line.line_in.Tie as tie
 
 -- from the answer on the line's place to its reading: nums is lent between them, and the commas are kept
 abbrev read : tie.After-answer-in-place → tie.After-read-split

@@ -1,4 +1,4 @@
--- `judge::feed::event_in` meets its contract: the plan is the definition's, and either arm carries it out.
+-- `judge::one_line::event_in` meets its contract: the plan is the definition's, and either arm carries it out.
 use mathlib.Core.Path.{_≡_, _∙_}
 use borrow.Author.Needs.{needs}
 use Rattle.fields.specs.Part.{fieldOf}
@@ -6,8 +6,8 @@ use Rattle.fields.proofs.Parts.{between-field}
 use Rattle.rules.specs.Lines.{eventFrom}
 use Rattle.judge.specs.Feed.{tables, carried, judgedEvent}
 use Rattle.judge.proofs.Feeds.{refused-carried, taken-carried, carried-judged}
-use Rattle.judge.proofs.feed.event_in.Statement.{statement}
-use Rattle.judge.proofs.feed.event_in.Tie as tie
+use Rattle.judge.proofs.one_line.event_in.Statement.{statement}
+use Rattle.judge.proofs.one_line.event_in.Tie as tie
 
 -- from the place where the plan is known to the one where source and target are: the three tables are lent between them
 abbrev parted : tie.After-decide → tie.After-between2

@@ -1,7 +1,7 @@
--- `judge::feed::read_in` meets its contract: each arm stores what the definition says of its reading.
+-- `judge::one_line::read_in` meets its contract: each arm stores what the definition says of its reading.
 use borrow.Author.Needs.{needs}
-use Rattle.judge.proofs.feed.read_in.Statement.{statement}
-use Rattle.judge.proofs.feed.read_in.Tie as tie
+use Rattle.judge.proofs.one_line.read_in.Statement.{statement}
+use Rattle.judge.proofs.one_line.read_in.Tie as tie
 
 version : tie.Need-returns
 version c =

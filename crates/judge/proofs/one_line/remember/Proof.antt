@@ -1,9 +1,9 @@
--- `judge::feed::remember` meets its contract: the line's number is read before the stores.
+-- `judge::one_line::remember` meets its contract: the line's number is read before the stores.
 use mathlib.Core.Path.{refl}
 use borrow.Author.Needs.{needs}
 use Rattle.judge.specs.Feed.{remembered}
-use Rattle.judge.proofs.feed.remember.Statement.{statement}
-use Rattle.judge.proofs.feed.remember.Tie as tie
+use Rattle.judge.proofs.one_line.remember.Statement.{statement}
+use Rattle.judge.proofs.one_line.remember.Tie as tie
 
 returns : tie.Need-returns
 unfolding remembered

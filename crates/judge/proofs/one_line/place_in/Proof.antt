@@ -1,9 +1,9 @@
--- `judge::feed::place_in` meets its contract: each entry is the definition's.
+-- `judge::one_line::place_in` meets its contract: each entry is the definition's.
 use mathlib.Core.Path.{refl}
 use borrow.Author.Needs.{needs}
 use Rattle.judge.specs.Feed.{placeIn}
-use Rattle.judge.proofs.feed.place_in.Statement.{statement}
-use Rattle.judge.proofs.feed.place_in.Tie as tie
+use Rattle.judge.proofs.one_line.place_in.Statement.{statement}
+use Rattle.judge.proofs.one_line.place_in.Tie as tie
 
 returns : tie.Need-returns
 unfolding placeIn

@@ -1,9 +1,9 @@
--- `judge::feed::verdict_in` meets its contract: the tests made are the definition's, in its order.
+-- `judge::at_end::verdict_in` meets its contract: the tests made are the definition's, in its order.
 use borrow.Author.Needs.{needs}
 use borrow.Author.Tests.{eq-eqb, ne-eqb}
 use Rattle.judge.specs.Feed.{verdictIn}
-use Rattle.judge.proofs.feed.verdict_in.Statement.{statement}
-use Rattle.judge.proofs.feed.verdict_in.Tie as tie
+use Rattle.judge.proofs.at_end.verdict_in.Statement.{statement}
+use Rattle.judge.proofs.at_end.verdict_in.Tie as tie
 
 refused : tie.Need-returns
 unfolding verdictIn
