@@ -9,7 +9,7 @@ use lib.ListN.{length, take, length-append}
 use Rattle.walk.specs.Lines.{restOf}
 use Rattle.rules.specs.Lists.{ifZero}
 use Rattle.judge.specs.Feed.{Tables, fedChunk}
-use Rattle.run.specs.Chunk.{Progress, going, stopped, readOn, atInputEnd}
+use Rattle.run.specs.Chunk.{carriedMost, Progress, going, stopped, readOn, atInputEnd}
 use Rattle.promises.specs.Fed.{joined}
 use Rattle.input.specs.declared.reads.Step.{Step}
 use Rattle.input.specs.declared.reads.Step.the-variants.{More, Stop, End, Error}
@@ -28,7 +28,7 @@ read-append [] qs t rest {u} {left} e =
     rw (p, q)
 read-append (r ∷ rs) qs t rest {u} {left} e =
     let fed = fedChunk t (rest ++ r) in
-    by-tests (fed .fed .answer) (ltb 1024 (length (restOf (rest ++ r)))) _ _ _ _ (read-append rs qs (fed .left) (restOf (rest ++ r))) e
+    by-tests (fed .fed .answer) (ltb carriedMost (length (restOf (rest ++ r)))) _ _ _ _ (read-append rs qs (fed .left) (restOf (rest ++ r))) e
   where
     by-tests : (a : ℕ) (b : Bool) (x y : Tables) (p q : Progress) → (p ≡ going u left → q ≡ readOn u left qs) →
         ifZero a (cond b (stopped x) p) (stopped y) ≡ going u left → ifZero a (cond b (stopped x) q) (stopped y) ≡ readOn u left qs
@@ -50,7 +50,7 @@ read-size : {k have : ℕ} {t : Tables} {b : List ℕ} {p : Progress} → OneMor
 read-size m = let a = m .each in let e = m .counted in (omega arith, omega arith)
 
 module _ (have : ℕ) (t : Tables) (b : List ℕ) (u : Tables) (c : List ℕ) {r : Step} {k : ℕ} where
-  as-more : {left : ℕ} → r ≡ More k left → Stepped r have t b u c → (left ≤ 1024) × OneMore k have t b (going u (take left c))
+  as-more : {left : ℕ} → r ≡ More k left → Stepped r have t b u c → (left ≤ carriedMost) × OneMore k have t b (going u (take left c))
   as-more e w = rw e at w
 
   as-stop : r ≡ Stop k → Stepped r have t b u c → OneMore k have t b (stopped u)
@@ -87,7 +87,7 @@ module _ {n : ℕ} {t u : Tables} (have : ℕ) (b : List ℕ) (s : ReadSoFar n t
     more-come : readOn t [] more ≡ p
     more-come = read-append (s .reads) (m .read ∷ []) t [] (s .goes-on) ∙ m .comes-to
 
-  pub came-more : {r : Step} {k left : ℕ} → r ≡ More k left → Stepped r have u b v c → (left ≤ 1024) × ReadSoFar (n + k) t v (take left c)
+  pub came-more : {r : Step} {k left : ℕ} → r ≡ More k left → Stepped r have u b v c → (left ≤ carriedMost) × ReadSoFar (n + k) t v (take left c)
   came-more e w =
       let m = as-more have u b v c e w in
       (m .0, record { reads = more (m .1); each = more-each (m .1); counted = more-counted (m .1); goes-on = more-come (m .1) })

@@ -8,7 +8,7 @@ use lib.Dec.{eqb}
 use lib.ListN.{length, take, getD}
 use Rattle.tables.specs.Range.{tableAnswer}
 use Rattle.judge.specs.Feed.{Tables}
-use Rattle.run.specs.Chunk.{Progress, going, stopped, readOn, atInputEnd}
+use Rattle.run.specs.Chunk.{carriedMost, Progress, going, stopped, readOn, atInputEnd}
 use Rattle.promises.specs.Fed.{joined}
 use Rattle.input.specs.declared.reads.Got.{Got}
 use Rattle.input.specs.declared.reads.Got.the-variants.{Bytes, End, Error}
@@ -48,7 +48,7 @@ pub record OneMore (n have : ℕ) (t : Tables) (b : List ℕ) (p : Progress) : T
 
 -- the tables u and the buffer c after the turn
 abbrev pub Stepped : Step → ℕ → Tables → List ℕ → Tables → List ℕ → Type 0
-Stepped (More n left) have t b u c = (left ≤ 1024) × OneMore n have t b (going u (take left c))
+Stepped (More n left) have t b u c = (left ≤ carriedMost) × OneMore n have t b (going u (take left c))
 Stepped (Stop n) have t b u c = OneMore n have t b (stopped u)
 Stepped StepEnd have t b u c = u ≡ atInputEnd (going t (take have b))
 Stepped StepError have t b u c = u ≡ t

@@ -3,6 +3,7 @@ ghost use mathlib.Core.Path.{_≡_};
 ghost use Prim.Native.Nat.{_≤_, _<_};
 ghost use lib.ListN.{length};
 ghost use Rattle.judge.specs.Feed.{tables};
+ghost use Rattle.run.specs.Chunk.{carriedMost};
 ghost use Rattle.input.specs.Reads.{bufferSize, OneFill, Stepped, inputRefusal, Taken};
 use libc::STDIN_FILENO;
 use run::chunk::Turn;
@@ -61,7 +62,7 @@ fn one_read(
     buf: &mut [u8],
     have: usize,
 ) -> Step
-    requires { ⌜ (have ≤ 1024) × (length (now buf) ≡ bufferSize) ⌝ }
+    requires { ⌜ (have ≤ carriedMost) × (length (now buf) ≡ bufferSize) ⌝ }
     ensures { λ r. ⌜ Stepped r have (tables (now (names .entry)) (now (nums .entry)) (now (ticks .entry))) (now (buf .entry))
         (tables (now (names .exit)) (now (nums .exit)) (now (ticks .exit))) (now (buf .exit)) ⌝ }
 {

@@ -35,7 +35,7 @@ use Rattle.line.specs.Note.{maxInstance, noteOf}
 use Rattle.line.specs.Rule.{ruleBroken}
 use Rattle.line.specs.Parameter.{isVersion, isVersionLine, isComment, timeScale, isCreator, isCreationDate, scaleOr, otherReading, parameterReading}
 use Rattle.line.specs.Event.{maxTime, numbersAs, numbersOf, hasNames, ruled, knownReading, numbersReading, fieldsReading, eventReading}
-use Rattle.line.specs.Reading.{hasBreak, isEventLine, readLine}
+use Rattle.line.specs.Reading.{lineMost, hasBreak, isEventLine, readLine}
 use Rattle.line.specs.Writing.{isEmpty}
 
 -- what document 01 asks of a record, an event with its source, target and note, and the count that the note means
@@ -150,7 +150,7 @@ module _ (l : List ℕ) (e : Event) (count : ℕ) where
   line-event : readLine l ≡ EventLine e count → eventReading l ≡ EventLine e count
   unfolding readLine
   line-event q =
-      let r = second-of e count (ltb 1023 (length l) || hasBreak l) (Refused 1) (cond (isEventLine l) (eventReading l) (parameterReading l)) refl q in
+      let r = second-of e count (ltb lineMost (length l) || hasBreak l) (Refused 1) (cond (isEventLine l) (eventReading l) (parameterReading l)) refl q in
       first-of e count (isEventLine l) (eventReading l) (parameterReading l) (parameter-none l) r .1
 
   said-fields : (eqb (length (partsOf l)) 7 || eqb (length (partsOf l)) 8) ≡ true

@@ -10,7 +10,7 @@ use lib.Dec.{eqb, leb}
 use lib.ListN.{length, length-append}
 use borrow.Author.Tests.{le-leb, lt-leb, ne-eqb}
 use Rattle.text.specs.Number.{digitsOf}
-use Rattle.text.specs.Name.{isName}
+use Rattle.text.specs.Name.{nameMost, isName}
 use Rattle.text.specs.Put.{written, Put, after, put}
 use Rattle.text.proofs.Bools.{and-l, and-r}
 use Rattle.text.proofs.Digits.{digits-short}
@@ -146,11 +146,11 @@ pub accepted-sizes : (e : Event) (source target note : List ℕ) → recordRefus
 accepted-sizes e source target note h =
     and-r (hasInstances e) (hasSizes (e .time) source target note) (sized (hasInstances e && hasSizes (e .time) source target note) (isOf (e .kind) (e .action)) (isWrong (noteOf (e .kind) note)) (ruleBroken (e .kind) (e .action) source (e .«source_instance») target (e .«target_instance») note) (sym (by-tests e source target note) ∙ h))
 
-note-length : (s : List ℕ) → isEmpty s || isName s ≡ true → length s ≤ 64
+note-length : (s : List ℕ) → isEmpty s || isName s ≡ true → length s ≤ nameMost
 note-length [] e = omega arith
 note-length (x ∷ s) e = name-length (x ∷ s) e .1
 
-pub sized-lengths : (time : ℕ) (source target note : List ℕ) → hasSizes time source target note ≡ true → (length source ≤ 64) × (length target ≤ 64) × (length note ≤ 64)
+pub sized-lengths : (time : ℕ) (source target note : List ℕ) → hasSizes time source target note ≡ true → (length source ≤ nameMost) × (length target ≤ nameMost) × (length note ≤ nameMost)
 unfolding hasSizes
 sized-lengths time source target note e =
     let n = isEmpty note || isName note in

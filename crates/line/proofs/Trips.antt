@@ -30,7 +30,7 @@ use Rattle.line.specs.declared.writing.Written.the-variants.{Done, NotWr
 use Rattle.line.specs.Note.{maxInstance, noteOf, isWrong}
 use Rattle.line.specs.Rule.{ruleBroken}
 use Rattle.line.specs.Event.{maxTime, numbersOf, hasNames, knownReading, fieldsReading, eventReading}
-use Rattle.line.specs.Reading.{readLine}
+use Rattle.line.specs.Reading.{lineMost, readLine}
 use Rattle.line.specs.Writing.{hasInstances, hasSizes, recordRefusal, textOf, wrote, writeText, writeLine}
 use Rattle.line.proofs.Said.{Allowed, Noted, Said, said}
 use Rattle.line.proofs.Written.{noteParts, recordParts, text-joined, text-parts, text-length, text-break, text-event}
@@ -130,7 +130,7 @@ parts-read l e source target (x ∷ s) count a p = rw p (fields-read e source ta
 text-read : (e : Event) (source target note : List ℕ) (count : ℕ) → Allowed e source target note count → readLine (textOf e source target note) ≡ EventLine e count
 unfolding readLine
 text-read e source target note count a =
-    rw (le-ltb 1023 (length (textOf e source target note)) (text-length e source target note count a), text-break e source target note count a, text-event e source target note count a)
+    rw (le-ltb lineMost (length (textOf e source target note)) (text-length e source target note count a), text-break e source target note count a, text-event e source target note count a)
     (parts-read (textOf e source target note) e source target note count a (text-parts e source target note count a))
 
 -- ---- what is said is the parts of a record

@@ -7,7 +7,7 @@ use Prim.Native.Nat.{ℕ, _*_, _≤_, _<_, _^_}
 use native.Mathlib.Omega.{arith}
 use lib.ListN.{length, length-append}
 use borrow.Author.Tests.{ne-eqb, le-leb}
-use Rattle.text.specs.Name.{isNameByte, allNameBytes, isName}
+use Rattle.text.specs.Name.{nameMost, isNameByte, allNameBytes, isName}
 use Rattle.text.specs.Number.{isDigit, allDigits, digitsOf}
 use Rattle.text.proofs.Bools.{and-l, and-r}
 use Rattle.text.proofs.Pieces.{joinedBy}
@@ -19,7 +19,7 @@ use Rattle.words.proofs.Found.{kind-name, word-name}
 use Rattle.fields.specs.Part.{partsOf}
 use Rattle.fields.proofs.Parts.{parts-join, parts-last, joined, name-clean}
 use Rattle.line.specs.declared.event.Event.{Event}
-use Rattle.line.specs.Reading.{hasBreak, isEventLine}
+use Rattle.line.specs.Reading.{lineMost, hasBreak, isEventLine}
 use Rattle.line.specs.Writing.{nameField, numberField, noteText, textOf, isEmpty}
 use Rattle.line.proofs.Said.{Allowed}
 
@@ -90,7 +90,7 @@ digits-event (x ∷ s) t e = rw (ne-eqb x 35 (λ q. omega (arith, q, digit-low x
 digits-name : (x : ℕ) → x < 10 ^ 17 → isName (digitsOf x) ≡ true
 unfolding isName
 digits-name x h =
-    rw (le-leb 1 (length (digitsOf x)) (length-pos x), le-leb (length (digitsOf x)) 64 (omega (arith, digits-at-most 16 x h)), digits-names (digitsOf x) (digits-all x))
+    rw (le-leb 1 (length (digitsOf x)) (length-pos x), le-leb (length (digitsOf x)) nameMost (omega (arith, digits-at-most 16 x h)), digits-names (digitsOf x) (digits-all x))
 
 note-names : (s : List ℕ) → (isEmpty s || isName s) ≡ true → allNames (noteParts s) ≡ true
 note-names [] e = refl
@@ -118,7 +118,7 @@ module _ (e : Event) (source target note : List ℕ) (count : ℕ) (a : Allowed 
   unfolding recordParts
   text-parts = rw text-joined (joined-parts _ _ record-names)
 
-  pub text-length : length (textOf e source target note) ≤ 1023
+  pub text-length : length (textOf e source target note) ≤ lineMost
   unfolding recordParts
   text-length =
       let ps = recordParts e source target note in

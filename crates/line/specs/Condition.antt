@@ -18,12 +18,12 @@ use Rattle.line.specs.Note.{maxInstance, noteOf, isWrong}
 use Rattle.line.specs.Rule.{ruleBroken}
 use Rattle.line.specs.Parameter.{isVersion, isVersionLine, isComment, timeScale, isCreator, isCreationDate}
 use Rattle.line.specs.Event.{maxTime}
-use Rattle.line.specs.Reading.{hasBreak, isEventLine}
+use Rattle.line.specs.Reading.{lineMost, hasBreak, isEventLine}
 use Rattle.line.specs.Answer.{Test, test, holds}
 
 -- 1: "line too long, byte 10 or 13 inside"
 unfoldable pub refuses1 : List ℕ → Bool
-refuses1 l = ltb 1023 (length l) || hasBreak l
+refuses1 l = ltb lineMost (length l) || hasBreak l
 
 -- 2: "a `#version` line of other text"
 unfoldable pub refuses2 : List ℕ → Bool

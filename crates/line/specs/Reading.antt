@@ -21,8 +21,12 @@ unfoldable pub isEventLine : List ℕ → Bool
 isEventLine [] = true
 isEventLine (x ∷ l) = not (eqb x 35)
 
+-- "line without its end | 1,023 bytes"
+abbrev pub lineMost : ℕ
+lineMost = 1023
+
 unfoldable pub readLine : List ℕ → Reading
-readLine l = cond (ltb 1023 (length l) || hasBreak l) (Refused 1) (cond (isEventLine l) (eventReading l) (parameterReading l))
+readLine l = cond (ltb lineMost (length l) || hasBreak l) (Refused 1) (cond (isEventLine l) (eventReading l) (parameterReading l))
 
 -- what a line is, and the places of its commas, whatever it is
 abbrev pub splitLine : List ℕ → Split

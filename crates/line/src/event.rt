@@ -10,6 +10,7 @@ use crate::reading::Reading;
 use crate::rule::rule_broken;
 use fields::between;
 use fields::part::Commas;
+use text::name::NAME_MOST;
 use text::name::name;
 use text::number::Number;
 use text::number::read_number;
@@ -17,6 +18,9 @@ use words::action::Action;
 use words::kind::Kind;
 use words::pair::Pair;
 use words::pair::named;
+
+// the latest time, as specs/Event.antt has it
+pub const MAX_TIME: u64 = 72057594037927935;
 
 // What an event line says, but for its source, target and note, which are the parts 2, 5 and 8 of the line itself.
 pub struct Event {
@@ -37,7 +41,7 @@ pub(crate) enum Numbers {
 fn read_numbers(time: &[u8], source_instance: &[u8], target_instance: &[u8]) -> Numbers
     ensures { λ r. ⌜ r ≡ numbersOf (now (time .entry)) (now («source_instance» .entry)) (now («target_instance» .entry)) ⌝ }
 {
-    let first = read_number(time, 72057594037927935);
+    let first = read_number(time, MAX_TIME);
     let Number::Value(time) = first else {
         return Numbers::Wrong;
     };
@@ -63,7 +67,7 @@ fn field_name(s: &[u8], plain: bool) -> bool
     if s.len() == 0 {
         return false;
     }
-    s.len() <= 64
+    s.len() <= NAME_MOST
 }
 
 // Whether source and target are names, and so is the note where there is one.

@@ -11,6 +11,9 @@ use fields::part::Commas;
 use fields::split;
 use words::scale::Scale;
 
+// the longest line that is read by its text, as specs/Reading.antt has it
+pub const LINE_MOST: usize = 1023;
+
 // What a line is. An event line's count is what the note of a semaphore's line means, and 0 on any other.
 pub enum Reading {
     Version,
@@ -85,7 +88,7 @@ fn read_at(line: &[u8], c: Commas) -> Reading
     requires { ⌜ c ≡ commasOf (now line) ⌝ }
     ensures { λ r. ⌜ r ≡ readLine (now (line .entry)) ⌝ }
 {
-    if 1023 < line.len() {
+    if LINE_MOST < line.len() {
         return Reading::Refused(1);
     }
     let plain = all_plain(line);

@@ -2,10 +2,12 @@
 ghost use mathlib.Core.Path.{_≡_};
 ghost use Prim.Native.Nat.{_+_, _≤_};
 ghost use lib.ListN.{length};
+ghost use Rattle.text.specs.Name.{nameMost};
 ghost use Rattle.text.specs.Put.{put, after};
 ghost use Rattle.words.specs.Kind.{kindWord};
 ghost use Rattle.line.specs.Writing.{hasSizes, recordRefusal, textOf, noteText, numberField, nameField, writeLine, wrote};
 use crate::event::Event;
+use crate::event::MAX_TIME;
 use crate::note::Note;
 use crate::note::note_of;
 use crate::rule::rule_broken;
@@ -30,7 +32,7 @@ pub enum Written {
 fn sizes(time: u64, source: &[u8], target: &[u8], note: &[u8]) -> bool
     ensures { λ r. ⌜ r ≡ hasSizes time (now (source .entry)) (now (target .entry)) (now (note .entry)) ⌝ }
 {
-    (time <= 72057594037927935) & (name(source) & (name(target) & ((note.len() == 0) | name(note))))
+    (time <= MAX_TIME) & (name(source) & (name(target) & ((note.len() == 0) | name(note))))
 }
 
 // The lowest number of a refusal that applies to a record, or 0.
@@ -65,7 +67,7 @@ fn refusal(event: Event, source: &[u8], target: &[u8], note: &[u8]) -> u8
 
 // How long the line of a record is.
 fn line_length(event: Event, source: &[u8], target: &[u8], note: &[u8]) -> usize
-    requires { ⌜ (length (now source) ≤ 64) × (length (now target) ≤ 64) × (length (now note) ≤ 64) ⌝ }
+    requires { ⌜ (length (now source) ≤ nameMost) × (length (now target) ≤ nameMost) × (length (now note) ≤ nameMost) ⌝ }
     ensures { λ r. ⌜ r ≡ length (textOf event (now (source .entry)) (now (target .entry)) (now (note .entry))) ⌝ }
 {
     let kind = event.kind;

@@ -13,7 +13,7 @@ use Rattle.line.specs.declared.reading.Reading.the-variants.{Version, Comment, 
 use Rattle.line.specs.Reading.{readLine}
 use Rattle.bill.specs.Scale.{scaleNumber}
 use Rattle.line.proofs.Lowest.{lowest-has}
-use Rattle.rules.specs.Limits.{lastRefusal}
+use Rattle.rules.specs.Limits.{verdictLineLimit, lastRefusal}
 use Rattle.rules.specs.Lists.{orElse, latest, ifZero}
 use Rattle.rules.specs.Event.{Event}
 use Rattle.rules.specs.Refusals.{Known, look, eventTests, answerTo}
@@ -48,13 +48,13 @@ answer-small h l = by-place (answerInPlace (placeOf h) l) (omega (arith, place-m
     by-place zero p (some e) = event-small (look (eventsOf h) e) e
     by-place (suc n) p o = p
 
-pub refusal-small : (ls h : List (List ℕ)) → Kept h → (refusalOn h ls .0 ≤ lastRefusal) × (refusalOn h ls .1 ≤ 1000000001)
+pub refusal-small : (ls h : List (List ℕ)) → Kept h → (refusalOn h ls .0 ≤ lastRefusal) × (refusalOn h ls .1 ≤ verdictLineLimit)
 unfolding firstRefusal
 refusal-small [] h k = (omega arith, omega arith)
 refusal-small (l ∷ ls) h k = by-answer (answerAt h l) refl (λ q. refusal-small ls (l ∷ h) (kept-next h l k q))
   where
-    by-answer : (n : ℕ) → answerAt h l ≡ n → (answerAt h l ≡ 0 → (refusalOn (l ∷ h) ls .0 ≤ lastRefusal) × (refusalOn (l ∷ h) ls .1 ≤ 1000000001)) →
-        ((ifZero n (refusalOn (l ∷ h) ls) (n, length h + 1)) .0 ≤ lastRefusal) × ((ifZero n (refusalOn (l ∷ h) ls) (n, length h + 1)) .1 ≤ 1000000001)
+    by-answer : (n : ℕ) → answerAt h l ≡ n → (answerAt h l ≡ 0 → (refusalOn (l ∷ h) ls .0 ≤ lastRefusal) × (refusalOn (l ∷ h) ls .1 ≤ verdictLineLimit)) →
+        ((ifZero n (refusalOn (l ∷ h) ls) (n, length h + 1)) .0 ≤ lastRefusal) × ((ifZero n (refusalOn (l ∷ h) ls) (n, length h + 1)) .1 ≤ verdictLineLimit)
     by-answer zero q f = f q
     by-answer (suc n) q f = let a = answer-small h l in let b = lines-fit h (k .in-place) in (omega arith, omega arith)
 
@@ -82,7 +82,7 @@ scale-small (l ∷ h) = by-reading (readLine l) (scale-small h)
     by-reading (EventLine e count) i = i
     by-reading (Refused n) i = i
 
-pub shows-valid : (h : List (List ℕ)) → Kept h → (t : Tables) → Shows h t → verdictNumber (t .nums) ≤ lastRefusal → verdictLine (t .nums) ≤ 1000000001 →
+pub shows-valid : (h : List (List ℕ)) → Kept h → (t : Tables) → Shows h t → verdictNumber (t .nums) ≤ lastRefusal → verdictLine (t .nums) ≤ verdictLineLimit →
     tableAnswer (t .names) (t .nums) (t .ticks) ≡ 0
 unfolding placeIn placeOf
 shows-valid h k t s v w =

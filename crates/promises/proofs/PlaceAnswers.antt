@@ -17,6 +17,7 @@ use Rattle.rules.specs.PlaceCode.{answerByReading}
 use Rattle.rules.proofs.Tests.{neither, clash}
 use Rattle.rules.proofs.Told.{Told, testsOf, toldBy, told-right}
 use Rattle.rules.proofs.Places.{place-none, by-reading-right}
+use Rattle.rules.specs.Limits.{lineLimit}
 use Rattle.line.proofs.Lowest.{lowest-has}
 
 -- ---- 0 to 7
@@ -29,11 +30,11 @@ place-most p l = lowest-has (λ n. n ≤ 7) (placeTests p l) (omega arith) (omeg
 
 module _ (p : Place) (l : List ℕ) (q : answerInPlace p l ≡ 0) where
   -- the lines before it are few, and it is not too long
-  pub few-short : (p .lines < 1000000000) × (refuses1 l ≡ false)
+  pub few-short : (p .lines < lineLimit) × (refuses1 l ≡ false)
   unfolding placeTests tooMuch
   few-short =
-      let k = neither (leb 1000000000 (p .lines)) (refuses1 l) (place-none p l .0 q 1) in
-      (leb-false 1000000000 (p .lines) (k .0), k .1)
+      let k = neither (leb lineLimit (p .lines)) (refuses1 l) (place-none p l .0 q 1) in
+      (leb-false lineLimit (p .lines) (k .0), k .1)
 
   -- it is no unknown parameter
   known-sort : refuses3 l ≡ false
@@ -42,7 +43,7 @@ module _ (p : Place) (l : List ℕ) (q : answerInPlace p l ≡ 0) where
 
   refused-zero : (n : ℕ) → answerByReading p (Refused n) ≡ 0 → n ≡ 0
   unfolding answerByReading
-  refused-zero n e = by-tests (leb 1000000000 (p .lines)) (eqb (p .lines) 0) (eqb n 1) (leb n 3) (eqb (p .scale) 0) e
+  refused-zero n e = by-tests (leb lineLimit (p .lines)) (eqb (p .lines) 0) (eqb n 1) (leb n 3) (eqb (p .scale) 0) e
     where
       by-tests : (a b d f g : Bool) → cond a 1 (cond b (cond d 1 2) (cond f n (cond g 4 n))) ≡ 0 → n ≡ 0
       by-tests true b d f g e = absurd (omega arith)
@@ -65,7 +66,7 @@ module _ (p : Place) (l : List ℕ) (q : answerInPlace p l ≡ 0) where
 
 -- ---- at most 1,000,000,000 lines are taken
 
-pub lines-fit : (h : List (List ℕ)) → InPlace h → length h ≤ 1000000000
+pub lines-fit : (h : List (List ℕ)) → InPlace h → length h ≤ lineLimit
 unfolding placeOf
 lines-fit [] p = omega arith
 lines-fit (l ∷ h) p = let k = few-short (placeOf h) l (p .0) .0 in omega arith

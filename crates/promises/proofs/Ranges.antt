@@ -12,7 +12,7 @@ use Rattle.text.proofs.Names.{name-length}
 use Rattle.line.specs.Event.{maxTime}
 use Rattle.rules.specs.Lists.{any}
 use Rattle.rules.specs.Words.{core, semaphore}
-use Rattle.rules.specs.Limits.{lastRefusal}
+use Rattle.rules.specs.Limits.{verdictLineLimit, lineLimit, lastRefusal}
 use Rattle.rules.specs.Chart.{isStateOf}
 use Rattle.rules.specs.Charts.{chartOf}
 use Rattle.rules.specs.Event.{Event, Instance, sameInstance, wordsOf}
@@ -158,7 +158,7 @@ module _ (h : List Event) (a : Accepted h) (met : AllMet h) (t : Tables) (s : Sh
 
   -- ---- the tables
 
-  pub in-range : verdictNumber (t .nums) ≤ lastRefusal → verdictLine (t .nums) ≤ 1000000001 → lineCount (t .nums) ≤ 1000000000 → scaleEntry (t .nums) ≤ 5 →
+  pub in-range : verdictNumber (t .nums) ≤ lastRefusal → verdictLine (t .nums) ≤ verdictLineLimit → lineCount (t .nums) ≤ lineLimit → scaleEntry (t .nums) ≤ 5 →
       creatorEntry (t .nums) ≤ 1 → dateEntry (t .nums) ≤ 1 → Valid (t .names) (t .nums) (t .ticks)
   in-range v l c sc cr d =
       let fit = all-fit h a in

@@ -19,7 +19,7 @@ use Rattle.walk.specs.Lines.{lineText, wholeLines, usedUp, restOf, lastLine, li
 use Rattle.walk.proofs.Cuts.{text-nearly, cut-whole, none-whole, none-rest}
 use Rattle.walk.proofs.Chunks.{whole-halves, rest-halves, lines-halves, rest-clean}
 use Rattle.line.specs.declared.reading.Reading.the-variants.{Refused}
-use Rattle.line.specs.Reading.{readLine}
+use Rattle.line.specs.Reading.{lineMost, readLine}
 use Rattle.line.specs.Condition.{refuses1}
 use Rattle.rules.specs.Lists.{ifZero}
 use Rattle.rules.specs.Trace.{tooMuch, placeTests, answerInPlace, answerAt, refusalOn}
@@ -36,7 +36,7 @@ use Rattle.promises.proofs.Printed.{printed, after-text, written-text}
 use Rattle.sheet.specs.declared.sheet.Printed.the-variants.{Done, NotPrinted}
 use Rattle.sheet.specs.Sheet.{sheeted}
 use Rattle.run.specs.Report.{reportWritten}
-use Rattle.run.specs.Chunk.{Progress, going, stopped, lastTaken, readOn, atInputEnd}
+use Rattle.run.specs.Chunk.{carriedMost, Progress, going, stopped, lastTaken, readOn, atInputEnd}
 
 -- ---- tables after lines from a fresh start, fed the last line and one chunk more
 
@@ -61,12 +61,12 @@ chunk-fed s r =
 -- ---- a line of more than 1,023 bytes
 
 -- it is refusal 1 after any lines, the lowest
-long-refused : (h : List (List ℕ)) (l : List ℕ) → 1023 < length l → answerAt h l ≡ 1
+long-refused : (h : List (List ℕ)) (l : List ℕ) → lineMost < length l → answerAt h l ≡ 1
 unfolding answerAt answerInPlace placeTests tooMuch refuses1
-long-refused h l z = rw (lt-ltb 1023 (length l) z, or-true)
+long-refused h l z = rw (lt-ltb lineMost (length l) z, or-true)
 
 -- so among lines one is refused
-long-among : (ks h : List (List ℕ)) (l : List ℕ) → 1023 < length l → refusalOn h (ks ++ l ∷ []) .0 ≡ 0 → ⊥
+long-among : (ks h : List (List ℕ)) (l : List ℕ) → lineMost < length l → refusalOn h (ks ++ l ∷ []) .0 ≡ 0 → ⊥
 unfolding firstRefusal
 long-among [] h l z = rw (long-refused h l z) (λ e. omega arith)
 long-among (k ∷ ks) h l z = by-answer (answerAt h k) (long-among ks (k ∷ h) l z)
@@ -76,16 +76,16 @@ long-among (k ∷ ks) h l z = by-answer (answerAt h k) (long-among ks (k ∷ h) 
     by-answer (suc n) f = λ e. omega arith
 
 -- the tables do not tell one from another
-long-read : (l : List ℕ) → 1023 < length l → readLine l ≡ Refused 1
+long-read : (l : List ℕ) → lineMost < length l → readLine l ≡ Refused 1
 unfolding readLine
-long-read l z = rw (lt-ltb 1023 (length l) z)
+long-read l z = rw (lt-ltb lineMost (length l) z)
 
-long-judged : (t : Tables) (l m : List ℕ) → 1023 < length l → 1023 < length m → judgedLine t l ≡ judgedLine t m
+long-judged : (t : Tables) (l m : List ℕ) → lineMost < length l → lineMost < length m → judgedLine t l ≡ judgedLine t m
 unfolding judgedLine judgedInPlace
 long-judged t l m p q = rw (long-read l p, long-read m q)
 
 -- and what follows it changes nothing
-long-settles : (ks ls : List (List ℕ)) (l m : List ℕ) → 1023 < length l → 1023 < length m → after-lines (ks ++ m ∷ []) ≡ after-lines (ks ++ l ∷ ls)
+long-settles : (ks ls : List (List ℕ)) (l m : List ℕ) → lineMost < length l → lineMost < length m → after-lines (ks ++ m ∷ []) ≡ after-lines (ks ++ l ∷ ls)
 unfolding judgedLines
 long-settles ks ls l m p q =
     let u = after-lines (ks ++ m ∷ []) in
@@ -107,9 +107,9 @@ record BeginsLong (ls : List (List ℕ)) : Type 0 where
   line : List ℕ
   later : List (List ℕ)
   splits : ls ≡ line ∷ later
-  long : 1023 < length line
+  long : lineMost < length line
 
-begins-long : (s more : List ℕ) → 1024 < length (restOf s) → BeginsLong (linesOf (restOf s ++ more))
+begins-long : (s more : List ℕ) → carriedMost < length (restOf s) → BeginsLong (linesOf (restOf s ++ more))
 unfolding linesOf
 begins-long s more z =
     let x = restOf s ++ more in
@@ -135,7 +135,7 @@ begins-long s more z =
 pub record Going (t : Tables) (rest s : List ℕ) : Type 0 where
   pub fed : t ≡ after-lines (wholeLines s)
   pub carried : rest ≡ restOf s
-  pub short : length rest ≤ 1024
+  pub short : length rest ≤ carriedMost
 
 -- it has stopped: these are the tables after all lines, whatever more may follow
 abbrev pub Stopped : Tables → List ℕ → Type 0
@@ -154,7 +154,7 @@ module _ (s : List ℕ) where
       sym (further (whole s) v ls) ∙ sym (judgedLines-append freshTables (wholeLines s) ls) ∙ ap after-lines (sym (lines-halves s more))
 
   -- the rest is too long, and so is the line that begins with it
-  long-stops : 1024 < length (restOf s) → Stopped (fedLine (whole s) (restOf s) .left) s
+  long-stops : carriedMost < length (restOf s) → Stopped (fedLine (whole s) (restOf s) .left) s
   long-stops z more =
       let b = begins-long s more z in
       rw (lines-halves s more, b .splits)
@@ -168,13 +168,13 @@ module _ (s : List ℕ) where
   abbrev outcome : ℕ → Bool → Progress → Progress
   outcome n b p = ifZero n (cond b (stopped (fedLine (whole s) (restOf s) .left)) p) (stopped (whole s))
 
-  next : (x : List ℕ) (p : Progress) (n : ℕ) (b : Bool) → verdictNumber (whole s .nums) ≡ n → ltb 1024 (length (restOf s)) ≡ b →
-      (length (restOf s) ≤ 1024 → Right p (s ++ x)) → Right (outcome n b p) (s ++ x)
-  next x p zero true e d f = unread (long-stops (ltb-true 1024 (length (restOf s)) d)) x
-  next x p zero false e d f = f (ltb-false 1024 (length (restOf s)) d)
+  next : (x : List ℕ) (p : Progress) (n : ℕ) (b : Bool) → verdictNumber (whole s .nums) ≡ n → ltb carriedMost (length (restOf s)) ≡ b →
+      (length (restOf s) ≤ carriedMost → Right p (s ++ x)) → Right (outcome n b p) (s ++ x)
+  next x p zero true e d f = unread (long-stops (ltb-true carriedMost (length (restOf s)) d)) x
+  next x p zero false e d f = f (ltb-false carriedMost (length (restOf s)) d)
   next x p (suc n) b e d f = unread (refused-stops (λ z. omega (arith, sym e ∙ z))) x
 
-from-here : (rs : List (List ℕ)) (s : List ℕ) → length (restOf s) ≤ 1024 → Right (readOn (whole s) (restOf s) rs) (s ++ joined rs)
+from-here : (rs : List (List ℕ)) (s : List ℕ) → length (restOf s) ≤ carriedMost → Right (readOn (whole s) (restOf s) rs) (s ++ joined rs)
 unfolding readOn
 from-here [] s z = rw (append-nil s) (record { fed = refl; carried = refl; short = z })
 from-here (r ∷ rs) s z =

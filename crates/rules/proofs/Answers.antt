@@ -17,6 +17,7 @@ use Rattle.rules.specs.Refusals.{Known, look, timeFalls, secondKind, noR
 use Rattle.rules.specs.Verdict.{answer, Accepted, Never}
 use Rattle.rules.specs.Lawful.{Fits}
 use Rattle.rules.proofs.Tests.{neither}
+use Rattle.rules.specs.Limits.{instanceLimit, coreLimit, nameLimit}
 
 -- ---- the rules 8 to 14, by the laws of any list of tests
 
@@ -81,8 +82,8 @@ time-never-falls e d (f ∷ h) a m = by-place m (time-never-falls f d h (a .1))
 pub room-fits : (h : List Event) (e : Event) → noRoom (look h e) e ≡ false → Fits (e ∷ h)
 unfolding noRoom
 room-fits h e q =
-    let n = neither (ltb 256 (length (names (e ∷ h)))) _ q in
-    let c = neither (ltb 64 (length (cores (e ∷ h)))) (ltb 1024 (length (instances (e ∷ h)))) (n .1) in
+    let n = neither (ltb nameLimit (length (names (e ∷ h)))) _ q in
+    let c = neither (ltb coreLimit (length (cores (e ∷ h)))) (ltb instanceLimit (length (instances (e ∷ h)))) (n .1) in
     record { names-fit = ltb-false _ _ (n .0); cores-fit = ltb-false _ _ (c .0); instances-fit = ltb-false _ _ (c .1) }
 
 pub never-fits : (h : List Event) → Never noRoom h → Fits h

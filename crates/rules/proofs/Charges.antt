@@ -22,6 +22,7 @@ use Rattle.rules.proofs.Sums.{sum-cong, sum-zero, sum-at-most, sum-swap
 use Rattle.rules.proofs.Answers.{all-fit}
 use Rattle.rules.proofs.Totals.{ticks-add, core-total}
 use Rattle.rules.proofs.Tracked.{Since, now, before, Tracked, tracked, still-accepted, still-kind, kind-named, names-once, named-kind}
+use Rattle.rules.specs.Limits.{coreLimit}
 
 -- ---- sums of ticks
 
@@ -82,7 +83,7 @@ one-at-most p (held x) = by-test (sameBytes p (x .name))
     by-test false = omega arith
 
 -- A charge is at most the span for each of the 64 cores.
-pub charge-at-most : (h : List Event) → Accepted h → (p : List ℕ) → charge p h ≤ 64 * span h
+pub charge-at-most : (h : List Event) → Accepted h → (p : List ℕ) → charge p h ≤ coreLimit * span h
 charge-at-most h a p =
     omega (
       arith,

@@ -22,6 +22,7 @@ use Rattle.rules.specs.History.{hasInstances, isTracked, named, names, k
 use Rattle.rules.specs.Refusals.{look, timeFalls, secondKind, noRoom, offChart, notNext, coreBroken, countBroken, eventTests, answerTo}
 use Rattle.rules.specs.Verdict.{answer}
 use Rattle.rules.proofs.Sums.{any-new}
+use Rattle.rules.specs.Limits.{instanceLimit, coreLimit, nameLimit}
 
 -- an event line of each type: time, source and its instance, target and its instance, event
 abbrev pub line : ℕ → ℕ → List ℕ → ℕ → List ℕ → ℕ → ℕ → Event
@@ -107,30 +108,30 @@ unfolding answerTo eventTests
 answer-if h e full q = ap (λ b. answerIf b h e) q
 
 -- without cores, and with few instances, the names decide
-names-decide : (n c i : ℕ) → c ≡ 0 → i ≤ 1024 → ltb 256 n || (ltb 64 c || ltb 1024 i) ≡ ltb 256 n
-names-decide n c i q r = rw (le-ltb 64 c (omega (arith, q)), le-ltb 1024 i r) (or-false (ltb 256 n))
+names-decide : (n c i : ℕ) → c ≡ 0 → i ≤ instanceLimit → ltb nameLimit n || (ltb coreLimit c || ltb instanceLimit i) ≡ ltb nameLimit n
+names-decide n c i q r = rw (le-ltb coreLimit c (omega (arith, q)), le-ltb instanceLimit i r) (or-false (ltb nameLimit n))
   where
     or-false : (b : Bool) → b || false ≡ b
     or-false true = refl
     or-false false = refl
 
 -- after n names: one more; an event that tracks none; a core and its process, both new
-pub name-after : (n : ℕ) → n < 1024 → answer (many newName n) (newName n) ≡ answerIf (ltb 256 (n + 1)) (many newName n) (newName n)
+pub name-after : (n : ℕ) → n < instanceLimit → answer (many newName n) (newName n) ≡ answerIf (ltb nameLimit (n + 1)) (many newName n) (newName n)
 unfolding noRoom
 name-after n h =
-    let few : length (instances (many newName (suc n))) ≤ 1024 = omega (arith, instances-many (suc n), h) in
+    let few : length (instances (many newName (suc n))) ≤ instanceLimit = omega (arith, instances-many (suc n), h) in
     let all : length (names (many newName (suc n))) ≡ n + 1 = omega (arith, names-many (suc n)) in
-    answer-if (many newName n) (newName n) (ltb 256 (n + 1)) (names-decide (length (names (many newName (suc n)))) _ _ (ap length (cores-many (suc n))) few ∙ ap (ltb 256) all)
+    answer-if (many newName n) (newName n) (ltb nameLimit (n + 1)) (names-decide (length (names (many newName (suc n)))) _ _ (ap length (cores-many (suc n))) few ∙ ap (ltb nameLimit) all)
 
-pub trigger-after : (n : ℕ) → n ≤ 1024 → answer (many newName n) (trigger 0) ≡ answerIf (ltb 256 n) (many newName n) (trigger 0)
+pub trigger-after : (n : ℕ) → n ≤ instanceLimit → answer (many newName n) (trigger 0) ≡ answerIf (ltb nameLimit n) (many newName n) (trigger 0)
 unfolding noRoom names named instances kindIn hasInstances isTracked isProcess onCore
 trigger-after n h =
-    let few : length (instances (many newName n)) ≤ 1024 = omega (arith, instances-many n, h) in
-    answer-if (many newName n) (trigger 0) (ltb 256 n) (names-decide (length (names (many newName n))) _ _ (ap length (cores-many n)) few ∙ ap (ltb 256) (names-many n))
+    let few : length (instances (many newName n)) ≤ instanceLimit = omega (arith, instances-many n, h) in
+    answer-if (many newName n) (trigger 0) (ltb nameLimit n) (names-decide (length (names (many newName n))) _ _ (ap length (cores-many n)) few ∙ ap (ltb nameLimit) (names-many n))
 
 pub core-after : (n : ℕ) → 255 ≤ n → answer (many newName n) (newCore 0) ≡ answerIf true (many newName n) (newCore 0)
 unfolding noRoom names named hasInstances isTracked isProcess onCore takes
-core-after n h = answer-if (many newName n) (newCore 0) true (rw (lt-ltb 256 _ more))
+core-after n h = answer-if (many newName n) (newCore 0) true (rw (lt-ltb nameLimit _ more))
   where
     the-core : List ℕ
     the-core = newCore 0 .source
@@ -147,5 +148,5 @@ core-after n h = answer-if (many newName n) (newCore 0) true (rw (lt-ltb 256 _ m
         ∙ rw (absent n the-task (λ i q. other-length the-task (i ∷ []) (λ q. omega (arith, q))))
         (other-length the-task the-core (λ q. omega (arith, q)))
 
-    more : 256 < length (names (newCore 0 ∷ many newName n))
+    more : nameLimit < length (names (newCore 0 ∷ many newName n))
     more = omega (arith, added the-task (addNew sameBytes (names (many newName n)) the-core) new-task, added the-core (names (many newName n)) new-core, names-many n, h)

@@ -43,6 +43,7 @@ use Rattle.rules.proofs.Tests.{both}
 use Rattle.rules.proofs.CoreWords.{isStep}
 use Rattle.rules.proofs.Answers.{all-fit}
 use Rattle.rules.proofs.Seen.{OneWorded, Worded, first-seen}
+use Rattle.rules.specs.Limits.{instanceLimit, coreLimit, nameLimit}
 
 -- ---- the words: one computed test for each type
 
@@ -166,7 +167,7 @@ pub only-time : (h : List Event) → Accepted h → (e : ReadEvent) (source targ
 unfolding answerTo eventTests timeFalls secondKind sourceClash targetClash noRoom offChart notNext coreBroken countBroken names named kindIn instances onCore hasInstances isTracked isProcess activates chartOf
 only-time h a e source target count j =
     let f = all-fit h a in
-    rw (unjudged-zero (e .kind) j, le-ltb 256 (length (names h)) (f .names-fit), le-ltb 64 (length (cores h)) (f .cores-fit), le-ltb 1024 (length (instances h)) (f .instances-fit))
+    rw (unjudged-zero (e .kind) j, le-ltb nameLimit (length (names h)) (f .names-fit), le-ltb coreLimit (length (cores h)) (f .cores-fit), le-ltb instanceLimit (length (instances h)) (f .instances-fit))
 
 -- ---- any lines
 

@@ -25,6 +25,7 @@ use Rattle.rules.specs.Trace.{scaleIn, orZero, isSome, placeOf, tooMuch,
 use Rattle.rules.specs.PlaceCode.{firstAnswer, readAnswer, answerByReading}
 use Rattle.rules.proofs.Tests.{neither}
 use Rattle.rules.proofs.Told.{Told, testsOf, toldBy, told-right}
+use Rattle.rules.specs.Limits.{lineLimit}
 
 -- ---- "given exactly when": the conditions of the table, in the order of their numbers
 
@@ -98,7 +99,7 @@ in-order false false v w f g x p q = q
 -- 1 comes before all others
 too-long : (p : Place) (l : List ℕ) → refuses1 l ≡ true → answerByReading p (readLine l) ≡ answerInPlace p l
 unfolding answerByReading readLine answerInPlace placeTests tooMuch refuses1
-too-long p l q = rw q (by-count (leb 1000000000 (p .lines)) (eqb (p .lines) 0) _)
+too-long p l q = rw q (by-count (leb lineLimit (p .lines)) (eqb (p .lines) 0) _)
   where
     by-count : (many first : Bool) (x : ℕ) → cond many 1 (cond first (firstAnswer (Refused 1)) (readAnswer p (Refused 1))) ≡ cond (many || true) 1 x
     by-count true first x = refl
@@ -108,7 +109,7 @@ too-long p l q = rw q (by-count (leb 1000000000 (p .lines)) (eqb (p .lines) 0) _
 -- the line's tests are those that its reading tells
 tested : (p : Place) (l : List ℕ) → refuses1 l ≡ false →
     answerInPlace p l
-    ≡ cond (leb 1000000000 (p .lines) || false) 1
+    ≡ cond (leb lineLimit (p .lines) || false) 1
     (cond (cond (eqb (p .lines) 0) (not (toldBy (readLine l) .version)) (toldBy (readLine l) .version-line)) 2 (fromThree p (toldBy (readLine l)) (own l)))
 unfolding answerInPlace placeTests tooMuch versionWrong parameterWrong unscaled refuses3 testsOf
 tested p l q = rw (← (told-right l q), q)
@@ -126,7 +127,7 @@ by-reading-right p l = by-length (refuses1 l) refl
     by-length false q =
         let t = toldBy (readLine l) in
         let a = answers p (own l) (readLine l) (alone-right l q) in
-        in-order (leb 1000000000 (p .lines)) (eqb (p .lines) 0) (t .version) (t .version-line) _ _ _ (a .first) (a .later) ∙ sym (tested p l q)
+        in-order (leb lineLimit (p .lines)) (eqb (p .lines) 0) (t .version) (t .version-line) _ _ _ (a .first) (a .later) ∙ sym (tested p l q)
 
 -- ---- the place after a line
 
@@ -171,4 +172,4 @@ line-next h l q =
 pub place-next : (h : List (List ℕ)) (l : List ℕ) → answerInPlace (placeOf h) l ≡ 0 → placeOf (l ∷ h) ≡ nextPlace (placeOf h) (readLine l)
 unfolding placeTests tooMuch
 place-next h l q =
-    line-next h l (neither (leb 1000000000 (placeOf h .lines)) (refuses1 l) (place-none (placeOf h) l .0 q 1) .1)
+    line-next h l (neither (leb lineLimit (placeOf h .lines)) (refuses1 l) (place-none (placeOf h) l .0 q 1) .1)

@@ -19,6 +19,7 @@ use Rattle.rules.specs.Verdict.{Never}
 use Rattle.rules.specs.Lawful.{Fits}
 use Rattle.rules.proofs.Answers.{never-fits}
 use Rattle.rules.proofs.Tracked.{kind-stays}
+use Rattle.rules.specs.Limits.{instanceLimit, coreLimit, nameLimit}
 
 -- ---- lists that grow
 
@@ -84,7 +85,7 @@ fits-never : (h : List Event) → Never secondKind h → Fits h → Never noRoom
 unfolding noRoom
 fits-never [] k f = tt
 fits-never (e ∷ h) k f = (
-  rw (le-ltb 256 (length (names (e ∷ h))) (f .names-fit), le-ltb 64 (length (cores (e ∷ h))) (f .cores-fit), le-ltb 1024 (length (instances (e ∷ h))) (f .instances-fit)),
+  rw (le-ltb nameLimit (length (names (e ∷ h))) (f .names-fit), le-ltb coreLimit (length (cores (e ∷ h))) (f .cores-fit), le-ltb instanceLimit (length (instances (e ∷ h))) (f .instances-fit)),
   fits-never h (k .1) (fits-before h e (k .0) f),
 )
 

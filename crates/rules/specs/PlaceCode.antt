@@ -6,6 +6,7 @@ use lib.Dec.{eqb, leb}
 use Rattle.line.specs.declared.reading.Reading.{Reading}
 use Rattle.line.specs.declared.reading.Reading.the-variants.{Version, Comment, TimeScale, Creator, CreationDate, EventLine, Refused}
 use Rattle.rules.specs.declared.place.Place.{Place}
+use Rattle.rules.specs.Limits.{lineLimit}
 
 abbrev pub repeatedOrLate : Bool → Bool → ℕ
 repeatedOrLate seen late = cond (seen || late) 3 0
@@ -32,4 +33,4 @@ firstAnswer (EventLine e count) = 2
 firstAnswer (Refused n) = cond (eqb n 1) 1 2
 
 unfoldable pub answerByReading : Place → Reading → ℕ
-answerByReading p r = cond (leb 1000000000 (p .lines)) 1 (cond (eqb (p .lines) 0) (firstAnswer r) (readAnswer p r))
+answerByReading p r = cond (leb lineLimit (p .lines)) 1 (cond (eqb (p .lines) 0) (firstAnswer r) (readAnswer p r))

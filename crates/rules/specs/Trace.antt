@@ -20,6 +20,7 @@ use Rattle.rules.specs.First.{AllTaken, takenOf, firstRefusal}
 use Rattle.rules.specs.Event.{Event}
 use Rattle.rules.specs.Lines.{eventOfLine, eventsOf}
 use Rattle.rules.specs.Verdict.{answer, Accepted}
+use Rattle.rules.specs.Limits.{lineLimit}
 
 -- ---- what the lines taken say, as the next line needs it
 
@@ -54,7 +55,7 @@ placeOf h = record {
 
 -- 1: "line too long, byte 10 or 13 inside, or line past the 1,000,000,000th"
 unfoldable pub tooMuch : Place → List ℕ → Bool
-tooMuch p l = leb 1000000000 (p .lines) || refuses1 l
+tooMuch p l = leb lineLimit (p .lines) || refuses1 l
 
 -- 2: "first line isn't the version line, or a later line is `#version` or begins with it and a blank"
 unfoldable pub versionWrong : Place → List ℕ → Bool

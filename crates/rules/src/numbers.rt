@@ -33,7 +33,12 @@ pub const IS_FULL: u32 = 3;
 
 pub const IS_OVERFULL: u32 = 4;
 
-// how many names, cores among them and instances are tracked at most, as specs/Limits.antt has them
+// how many lines a trace has at most, and the line of a verdict, as specs/Limits.antt has them
+pub const LINE_LIMIT: u32 = 1000000000;
+
+pub const VERDICT_LINE_LIMIT: u32 = LINE_LIMIT + 1;
+
+// how many names, cores among them and instances are tracked at most
 pub const NAME_LIMIT: u32 = 256;
 
 pub const CORE_LIMIT: u32 = 64;

@@ -3,6 +3,7 @@ ghost use mathlib.Core.Path.{_≡_};
 ghost use mathlib.Core.Bool.{cond};
 ghost use lib.Dec.{leb};
 ghost use Rattle.rules.specs.PlaceCode.{needsScale, firstAnswer, readAnswer, repeatedOrLate, answerByReading};
+use crate::numbers::LINE_LIMIT;
 use line::reading::Reading;
 
 // How many lines were taken, the number of the time scale (0 where there is none yet), and whether a creator, a creation date, an event was
@@ -81,7 +82,7 @@ fn later_answer(p: Place, r: Reading) -> u32
 pub fn answer_in_place(p: Place, r: Reading) -> u32
     ensures { λ n. ⌜ n ≡ answerByReading p r ⌝ }
 {
-    if 1000000000 <= p.lines {
+    if LINE_LIMIT <= p.lines {
         return 1;
     }
     if p.lines == 0 {

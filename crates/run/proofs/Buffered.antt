@@ -15,7 +15,7 @@ use Rattle.rules.specs.Lists.{ifZero}
 use Rattle.judge.specs.Feed.{Tables, fedLine, fedChunk}
 use Rattle.run.specs.declared.chunk.Turn.{Turn}
 use Rattle.run.specs.declared.chunk.Turn.the-variants.{More, Stop}
-use Rattle.run.specs.Chunk.{Turned, carriedOver, chunkTaken, lastTaken, Progress, going, stopped, readOn, atInputEnd}
+use Rattle.run.specs.Chunk.{carriedMost, Turned, carriedOver, chunkTaken, lastTaken, Progress, going, stopped, readOn, atInputEnd}
 
 -- what is read after a turn
 abbrev pub readAfter : Turn → Tables → List ℕ → List (List ℕ) → Progress
@@ -38,7 +38,7 @@ pub turn-step : (t : Tables) (buf : List ℕ) (n : ℕ) (rest r : List ℕ) (rs 
 unfolding chunkTaken carriedOver readOn
 turn-step t buf n rest r rs e =
     let c = fedChunk t (take n buf) in
-    rw (← e) (by-tests (c .fed .answer) (ltb 1024 (length (restOf (take n buf)))) (c .left) (restOf (take n buf)) (rest-fits buf n))
+    rw (← e) (by-tests (c .fed .answer) (ltb carriedMost (length (restOf (take n buf)))) (c .left) (restOf (take n buf)) (rest-fits buf n))
   where
     by-tests : (a : ℕ) (b : Bool) (u : Tables) (s : List ℕ) → length s ≤ length buf →
         goesOn

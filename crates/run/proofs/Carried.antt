@@ -12,15 +12,15 @@ use Rattle.rules.specs.Lists.{ifZero}
 use Rattle.judge.specs.Feed.{Tables, fedLine, fedChunk}
 use Rattle.run.specs.declared.chunk.Turn.{Turn}
 use Rattle.run.specs.declared.chunk.Turn.the-variants.{More, Stop}
-use Rattle.run.specs.Chunk.{Turned, carriedOver, chunkTaken}
+use Rattle.run.specs.Chunk.{carriedMost, Turned, carriedOver, chunkTaken}
 
 abbrev Short : Turn → Type 0
-Short (More n) = n ≤ 1024
+Short (More n) = n ≤ carriedMost
 Short Stop = Unit {0}
 
 carried-short : (t : Tables) (rest buf : List ℕ) → Short (carriedOver t rest buf .turn)
 unfolding carriedOver
-carried-short t rest buf = by-length (ltb 1024 (length rest)) refl
+carried-short t rest buf = by-length (ltb carriedMost (length rest)) refl
   where
     long : Turned
     long = record { turn = Stop; left = fedLine t rest .left; buffer = buf }
@@ -28,9 +28,9 @@ carried-short t rest buf = by-length (ltb 1024 (length rest)) refl
     short : Turned
     short = record { turn = More (length rest); left = t; buffer = written buf 0 rest }
 
-    by-length : (b : Bool) → ltb 1024 (length rest) ≡ b → Short (cond {A = Turned} b long short .turn)
+    by-length : (b : Bool) → ltb carriedMost (length rest) ≡ b → Short (cond {A = Turned} b long short .turn)
     by-length true q = tt
-    by-length false q = ltb-false 1024 (length rest) q
+    by-length false q = ltb-false carriedMost (length rest) q
 
 chunk-short : (t : Tables) (buf : List ℕ) (n : ℕ) → Short (chunkTaken t buf n .turn)
 unfolding chunkTaken
@@ -43,5 +43,5 @@ chunk-short t buf n = by-answer (fedChunk t (take n buf) .fed .answer)
     by-answer zero = carried-short u (restOf (take n buf)) buf
     by-answer (suc a) = tt
 
-pub more-short : (t : Tables) (buf : List ℕ) (n k : ℕ) {x : Turned} → x ≡ chunkTaken t buf n → x .turn ≡ More k → k ≤ 1024
+pub more-short : (t : Tables) (buf : List ℕ) (n k : ℕ) {x : Turned} → x ≡ chunkTaken t buf n → x .turn ≡ More k → k ≤ carriedMost
 more-short t buf n k e q = subst Short (sym (ap (λ (u : Turned). u .turn) e) ∙ q) (chunk-short t buf n)

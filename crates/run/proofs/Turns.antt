@@ -17,7 +17,7 @@ use Rattle.tables.specs.Range.{tableAnswer}
 use Rattle.judge.specs.declared.feed.Fed.{Fed}
 use Rattle.judge.specs.Feed.{Tables, tables, After, fedLine, judgedLines, AfterChunk, chunked, fedChunk}
 use Rattle.run.specs.declared.chunk.Turn.the-variants.{More, Stop}
-use Rattle.run.specs.Chunk.{Turned, turned, carriedOver, chunkTaken, lastTaken}
+use Rattle.run.specs.Chunk.{carriedMost, Turned, turned, carriedOver, chunkTaken, lastTaken}
 
 -- ---- the first n bytes of the buffer, or all where it has no n
 
@@ -51,17 +51,17 @@ module _ (t : Tables) (l : List ℕ) (u n : ℕ) (h : u + n ≤ length l) where
   abbrev stop : Tables → Turned
   stop v = record { turn = Stop; left = v; buffer = l }
 
-  pub left-long : {y : After} → 1024 < n → y ≡ fedLine t (take ((u + n) - u) (drop u l)) →
+  pub left-long : {y : After} → carriedMost < n → y ≡ fedLine t (take ((u + n) - u) (drop u l)) →
       record { turn = Stop; left = y .left; buffer = l } ≡ carriedOver t (take n (drop u l)) l
   unfolding carriedOver
   left-long k q =
       let s : (u + n) - u ≡ n = omega arith in
-      rw (lt-ltb 1024 (length (take n (drop u l))) (omega (arith, left-length))) (ap (λ (y : After). stop (y .left)) (rw s at q))
+      rw (lt-ltb carriedMost (length (take n (drop u l))) (omega (arith, left-length))) (ap (λ (y : After). stop (y .left)) (rw s at q))
 
   pub left-more : {m : List ℕ}
-      → n ≤ 1024 → m ≡ written l 0 (take n (drop u l)) → record { turn = More n; left = t; buffer = m } ≡ carriedOver t (take n (drop u l)) l
+      → n ≤ carriedMost → m ≡ written l 0 (take n (drop u l)) → record { turn = More n; left = t; buffer = m } ≡ carriedOver t (take n (drop u l)) l
   unfolding carriedOver
-  left-more k q = rw (le-ltb 1024 (length (take n (drop u l))) (omega (arith, left-length)), q, left-length)
+  left-more k q = rw (le-ltb carriedMost (length (take n (drop u l))) (omega (arith, left-length)), q, left-length)
 
 -- ---- what is left of a chunk
 

@@ -1,11 +1,12 @@
 -- A trace chunk by chunk: the whole lines are fed, and the unfinished one is carried over to the front of the buffer.
 use mathlib.Core.Bool.{cond}
 use mathlib.Core.List.{List, [], _∷_, _++_}
-use Prim.Native.Nat.{ℕ}
+use Prim.Native.Nat.{ℕ, _+_}
 use lib.Dec.{eqb, ltb}
 use lib.ListN.{length, take}
 use Rattle.text.specs.Put.{written}
 use Rattle.walk.specs.Lines.{restOf}
+use Rattle.line.specs.Reading.{lineMost}
 use Rattle.rules.specs.Lists.{ifZero}
 use Rattle.judge.specs.Feed.{Tables, tables, fedLine, fedChunk}
 use Rattle.run.specs.declared.chunk.Turn.{Turn}
@@ -20,11 +21,14 @@ pub record Turned : Type 0 where
 abbrev pub turned : Turn → List ℕ → List ℕ → List ℕ → List ℕ → Turned
 turned r names nums ticks buf = record { turn = r; left = tables names nums ticks; buffer = buf }
 
--- A rest of more than 1,024 bytes is longer than any line with the byte 13 of its end, so it is fed as it stands, which is refusal 1, and is not kept in
--- memory.
+-- the longest unfinished line that is kept: one that is read by its text, with the byte 13 of its end
+abbrev pub carriedMost : ℕ
+carriedMost = lineMost + 1
+
+-- A longer rest is fed as it stands, which is refusal 1, and is not kept in memory.
 unfoldable pub carriedOver : Tables → List ℕ → List ℕ → Turned
 carriedOver t rest buf =
-    cond (ltb 1024 (length rest)) (record { turn = Stop; left = fedLine t rest .left; buffer = buf })
+    cond (ltb carriedMost (length rest)) (record { turn = Stop; left = fedLine t rest .left; buffer = buf })
     (record { turn = More (length rest); left = t; buffer = written buf 0 rest })
 
 -- The first n bytes of the buffer are what was carried over and what was read. After a refusal reading stops: "Further lines get that verdict again."
@@ -49,7 +53,7 @@ readOn t rest [] = going t rest
 readOn t rest (r ∷ rs) =
     let fed = fedChunk t (rest ++ r) in
     ifZero (fed .fed .answer)
-    (cond (ltb 1024 (length (restOf (rest ++ r)))) (stopped (fedLine (fed .left) (restOf (rest ++ r)) .left)) (readOn (fed .left) (restOf (rest ++ r)) rs))
+    (cond (ltb carriedMost (length (restOf (rest ++ r)))) (stopped (fedLine (fed .left) (restOf (rest ++ r)) .left)) (readOn (fed .left) (restOf (rest ++ r)) rs))
     (stopped (fed .left))
 
 abbrev pub atInputEnd : Progress → Tables

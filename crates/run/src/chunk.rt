@@ -7,6 +7,10 @@ ghost use Rattle.judge.specs.Feed.{tables};
 ghost use Rattle.run.specs.Chunk.{turned, carriedOver, chunkTaken, lastTaken};
 use judge::feed::feed;
 use judge::feed::feed_chunk;
+use line::reading::LINE_MOST;
+
+// the longest unfinished line that is kept, as specs/Chunk.antt has it
+const CARRIED_MOST: usize = LINE_MOST + 1;
 
 // Whether to read on, with how many bytes carried over.
 pub enum Turn {
@@ -39,7 +43,7 @@ fn carry_over(
     ensures { λ r. ⌜ turned r (now (names .exit)) (now (nums .exit)) (now (ticks .exit)) (now (buf .exit))
         ≡ carriedOver (tables (now (names .entry)) (now (nums .entry)) (now (ticks .entry))) (take left (drop used (now (buf .entry)))) (now (buf .entry)) ⌝ }
 {
-    if 1024 < left {
+    if CARRIED_MOST < left {
         let end = used + left;
         feed(names, nums, ticks, &buf[used..end]);
         return Turn::Stop;

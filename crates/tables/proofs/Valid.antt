@@ -10,7 +10,7 @@ use Rattle.text.specs.Name.{isName}
 use Rattle.text.proofs.Names.{name-length}
 use Rattle.line.specs.Event.{maxTime}
 use Rattle.rules.specs.Words.{core, semaphore}
-use Rattle.rules.specs.Limits.{coreLimit, lastRefusal}
+use Rattle.rules.specs.Limits.{verdictLineLimit, lineLimit, coreLimit, lastRefusal}
 use Rattle.rules.specs.Chart.{isStateOf}
 use Rattle.rules.specs.Charts.{chartOf}
 use Rattle.rules.specs.History.{hasInstances}
@@ -45,8 +45,8 @@ pub record InstanceRow (nums : List ℕ) (j : ℕ) : Type 0 where
 pub record Valid (names nums ticks : List ℕ) : Type 0 where
   pub sizes : Sized names nums ticks
   pub verdict : verdictNumber nums ≤ lastRefusal
-  pub verdict-line : verdictLine nums ≤ 1000000001
-  pub lines : lineCount nums ≤ 1000000000
+  pub verdict-line : verdictLine nums ≤ verdictLineLimit
+  pub lines : lineCount nums ≤ lineLimit
   pub scale : scaleEntry nums ≤ 5
   pub creator : creatorEntry nums ≤ 1
   pub date : dateEntry nums ≤ 1
@@ -71,12 +71,12 @@ sizes-mean names nums ticks =
 line-level-mean : (nums : List ℕ)
     → Means (lineLevelOk nums)
     ((verdictNumber nums ≤ lastRefusal)
-    × ((verdictLine nums ≤ 1000000001) × ((lineCount nums ≤ 1000000000) × ((scaleEntry nums ≤ 5) × ((creatorEntry nums ≤ 1) × (dateEntry nums ≤ 1))))))
+    × ((verdictLine nums ≤ verdictLineLimit) × ((lineCount nums ≤ lineLimit) × ((scaleEntry nums ≤ 5) × ((creatorEntry nums ≤ 1) × (dateEntry nums ≤ 1))))))
 unfolding lineLevelOk
 line-level-mean nums =
     means-and (means-le (verdictNumber nums) lastRefusal)
-    (means-and (means-le (verdictLine nums) 1000000001)
-    (means-and (means-le (lineCount nums) 1000000000)
+    (means-and (means-le (verdictLine nums) verdictLineLimit)
+    (means-and (means-le (lineCount nums) lineLimit)
     (means-and (means-le (scaleEntry nums) 5) (means-and (means-le (creatorEntry nums) 1) (means-le (dateEntry nums) 1)))))
 
 pub counts-mean : (nums : List ℕ)

@@ -3,6 +3,7 @@
 use mathlib.Core.List.{List}
 use Prim.Native.Nat.{ℕ, _+_, _*_}
 use lib.ListN.{getD, set, take, drop}
+use Rattle.text.specs.Name.{nameMost}
 use Rattle.rules.specs.Limits.{nameLimit, instanceLimit}
 
 -- the three tables
@@ -43,7 +44,7 @@ abbrev pub instanceRows : ℕ
 instanceRows = instanceLimit
 
 abbrev pub nameRoom : ℕ
-nameRoom = 64
+nameRoom = nameMost
 
 -- ---- nums
 

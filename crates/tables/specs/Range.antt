@@ -7,8 +7,9 @@ use Prim.Native.Nat.{ℕ, zero, suc, _-_, _≤_}
 use lib.Dec.{eqb, leb, ltb}
 use lib.ListN.{length}
 use Rattle.text.specs.Name.{isName}
+use Rattle.line.specs.Event.{maxTime}
 use Rattle.rules.specs.Words.{core, semaphore}
-use Rattle.rules.specs.Limits.{coreLimit, lastRefusal}
+use Rattle.rules.specs.Limits.{verdictLineLimit, lineLimit, coreLimit, lastRefusal}
 use Rattle.rules.specs.Chart.{isStateOf}
 use Rattle.rules.specs.Charts.{isProcess, chartOf}
 use Rattle.rules.specs.History.{hasInstances}
@@ -21,8 +22,8 @@ use Rattle.tables.specs.Sized.{isSized}
 unfoldable pub lineLevelOk : List ℕ → Bool
 lineLevelOk nums =
     leb (verdictNumber nums) lastRefusal
-    && (leb (verdictLine nums) 1000000001
-    && (leb (lineCount nums) 1000000000 && (leb (scaleEntry nums) 5 && (leb (creatorEntry nums) 1 && leb (dateEntry nums) 1))))
+    && (leb (verdictLine nums) verdictLineLimit
+    && (leb (lineCount nums) lineLimit && (leb (scaleEntry nums) 5 && (leb (creatorEntry nums) 1 && leb (dateEntry nums) 1))))
 
 -- "tracked names (cores, T, I, R, SEM) | 256, of them 64 cores"; "process and runnable instances | 1,024"
 unfoldable pub countsOk : List ℕ → Bool
@@ -36,7 +37,7 @@ pub record Counted (nums : List ℕ) : Type 0 where
 
 -- "time | 72,057,594,037,927,935 (2^56 − 1)"; "a first time above the last"
 unfoldable pub timesOk : List ℕ → Bool
-timesOk ticks = leb (lastTime ticks) 72057594037927935 && leb (firstTime ticks) (lastTime ticks)
+timesOk ticks = leb (lastTime ticks) maxTime && leb (firstTime ticks) (lastTime ticks)
 
 -- an instance of the name in row p can hold a core: the name is there, and a process's ("one process instance at a time")
 unfoldable pub holderOk : List ℕ → ℕ → Bool

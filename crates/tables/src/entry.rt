@@ -2,13 +2,14 @@
 // entries", in columns: entry BASE + i.
 use rules::numbers::INSTANCE_LIMIT;
 use rules::numbers::NAME_LIMIT;
+use text::name::NAME_MOST;
 
 // how many rows a column has, by name and by instance, and how many bytes a name
 pub const NAME_ROWS: usize = NAME_LIMIT as usize;
 
 pub const INSTANCE_ROWS: usize = INSTANCE_LIMIT as usize;
 
-pub const NAME_ROOM: usize = 64;
+pub const NAME_ROOM: usize = NAME_MOST;
 
 // single entries of nums
 pub const VERDICT: usize = 0;

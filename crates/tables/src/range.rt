@@ -9,6 +9,7 @@ ghost use Rattle.tables.specs.Entry.{namesSize, numsSize, ticksSize, nam
 use crate::entry::*;
 use crate::state::of_semaphore;
 use crate::state::state_ok;
+use line::event::MAX_TIME;
 use rules::kind::is_process;
 use rules::numbers::*;
 use text::name::name;
@@ -32,8 +33,8 @@ fn line_level_ok(nums: &[u32]) -> bool
     ensures { λ r. ⌜ r ≡ lineLevelOk (now (nums .entry)) ⌝ }
 {
     (nums[VERDICT] <= LAST_REFUSAL)
-        & ((nums[VERDICT_LINE] <= 1000000001)
-            & ((nums[LINES] <= 1000000000)
+        & ((nums[VERDICT_LINE] <= VERDICT_LINE_LIMIT)
+            & ((nums[LINES] <= LINE_LIMIT)
                 & ((nums[SCALE] <= 5) & ((nums[CREATOR] <= 1) & (nums[DATE] <= 1)))))
 }
 
@@ -52,7 +53,7 @@ fn times_ok(ticks: &[u64]) -> bool
     requires { ⌜ length (now ticks) ≡ ticksSize ⌝ }
     ensures { λ r. ⌜ r ≡ timesOk (now (ticks .entry)) ⌝ }
 {
-    (ticks[LAST] <= 72057594037927935) & (ticks[FIRST] <= ticks[LAST])
+    (ticks[LAST] <= MAX_TIME) & (ticks[FIRST] <= ticks[LAST])
 }
 
 // Whether an instance of the name in row p can hold a core: the name is there, and a process's.

@@ -6,6 +6,7 @@ use native.Mathlib.Omega.{arith}
 use borrow.Author.Needs.{needs}
 use lib.ListN.{length, take}
 use Rattle.judge.specs.Feed.{tables}
+use Rattle.run.specs.Chunk.{carriedMost}
 use Rattle.input.specs.Reads.{bufferSize, ReadSoFar}
 use Rattle.input.proofs.Sizes.{buffer-sized}
 use Rattle.input.proofs.Grown.{more-size, stop-size, none-yet, broke-off, came-all, came-more, came-enough, came-broken, taken-read, taken-failed}
@@ -14,7 +15,7 @@ use Rattle.input.proofs.reads.read_to_end.Tie as tie
 
 abbrev Inv-loop : tie.InvT-loop
 Inv-loop names₀ nums₀ ticks₀ buf₀ have₀ total₀ names nums ticks buf have total =
-    (have ≤ 1024)
+    (have ≤ carriedMost)
     × (length buf ≡ length buf₀)
     × (length names ≡ length names₀)
     × (length nums ≡ length nums₀)

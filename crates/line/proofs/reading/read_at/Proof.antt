@@ -4,26 +4,26 @@ use mathlib.Core.Bool.{false, _||_}
 use lib.Dec.{ltb}
 use lib.ListN.{length}
 use borrow.Author.Tests.{lt-ltb, le-ltb}
-use Rattle.line.specs.Reading.{hasBreak, readLine}
+use Rattle.line.specs.Reading.{lineMost, hasBreak, readLine}
 use Rattle.line.proofs.reading.read_at.Statement.{statement}
 use Rattle.line.proofs.reading.read_at.Tie as tie
 
 is-line : (c : tie.Else2) →
     let short = c .before .before .before in
     let l = short .before .before .args .line .now in
-    (ltb 1023 (length l) || hasBreak l) ≡ false
-is-line c = rw (le-ltb 1023 _ (c .before .before .before .if1 .left), ← (c .before .broken .ensures), c .if2 .left)
+    (ltb lineMost (length l) || hasBreak l) ≡ false
+is-line c = rw (le-ltb lineMost _ (c .before .before .before .if1 .left), ← (c .before .broken .ensures), c .if2 .left)
 
 too-long : tie.Need-returns
 unfolding readLine
-too-long c = rw (lt-ltb 1023 _ (c .if1 .taken))
+too-long c = rw (lt-ltb lineMost _ (c .if1 .taken))
 
 plain-known : tie.Need-broken-requires
 plain-known c κs p = sym (c .all-plain .ensures) ∙ p
 
 breaks : tie.Need-returns-2
 unfolding readLine
-breaks c = rw (le-ltb 1023 _ (c .before .before .before .if1 .left), ← (c .before .broken .ensures), c .if2 .taken)
+breaks c = rw (le-ltb lineMost _ (c .before .before .before .if1 .left), ← (c .before .broken .ensures), c .if2 .taken)
 
 commas-known : tie.Need-read-event-requires
 commas-known c κs =
