@@ -1,6 +1,8 @@
 // The number of each of the 38 events, as specs/Code.antt has them.
 ghost use mathlib.Core.Path.{_≡_};
+ghost use Prim.Native.Nat.{_≤_};
 ghost use Rattle.words.specs.Action.{actionCode};
+ghost use Rattle.words.specs.Code.{assigned};
 use crate::action::Action;
 
 pub const TRIGGER: u32 = 0;
@@ -79,6 +81,30 @@ pub const USED: u32 = 36;
 
 pub const WAITING: u32 = 37;
 
+// The code of an event of SEM: theirs are the last.
+fn semaphore_code(action: Action) -> u32
+    requires { ⌜ assigned ≤ actionCode action ⌝ }
+    ensures { λ r. ⌜ r ≡ actionCode action ⌝ }
+{
+    match action {
+        Action::Assigned => ASSIGNED,
+        Action::Decrement => DECREMENT,
+        Action::Free => FREE,
+        Action::Full => FULL,
+        Action::Increment => INCREMENT,
+        Action::Lock => LOCK,
+        Action::LockUsed => LOCK_USED,
+        Action::Overfull => OVERFULL,
+        Action::Queued => QUEUED,
+        Action::Released => RELEASED,
+        Action::Requestsemaphore => REQUESTSEMAPHORE,
+        Action::Unlock => UNLOCK,
+        Action::UnlockFull => UNLOCK_FULL,
+        Action::Used => USED,
+        _ => WAITING,
+    }
+}
+
 // The code of an event: its place among the 38, in the order of 000's sections.
 pub fn action_code(action: Action) -> u32
     ensures { λ r. ⌜ r ≡ actionCode action ⌝ }
@@ -107,20 +133,6 @@ pub fn action_code(action: Action) -> u32
         Action::WaitEvent => WAIT_EVENT,
         Action::Read => READ,
         Action::Write => WRITE,
-        Action::Assigned => ASSIGNED,
-        Action::Decrement => DECREMENT,
-        Action::Free => FREE,
-        Action::Full => FULL,
-        Action::Increment => INCREMENT,
-        Action::Lock => LOCK,
-        Action::LockUsed => LOCK_USED,
-        Action::Overfull => OVERFULL,
-        Action::Queued => QUEUED,
-        Action::Released => RELEASED,
-        Action::Requestsemaphore => REQUESTSEMAPHORE,
-        Action::Unlock => UNLOCK,
-        Action::UnlockFull => UNLOCK_FULL,
-        Action::Used => USED,
-        Action::Waiting => WAITING,
+        _ => semaphore_code(action),
     }
 }

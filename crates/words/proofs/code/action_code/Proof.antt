@@ -1,8 +1,14 @@
--- `words::code::action_code` meets its contract: each arm gives its code, by the one fact that the match told of it, 38 times.
+-- `words::code::action_code` meets its contract: each arm gives its code, by the one fact that the match told of it; in the last the codes are those of SEM.
+use mathlib.Core.Path.{refl}
 use borrow.Author.Needs.{needs}
 use Rattle.words.specs.Action.{actionCode}
+use Rattle.words.specs.Code.{assigned}
+use Rattle.words.proofs.Tags.{tag-code, codesFrom, at-least}
 use Rattle.words.proofs.code.action_code.Statement.{statement}
 use Rattle.words.proofs.code.action_code.Tie as tie
+
+of-semaphore : tie.Need-semaphore-code-requires
+of-semaphore c κs = at-least assigned (codesFrom assigned 15) refl (c .match .keys24) (tag-code (c .before .args .action))
 
 pub action-code-spec : {M : Type 1} → statement M
 unfolding actionCode
@@ -32,21 +38,7 @@ action-code-spec =
     (λ c. search needs)
     (λ c. search needs)
     (λ c. search needs)
-    (λ c. search needs)
-    (λ c. search needs)
-    (λ c. search needs)
-    (λ c. search needs)
-    (λ c. search needs)
-    (λ c. search needs)
-    (λ c. search needs)
-    (λ c. search needs)
-    (λ c. search needs)
-    (λ c. search needs)
-    (λ c. search needs)
-    (λ c. search needs)
-    (λ c. search needs)
-    (λ c. search needs)
-    (λ c. search needs)
+    of-semaphore
     (λ c. rw (c .enum-told .given .1))
     (λ c. rw (c .enum-told2 .given .1))
     (λ c. rw (c .enum-told3 .given .1))
@@ -70,18 +62,4 @@ action-code-spec =
     (λ c. rw (c .enum-told21 .given .1))
     (λ c. rw (c .enum-told22 .given .1))
     (λ c. rw (c .enum-told23 .given .1))
-    (λ c. rw (c .enum-told24 .given .1))
-    (λ c. rw (c .enum-told25 .given .1))
-    (λ c. rw (c .enum-told26 .given .1))
-    (λ c. rw (c .enum-told27 .given .1))
-    (λ c. rw (c .enum-told28 .given .1))
-    (λ c. rw (c .enum-told29 .given .1))
-    (λ c. rw (c .enum-told30 .given .1))
-    (λ c. rw (c .enum-told31 .given .1))
-    (λ c. rw (c .enum-told32 .given .1))
-    (λ c. rw (c .enum-told33 .given .1))
-    (λ c. rw (c .enum-told34 .given .1))
-    (λ c. rw (c .enum-told35 .given .1))
-    (λ c. rw (c .enum-told36 .given .1))
-    (λ c. rw (c .enum-told37 .given .1))
-    (λ c. rw (c .enum-told38 .given .1)))
+    (λ c. search needs))
