@@ -12,7 +12,7 @@ use Rattle.text.specs.Bytes.{sameBytes}
 use Rattle.bill.specs.Rows.{Row, Sheet}
 use Rattle.rules.specs.Words.{task, interrupt, runnable, semaphore}
 use Rattle.rules.specs.Words.{activate, start, preempt, resume, wait, release, terminate, poll, run, park, poll-parking, release-parking, mtalimitexceeded, suspend}
-use Rattle.rules.specs.Words.{requestsemaphore, queued, assigned, waiting, released, increment, decrement, free, lock, full, overfull, unlock-full, used}
+use Rattle.rules.specs.Words.{requestsemaphore, queued, assigned, waiting, released, increment, decrement, free, unlock, lock, lock-used, full, overfull, unlock-full, used}
 use Rattle.rules.specs.Charts.{chartOf, processChart, runnableChart, semaphoreChart, isProcess}
 use Rattle.rules.specs.Event.{Event}
 use Rattle.rules.specs.Core.{takes, gives, keeps, onCore}
@@ -66,6 +66,28 @@ listing-2-13 =
     ∷ sem 462154 (bytes "Process1") (bytes "Sem1") decrement 1
     ∷ sem 462154 (bytes "Sem1") (bytes "Sem1") full 1
     ∷ sem 462154 (bytes "Process2") (bytes "Sem1") assigned 1
+    ∷ []
+
+-- document 02, No. 1: "overfull at the second waiter again, and again when one user leaves while others still wait"
+abbrev pub crane : List Event
+crane =
+    sem 0 (bytes "Bus") (bytes "Bus") free 0
+    ∷ sem 10 (bytes "Hoist") (bytes "Bus") increment 1
+    ∷ sem 10 (bytes "Bus") (bytes "Bus") lock 1
+    ∷ sem 20 (bytes "Slew") (bytes "Bus") increment 2
+    ∷ sem 20 (bytes "Bus") (bytes "Bus") overfull 2
+    ∷ sem 20 (bytes "Slew") (bytes "Bus") waiting 2
+    ∷ sem 30 (bytes "Trolley") (bytes "Bus") increment 3
+    ∷ sem 30 (bytes "Bus") (bytes "Bus") overfull 3
+    ∷ sem 30 (bytes "Trolley") (bytes "Bus") waiting 3
+    ∷ sem 40 (bytes "Hoist") (bytes "Bus") decrement 2
+    ∷ sem 40 (bytes "Bus") (bytes "Bus") overfull 2
+    ∷ sem 40 (bytes "Slew") (bytes "Bus") assigned 2
+    ∷ sem 50 (bytes "Slew") (bytes "Bus") decrement 1
+    ∷ sem 50 (bytes "Bus") (bytes "Bus") full 1
+    ∷ sem 50 (bytes "Trolley") (bytes "Bus") assigned 1
+    ∷ sem 60 (bytes "Trolley") (bytes "Bus") decrement 0
+    ∷ sem 60 (bytes "Bus") (bytes "Bus") unlock 0
     ∷ []
 
 -- one line after another of the same source: Core_1 and Core_2 with Task_A and Task_B, a stimulus with them, a semaphore
@@ -125,6 +147,13 @@ computed =
     ∷ says (A 0 0 poll ∷ A 0 0 park ∷ A 0 0 poll-parking ∷ A 0 0 run ∷ A 0 0 wait ∷ S 0 0 release ∷ A 0 0 resume ∷ A 0 0 terminate ∷ []) 0 0
     ∷ says (line runnable 0 (bytes "P") 0 (bytes "r") 0 start ∷ line runnable 0 (bytes "P") 0 (bytes "r") 0 suspend ∷ line runnable 0 (bytes "P") 0 (bytes "r") 0 terminate ∷ []) 11 3
     ∷ says (Q queued 1 ∷ Q full 1 ∷ Q unlock-full 1 ∷ Q used 1 ∷ Q used 1 ∷ Q full 1 ∷ []) 11 6
+    -- overfull comes from FULL and from OVERFULL, first of all too, and from no other state; it leads to OVERFULL
+    ∷ shows crane 60 [] []
+    ∷ says (Q full 2 ∷ Q overfull 2 ∷ Q full 2 ∷ []) 0 0
+    ∷ says (Q overfull 2 ∷ Q overfull 2 ∷ Q full 2 ∷ []) 0 0
+    ∷ says (Q overfull 2 ∷ Q overfull 2 ∷ Q lock-used 2 ∷ []) 11 3
+    ∷ says (Q used 2 ∷ Q overfull 2 ∷ []) 11 2
+    ∷ says (Q free 0 ∷ Q increment 1 ∷ Q increment 2 ∷ Q overfull 2 ∷ []) 11 4
     -- 12: activate and mtalimitexceeded are one series, a process's start is not in it, 11 is lower, and nothing wraps
     ∷ says (S 0 3 activate ∷ S 0 9 mtalimitexceeded ∷ []) 12 2
     ∷ says (A 0 3 start ∷ S 0 9 activate ∷ S 0 10 mtalimitexceeded ∷ []) 0 0
@@ -153,6 +182,8 @@ computed =
     ∷ says (Q lock 2 ∷ []) 14 1
     ∷ says (Q used 0 ∷ []) 14 1
     ∷ says (Q overfull 1 ∷ []) 14 1
+    ∷ says (Q overfull 2 ∷ Q overfull 3 ∷ []) 14 2
+    ∷ says (Q overfull 2 ∷ Q decrement 1 ∷ Q overfull 1 ∷ []) 14 3
     ∷ []
 
 -- 10: "256 names taken, a 257th: 10"

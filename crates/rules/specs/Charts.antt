@@ -40,7 +40,7 @@ runnableChart =
     ∷ step terminate RUNNING TERMINATED
     ∷ []
 
--- "Semaphore: free USED→FREE; .. used FREE or USED→USED."
+-- "Semaphore: free USED→FREE; .. used FREE or USED→USED." with the row that document 02 gives it (No. 1): "overfull FULL or OVERFULL→OVERFULL"
 unfoldable pub semaphoreChart : List Step
 semaphoreChart =
     step free USED FREE
@@ -48,7 +48,7 @@ semaphoreChart =
     ∷ step lock FREE FULL
     ∷ step lock-used USED FULL
     ∷ step full OVERFULL FULL
-    ∷ step overfull FULL OVERFULL
+    ∷ record { word = overfull; first = FULL; others = OVERFULL ∷ []; enters = OVERFULL }
     ∷ step unlock-full FULL USED
     ∷ record { word = used; first = FREE; others = USED ∷ []; enters = USED }
     ∷ []
