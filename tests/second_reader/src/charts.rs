@@ -44,14 +44,17 @@ const RUNNABLE_CHART: [Step; 4] = [
 
 /// "Semaphore: free USED→FREE; unlock FULL→FREE; lock FREE→FULL; lock_used
 /// USED→FULL; full OVERFULL→FULL; overfull FULL→OVERFULL; unlock_full
-/// FULL→USED; used FREE or USED→USED." The last one is two arrows.
-const SEMAPHORE_CHART: [Step; 9] = [
+/// FULL→USED; used FREE or USED→USED." In document 02, No. 1: "The chart row in
+/// 01 becomes: overfull FULL or OVERFULL→OVERFULL." Where a row leaves two
+/// states it is two arrows.
+const SEMAPHORE_CHART: [Step; 10] = [
     step("free", "USED", "FREE"),
     step("unlock", "FULL", "FREE"),
     step("lock", "FREE", "FULL"),
     step("lock_used", "USED", "FULL"),
     step("full", "OVERFULL", "FULL"),
     step("overfull", "FULL", "OVERFULL"),
+    step("overfull", "OVERFULL", "OVERFULL"),
     step("unlock_full", "FULL", "USED"),
     step("used", "FREE", "USED"),
     step("used", "USED", "USED"),
@@ -95,6 +98,16 @@ mod tests {
         assert_eq!(next_state(semaphore, Some("FULL"), "used"), None);
         assert_eq!(next_state(semaphore, Some("OVERFULL"), "used"), None);
         assert_eq!(next_state(semaphore, None, "used"), Some("USED"));
+    }
+
+    #[test]
+    fn overfull_leaves_two_states() {
+        let semaphore = TargetType::Semaphore;
+        assert_eq!(next_state(semaphore, Some("FULL"), "overfull"), Some("OVERFULL"));
+        assert_eq!(next_state(semaphore, Some("OVERFULL"), "overfull"), Some("OVERFULL"));
+        assert_eq!(next_state(semaphore, Some("USED"), "overfull"), None);
+        assert_eq!(next_state(semaphore, Some("FREE"), "overfull"), None);
+        assert_eq!(next_state(semaphore, None, "overfull"), Some("OVERFULL"));
     }
 
     #[test]

@@ -9,6 +9,7 @@ use crate::parameters::{
 };
 use crate::refusals::lowest_refusal;
 use crate::sheet::{sheet_of, span_of, Sheet};
+use crate::ways::{note_ways, Gone};
 
 /// The answer about a trace, if it ended now.
 #[derive(Clone, Debug, PartialEq, Eq)]
@@ -25,15 +26,22 @@ pub struct Judge {
     creation_date_seen: bool,
     history: History,
     refused: Option<(Refusal, u64)>,
+    /// For the comparison alone; no answer depends on it.
+    pub ways: Gone,
 }
 
 /// Judges a whole trace from a fresh start.
 pub fn judge_trace(trace: &[u8]) -> Verdict {
+    judge_lines(trace).verdict_if_ended_now()
+}
+
+/// A judge that has been fed every line of the trace.
+pub fn judge_lines(trace: &[u8]) -> Judge {
     let mut judge = Judge::default();
     for line in cut_into_lines(trace) {
         judge.take_line(line);
     }
-    judge.verdict_if_ended_now()
+    judge
 }
 
 impl Judge {
@@ -114,6 +122,7 @@ impl Judge {
         if let Some(number) = lowest_refusal(&self.history, &line) {
             return Err(number);
         }
+        note_ways(&mut self.ways, &self.history, &line);
         self.history.take(&line);
         Ok(())
     }

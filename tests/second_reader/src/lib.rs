@@ -28,3 +28,4 @@ pub mod cases;
 pub mod container;
 pub mod making;
 pub mod sample;
+pub mod ways;

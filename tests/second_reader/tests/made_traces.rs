@@ -4,6 +4,7 @@ use std::collections::BTreeMap;
 
 use second_reader::making::make_trace;
 use second_reader::printing::{number_of, run_on};
+use second_reader::ways::{ways_of, WAYS};
 
 const TRACES: u64 = 4_800;
 
@@ -29,6 +30,14 @@ fn every_number_comes_often() {
     }
     assert_eq!(counts.keys().copied().collect::<Vec<u8>>(), (0..=14).collect::<Vec<u8>>());
     assert!(counts.values().all(|&count| count >= TRACES / 67), "{counts:?}");
+}
+
+#[test]
+fn every_way_comes_often() {
+    for (place, (way, _)) in WAYS.iter().enumerate() {
+        let gone = (0..TRACES).filter(|&index| ways_of(&make_trace(3, index).bytes)[place]).count() as u64;
+        assert!(gone >= TRACES / 67, "{way}: {gone} of {TRACES}");
+    }
 }
 
 #[test]

@@ -13,8 +13,9 @@ use std::process::{Child, Command, ExitCode, Output, Stdio};
 use second_reader::making::make_trace;
 use second_reader::making::random::Random;
 use second_reader::printing::{number_of, run_on, Run};
+use second_reader::ways::{ways_of, WAYS};
 
-/// One number of 67 traces: 300 of 20,000.
+/// Each number and each way comes once in 67 traces: 300 times in 20,000.
 const SHARE: u64 = 67;
 
 struct Task {
@@ -29,6 +30,8 @@ struct Task {
 struct Findings {
     /// How often the second reader answered each number.
     numbers: [u64; 15],
+    /// How many traces went each way.
+    ways: [u64; WAYS.len()],
     disagreements: u64,
 }
 
@@ -67,6 +70,9 @@ fn compare(task: &Task) -> Result<Findings, String> {
         let wanted = run_on(&trace);
         if let Some(count) = number_of(&wanted.printed).and_then(|n| findings.numbers.get_mut(usize::from(n))) {
             *count += 1;
+        }
+        for (count, gone) in findings.ways.iter_mut().zip(ways_of(&trace)) {
+            *count += u64::from(gone);
         }
         let got = run_program(task, index, &trace)?;
         if got.stdout != wanted.printed.as_bytes() || got.status.code() != Some(i32::from(wanted.status)) {
@@ -158,14 +164,17 @@ fn shown(path: &Path) -> String {
     path.display().to_string()
 }
 
-/// Prints the figures; true if the two agree and each number came often enough.
+/// Prints the figures; true if the two agree and each number and each way came
+/// often enough.
 fn report(findings: &Findings, task: &Task) -> bool {
     let least = task.count / SHARE;
     let mut often_enough = true;
-    for (number, &count) in findings.numbers.iter().enumerate() {
+    let numbers = findings.numbers.iter().enumerate().map(|(number, count)| (format!("number {number:2}"), count));
+    let ways = WAYS.iter().zip(&findings.ways).map(|((way, _), count)| (way.to_string(), count));
+    for (what, &count) in numbers.chain(ways) {
         let rare = count < least;
         often_enough &= !rare;
-        println!("number {number:2}: {count:6} times{}", if rare { ", too rare" } else { "" });
+        println!("{what}: {count:6} times{}", if rare { ", too rare" } else { "" });
     }
     println!(
         "{} traces of seed {}, {} disagreements",

@@ -3,6 +3,7 @@
 
 mod listings;
 mod readings;
+mod requests;
 mod scope;
 
 /// The two lines that document 01's examples begin with.
@@ -16,12 +17,13 @@ pub struct Case {
     pub printed: String,
 }
 
-/// Every case: the examples of document 01, the listings of document 000, and
-/// the settled readings.
+/// Every case: the examples of document 01, the listings of document 000, the
+/// settled readings, and the requests of document 02 that have landed.
 pub fn all_cases() -> Vec<Case> {
     let mut cases = scope::cases();
     cases.extend(listings::cases());
     cases.extend(readings::cases());
+    cases.extend(requests::cases());
     cases
 }
 

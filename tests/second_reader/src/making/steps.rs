@@ -47,7 +47,7 @@ pub fn semaphore_steps(state: &str) -> Vec<Step> {
         "FREE" => vec![("lock", "FULL"), ("used", "USED")],
         "USED" => vec![("free", "FREE"), ("lock_used", "FULL"), ("used", "USED")],
         "FULL" => vec![("unlock", "FREE"), ("overfull", "OVERFULL"), ("unlock_full", "USED")],
-        _ => vec![("full", "FULL")],
+        _ => vec![("full", "FULL"), ("overfull", "OVERFULL")],
     }
 }
 
