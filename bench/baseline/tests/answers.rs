@@ -1,5 +1,5 @@
-//! The fast reader's answers to the examples of document 01 and to the readings
-//! that were settled.
+//! The fast reader's answers to the examples of document 01, to the readings that
+//! were settled, and to document 02's requests that have landed.
 
 use baseline::reading::read_trace;
 
@@ -105,6 +105,10 @@ fn two_lines() {
         ("0,C,0,T,A,0,resume\n0,D,0,T,A,0,preempt", 13),
         ("0,S,0,SEM,A,0,queued,1\n0,A,0,SEM,A,0,full,1", 0),
         ("0,S,0,SEM,A,0,queued,1\n0,S,0,SEM,A,0,increment,1", 14),
+        ("0,A,0,SEM,A,0,full,2\n0,A,0,SEM,A,0,overfull,2", 0),
+        ("0,A,0,SEM,A,0,overfull,2\n0,A,0,SEM,A,0,overfull,2", 0),
+        ("0,A,0,SEM,A,0,overfull,2\n0,A,0,SEM,A,0,overfull,3", 14),
+        ("0,A,0,SEM,A,0,used,2\n0,A,0,SEM,A,0,overfull,2", 11),
         ("0,S,0,STI,S,0,trigger\n#creator late", 3),
     ] {
         let wanted = if number == 0 { (0, 0) } else { (number, 4) };

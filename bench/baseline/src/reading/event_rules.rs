@@ -1,5 +1,5 @@
 //! The events of each type, and for each one all that document 01 demands of
-//! its lines.
+//! its lines, with document 02's requests (No. 1: overfull).
 
 /// The five kinds of tracked names.
 #[derive(Clone, Copy, Debug, PartialEq, Eq)]
@@ -194,7 +194,7 @@ fn semaphore_states() -> Vec<Row> {
         ("SEM", "lock", step(FREE, FULL, 1, 1)),
         ("SEM", "lock_used", step(USED, FULL, 1, MANY)),
         ("SEM", "full", step(OVERFULL, FULL, 1, MANY)),
-        ("SEM", "overfull", step(FULL, OVERFULL, 2, MANY)),
+        ("SEM", "overfull", step(FULL | OVERFULL, OVERFULL, 2, MANY)),
         ("SEM", "unlock_full", step(FULL, USED, 1, MANY)),
         ("SEM", "used", step(FREE | USED, USED, 1, MANY)),
     ]
