@@ -90,35 +90,29 @@ pub fn next_state(target_type: TargetType, known: Option<State>, event: &str) ->
 mod tests {
     use super::*;
 
-    #[test]
-    fn used_leaves_two_states() {
-        let semaphore = TargetType::Semaphore;
-        assert_eq!(next_state(semaphore, Some("FREE"), "used"), Some("USED"));
-        assert_eq!(next_state(semaphore, Some("USED"), "used"), Some("USED"));
-        assert_eq!(next_state(semaphore, Some("FULL"), "used"), None);
-        assert_eq!(next_state(semaphore, Some("OVERFULL"), "used"), None);
-        assert_eq!(next_state(semaphore, None, "used"), Some("USED"));
+    /// Those of the states from which the event is allowed.
+    fn left_by(target_type: TargetType, states: &[State], event: &str) -> Vec<State> {
+        let leaves = |state: &State| next_state(target_type, Some(*state), event).is_some();
+        states.iter().copied().filter(leaves).collect()
     }
 
     #[test]
-    fn overfull_leaves_two_states() {
-        let semaphore = TargetType::Semaphore;
-        assert_eq!(next_state(semaphore, Some("FULL"), "overfull"), Some("OVERFULL"));
-        assert_eq!(next_state(semaphore, Some("OVERFULL"), "overfull"), Some("OVERFULL"));
-        assert_eq!(next_state(semaphore, Some("USED"), "overfull"), None);
-        assert_eq!(next_state(semaphore, Some("FREE"), "overfull"), None);
-        assert_eq!(next_state(semaphore, None, "overfull"), Some("OVERFULL"));
+    fn two_semaphore_events_leave_two_states() {
+        let (semaphore, states) = (TargetType::Semaphore, ["FREE", "USED", "FULL", "OVERFULL"]);
+        assert_eq!(left_by(semaphore, &states, "used"), ["FREE", "USED"]);
+        assert_eq!(left_by(semaphore, &states, "overfull"), ["FULL", "OVERFULL"]);
+        for (event, entered) in [("used", "USED"), ("overfull", "OVERFULL")] {
+            for known in left_by(semaphore, &states, event).into_iter().map(Some).chain([None]) {
+                assert_eq!(next_state(semaphore, known, event), Some(entered));
+            }
+        }
     }
 
     #[test]
     fn every_process_event_is_an_arrow_from_one_state() {
         let states = ["TERMINATED", "ACTIVE", "RUNNING", "READY", "WAITING", "POLLING", "PARKING"];
         for step in &PROCESS_CHART {
-            let from: Vec<&str> = states
-                .into_iter()
-                .filter(|state| next_state(TargetType::Task, Some(state), step.event).is_some())
-                .collect();
-            assert_eq!(from, [step.from]);
+            assert_eq!(left_by(TargetType::Task, &states, step.event), [step.from]);
         }
     }
 

@@ -9,7 +9,7 @@ use crate::parameters::{
 };
 use crate::refusals::lowest_refusal;
 use crate::sheet::{sheet_of, span_of, Sheet};
-use crate::ways::{note_ways, Gone};
+use crate::ways::Ways;
 
 /// The answer about a trace, if it ended now.
 #[derive(Clone, Debug, PartialEq, Eq)]
@@ -27,7 +27,7 @@ pub struct Judge {
     history: History,
     refused: Option<(Refusal, u64)>,
     /// For the comparison alone; no answer depends on it.
-    pub ways: Gone,
+    pub ways: Ways,
 }
 
 /// Judges a whole trace from a fresh start.
@@ -122,7 +122,7 @@ impl Judge {
         if let Some(number) = lowest_refusal(&self.history, &line) {
             return Err(number);
         }
-        note_ways(&mut self.ways, &self.history, &line);
+        self.ways.note(&self.history, &line);
         self.history.take(&line);
         Ok(())
     }

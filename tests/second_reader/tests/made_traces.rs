@@ -34,7 +34,7 @@ fn every_number_comes_often() {
 
 #[test]
 fn every_way_comes_often() {
-    for (place, (way, _)) in WAYS.iter().enumerate() {
+    for (place, way) in WAYS.iter().enumerate() {
         let gone = (0..TRACES).filter(|&index| ways_of(&make_trace(3, index).bytes)[place]).count() as u64;
         assert!(gone >= TRACES / 67, "{way}: {gone} of {TRACES}");
     }

@@ -170,7 +170,7 @@ fn report(findings: &Findings, task: &Task) -> bool {
     let least = task.count / SHARE;
     let mut often_enough = true;
     let numbers = findings.numbers.iter().enumerate().map(|(number, count)| (format!("number {number:2}"), count));
-    let ways = WAYS.iter().zip(&findings.ways).map(|((way, _), count)| (way.to_string(), count));
+    let ways = WAYS.iter().zip(&findings.ways).map(|(way, count)| (way.to_string(), count));
     for (what, &count) in numbers.chain(ways) {
         let rare = count < least;
         often_enough &= !rare;

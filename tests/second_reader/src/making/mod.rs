@@ -12,6 +12,7 @@ mod filling;
 mod full_tables;
 mod names;
 mod prelude;
+mod queues;
 pub mod random;
 mod steps;
 mod story;
@@ -49,7 +50,8 @@ pub fn make_trace(seed: u64, index: u64) -> Made {
     let random = &mut Random::new(seed, index);
     match index % TURNS {
         number @ 1..=14 => damaged(random, number as u8),
-        15..=18 | 0 => Made::aimed(0, valid(random)),
+        15..=17 | 0 => Made::aimed(0, valid(random)),
+        18 => queues::make(random),
         19 => at_limits::make(random),
         20 => full_tables::make(random),
         21 => boundaries::make(random),
