@@ -1,21 +1,16 @@
--- What single numbers of the tables say: a row that is named, a row that is added, the least count of an event word.
+-- What single numbers of the tables say: a row that is named, the least count of an event word.
 use mathlib.Core.Path.{_≡_, refl, sym}
-use mathlib.Core.Bool.{Bool, true, false, not, cond, _||_}
+use mathlib.Core.Bool.{Bool, true, false, cond, _||_}
 use mathlib.Core.List.{[], _∷_}
-use Prim.Native.Nat.{ℕ, _+_, _-_, _≤_, _<_}
+use Prim.Native.Nat.{ℕ, _-_, _≤_, _<_}
 use native.Mathlib.Omega.{arith}
 use lib.Dec.{eqb, leb, leb·zero}
 use borrow.Author.Tests.{eqb-true, eqb-false, eq-eqb, ne-eqb}
-use Rattle.rules.specs.Core.{no-core}
 use Rattle.rules.specs.Lists.{member}
 use Rattle.rules.specs.Words.{increment, lock-used, full, overfull, unlock-full, used}
 use Rattle.rules.specs.Refusals.{countAllowed}
 use Rattle.rules.specs.Words.{free, unlock, lock}
-use Rattle.tables.specs.declared.find.Found.{Found}
-use Rattle.tables.specs.declared.find.Found.the-variants.{At, Nothing}
 use Rattle.tables.specs.Entry.{heldFrom, heldBy}
-use Rattle.decide.specs.declared.look.LookedUp.{LookedUp}
-use Rattle.decide.specs.Known.{rowsAdded, newCore}
 use Rattle.decide.specs.PlanCode.{leastCount}
 
 -- a core's state is 2 more than the row of the process whose instance holds it
@@ -28,15 +23,6 @@ row-named m j h = by-test (eqb (m - heldFrom) j) refl
 
 pub row-unnamed : (m j : ℕ) → m < heldFrom → false ≡ eqb m (heldBy j)
 row-unnamed m j h = sym (ne-eqb m (heldBy j) (λ q. omega arith))
-
-pub one-at-most : {r : ℕ} (b : Bool) (f : Found) → r ≡ rowsAdded b f → r ≤ 1
-one-at-most false f e = omega arith
-one-at-most true (At i) e = omega arith
-one-at-most true Nothing e = omega arith
-
--- so at most one row for the line's core
-pub one-core : {r : ℕ} (s : LookedUp) → r ≡ newCore s → r ≤ 1
-one-core s e = one-at-most (not (eqb (s .class) no-core)) (s .source) e
 
 -- but for the three words that fix the count
 pub least-fits : (a n : ℕ) → eqb a free ≡ false → eqb a unlock ≡ false → eqb a lock ≡ false → leb (leastCount a) n ≡ countAllowed a n

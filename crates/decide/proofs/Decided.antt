@@ -11,10 +11,10 @@ use Rattle.rules.specs.Lists.{ifZero}
 use Rattle.rules.specs.Event.{Event}
 use Rattle.rules.specs.Refusals.{Known, eventTests, answerTo}
 use Rattle.tables.specs.Sized.{Sized, isSized}
-use Rattle.tables.proofs.Valid.{sizes-mean}
-use Rattle.decide.specs.declared.look.LookedUp.{LookedUp}
+use Rattle.tables.proofs.Sizes.{sizes-mean}
+use Rattle.lookup.specs.declared.look.LookedUp.{LookedUp}
+use Rattle.lookup.specs.LookedUp.{lookedUp}
 use Rattle.decide.specs.declared.plan.Plan.the-variants.{Refuse, Take}
-use Rattle.decide.specs.LookedUp.{lookedUp}
 use Rattle.decide.specs.Known.{knownBy}
 use Rattle.decide.specs.Decide.{planAnswer, enters, planBy, planOf, decided}
 

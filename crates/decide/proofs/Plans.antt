@@ -15,7 +15,6 @@ use Rattle.rules.specs.History.{activates}
 use Rattle.rules.specs.Core.{held, takes, onCore, no-core, takes-core, coreClass}
 use Rattle.rules.specs.History.{hasInstances}
 use Rattle.rules.specs.Event.{Event, Instance, sameInstance, instanceOf}
-use Rattle.rules.specs.Rows.{opened, leadsTo, moveIf, moveBy}
 use Rattle.rules.specs.Refusals.{
   Known,
   less,
@@ -38,16 +37,17 @@ use Rattle.rules.specs.Refusals.{
   answerTo,
 }
 use Rattle.rules.proofs.Tests.{instance-refl}
-use Rattle.rules.proofs.CoreClasses.{class-on, class-takes}
 use Rattle.rules.proofs.Tests.{clash}
 use Rattle.rules.proofs.CoreWords.{on-process}
-use Rattle.tables.specs.declared.find.Found.{Found}
-use Rattle.tables.specs.declared.find.Found.the-variants.{At, Nothing}
+use Rattle.steps.specs.Rows.{opened, leadsTo, moveIf, moveBy}
+use Rattle.steps.proofs.CoreClasses.{class-on, class-takes}
 use Rattle.tables.specs.Entry.{idleCore, heldBy, startedEntry, lastTime}
-use Rattle.decide.specs.declared.look.LookedUp.{LookedUp}
+use Rattle.lookup.specs.declared.find.Found.{Found}
+use Rattle.lookup.specs.declared.find.Found.the-variants.{At, Nothing}
+use Rattle.lookup.specs.declared.look.LookedUp.{LookedUp}
+use Rattle.lookup.specs.LookedUp.{lookedUp}
 use Rattle.decide.specs.declared.plan.Plan.{Plan}
 use Rattle.decide.specs.declared.plan.Plan.the-variants.{Refuse, Take}
-use Rattle.decide.specs.LookedUp.{lookedUp}
 use Rattle.decide.specs.Known.{kindIn, standingIn, numberIn, numberedIn, stateIn, another, isHolder, coreIn, knownBy}
 use Rattle.decide.specs.Decide.{enters, planBy, planOf}
 use Rattle.decide.specs.PlanCode.{

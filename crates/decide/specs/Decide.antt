@@ -8,12 +8,12 @@ use Rattle.rules.specs.Chart.{stepFor}
 use Rattle.rules.specs.Charts.{chartOf}
 use Rattle.rules.specs.Event.{Event}
 use Rattle.rules.specs.Refusals.{answerTo}
-use Rattle.rules.specs.Rows.{leadsTo}
+use Rattle.steps.specs.Rows.{leadsTo}
 use Rattle.tables.specs.Sized.{isSized}
-use Rattle.decide.specs.declared.look.LookedUp.{LookedUp}
+use Rattle.lookup.specs.declared.look.LookedUp.{LookedUp}
+use Rattle.lookup.specs.LookedUp.{lookedUp}
 use Rattle.decide.specs.declared.plan.Plan.{Plan}
 use Rattle.decide.specs.declared.plan.Plan.the-variants.{Refuse, Take}
-use Rattle.decide.specs.LookedUp.{lookedUp}
 use Rattle.decide.specs.Known.{stateIn, knownBy}
 
 -- the number of document 01's table that a plan is: that of the refusal, and 0 for a line that is taken

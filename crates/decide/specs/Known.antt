@@ -1,19 +1,19 @@
 -- What the tables say of what the rules ask for: `Known` from the rows that were looked up.
-use mathlib.Core.Bool.{Bool, true, false, not, cond, _&&_}
+use mathlib.Core.Bool.{Bool, false, cond, _&&_}
 use mathlib.Core.Option.{Option, none, some}
 use mathlib.Core.List.{List}
 use Prim.Native.Nat.{ℕ, suc, _+_}
 use lib.Dec.{eqb, ltb}
 use Rattle.rules.specs.Words.{semaphore}
 use Rattle.rules.specs.Event.{Event, Instance, instanceOf}
-use Rattle.rules.specs.Core.{Core, unknown, idle, held, no-core}
-use Rattle.rules.specs.Rows.{opened}
-use Rattle.rules.specs.History.{hasInstances, isTracked}
+use Rattle.rules.specs.Core.{Core, unknown, idle, held}
 use Rattle.rules.specs.Refusals.{Known}
-use Rattle.tables.specs.declared.find.Found.{Found}
-use Rattle.tables.specs.declared.find.Found.the-variants.{At, Nothing}
+use Rattle.steps.specs.Rows.{opened}
 use Rattle.tables.specs.Entry.{Column, entryAt, kindColumn, standingColumn, numberColumn, numberedColumn, stateColumn, startedEntry, lastTime, nameCount, coreCount, instanceCount, idleCore, heldBy}
-use Rattle.decide.specs.declared.look.LookedUp.{LookedUp}
+use Rattle.lookup.specs.declared.find.Found.{Found}
+use Rattle.lookup.specs.declared.find.Found.the-variants.{At, Nothing}
+use Rattle.lookup.specs.declared.look.LookedUp.{LookedUp}
+use Rattle.lookup.specs.LookedUp.{newCore, newName, newInstance}
 
 -- an entry of a column, in the row found; 0 where there is none
 unfoldable pub entryOf : Column → List ℕ → Found → ℕ
@@ -36,21 +36,6 @@ numberedIn = entryOf numberedColumn
 -- the state of an event line's semaphore or instance
 unfoldable pub stateIn : List ℕ → LookedUp → ℕ → ℕ
 stateIn nums s k = cond (eqb k semaphore) (standingIn nums (s .target)) (entryOf stateColumn nums (s .instance))
-
--- 1 where a row is needed and there is none yet
-abbrev pub rowsAdded : Bool → Found → ℕ
-rowsAdded false f = 0
-rowsAdded true (At i) = 0
-rowsAdded true Nothing = 1
-
-abbrev pub newCore : LookedUp → ℕ
-newCore s = rowsAdded (not (eqb (s .class) no-core)) (s .source)
-
-abbrev pub newName : LookedUp → ℕ → ℕ
-newName s k = rowsAdded (isTracked k) (s .target)
-
-abbrev pub newInstance : LookedUp → ℕ → ℕ
-newInstance s k = rowsAdded (hasInstances k) (s .instance)
 
 abbrev pub numberKnown : List ℕ → Found → Option ℕ
 numberKnown nums f = cond (eqb (numberedIn nums f) 0) none (some (numberIn nums f))

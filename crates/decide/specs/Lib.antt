@@ -1,5 +1,4 @@
--- What becomes of an event line: what is looked up in the tables for it, and what is decided from that.
-pub mod LookedUp
+-- What becomes of an event line: what the rows that were looked up for it say, and what is decided from that.
 pub mod Known
 pub mod Decide
 pub mod PlanCode

@@ -11,16 +11,17 @@ use Rattle.rules.specs.Charts.{chartOf}
 use Rattle.rules.specs.Event.{Event}
 use Rattle.rules.specs.Limits.{nameLimit, coreLimit, instanceLimit}
 use Rattle.rules.specs.Core.{no-core, takes-core}
-use Rattle.rules.specs.Rows.{moveBy}
-use Rattle.rules.specs.declared.chart.Move.{Move}
-use Rattle.rules.specs.declared.chart.Move.the-variants.{To, Off}
 use Rattle.rules.specs.History.{isTracked, activates}
 use Rattle.rules.specs.Refusals.{countAllowed}
+use Rattle.steps.specs.Rows.{moveBy}
+use Rattle.steps.specs.declared.chart.Move.{Move}
+use Rattle.steps.specs.declared.chart.Move.the-variants.{To, Off}
 use Rattle.tables.specs.Entry.{startedEntry, lastTime, nameCount, coreCount, instanceCount, idleCore}
-use Rattle.decide.specs.declared.look.LookedUp.{LookedUp}
+use Rattle.lookup.specs.declared.look.LookedUp.{LookedUp}
+use Rattle.lookup.specs.LookedUp.{newCore, newName, newInstance}
 use Rattle.decide.specs.declared.plan.Plan.{Plan}
 use Rattle.decide.specs.declared.plan.Plan.the-variants.{Refuse, Take}
-use Rattle.decide.specs.Known.{kindIn, standingIn, numberIn, numberedIn, stateIn, newCore, newName, newInstance, isHolder}
+use Rattle.decide.specs.Known.{kindIn, standingIn, numberIn, numberedIn, stateIn, isHolder}
 
 -- ---- each refusal
 

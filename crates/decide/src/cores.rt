@@ -2,16 +2,16 @@
 ghost use mathlib.Core.Path.{_≡_};
 ghost use lib.Dec.{eqb};
 ghost use lib.ListN.{length};
+ghost use Rattle.tables.specs.Entry.{numsSize, heldBy};
 ghost use Rattle.decide.specs.PlanCode.{coreServes, coreBrokenIn};
 ghost use Rattle.decide.specs.Known.{isHolder};
-ghost use Rattle.tables.specs.Entry.{numsSize, heldBy};
 use crate::known::number_in;
 use crate::known::standing_in;
 use crate::known::state_in;
-use crate::look::LookedUp;
-use rules::numbers::*;
+use lookup::find::Found;
+use lookup::look::LookedUp;
+use steps::numbers::*;
 use tables::entry::*;
-use tables::find::Found;
 
 // Whether a core's state names the process in row p.
 fn names_row(standing: u32, p: usize) -> bool

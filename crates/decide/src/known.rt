@@ -4,12 +4,12 @@ ghost use mathlib.Core.Bool.{not};
 ghost use lib.Dec.{eqb};
 ghost use Prim.Native.Nat.{_+_, _≤_};
 ghost use lib.ListN.{length};
-ghost use Rattle.decide.specs.Known.{entryOf, kindIn, standingIn, numberIn, numberedIn, rowsAdded, stateIn};
 ghost use Rattle.tables.specs.Entry.{numsSize, column, stateColumn};
-use crate::look::LookedUp;
-use rules::numbers::SEMAPHORE;
+ghost use Rattle.decide.specs.Known.{entryOf, kindIn, standingIn, numberIn, numberedIn, stateIn};
+use lookup::find::Found;
+use lookup::look::LookedUp;
+use steps::numbers::SEMAPHORE;
 use tables::entry::*;
-use tables::find::Found;
 
 // An entry of the column that begins at base, in the row found; rows is how many the column has.
 fn entry(nums: &[u32], base: usize, rows: usize, f: Found) -> u32
@@ -60,19 +60,6 @@ pub(crate) fn state_in(nums: &[u32], s: LookedUp, kind: u32) -> u32
         return standing_in(nums, target);
     }
     instance_state(nums, instance)
-}
-
-// 1 where a row is needed and there is none yet.
-pub fn rows_added(needed: bool, f: Found) -> u64
-    ensures { λ r. ⌜ r ≡ rowsAdded needed f ⌝ }
-{
-    if !needed {
-        return 0;
-    }
-    match f {
-        Found::At(_) => 0,
-        Found::Nothing => 1,
-    }
 }
 
 // Whether the name in a row has a last number or count, and that number.

@@ -2,7 +2,6 @@
 // Nothing is stored.
 pub mod cores;
 pub mod known;
-pub mod look;
 pub mod names;
 pub mod numbers;
 pub mod plan;

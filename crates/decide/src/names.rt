@@ -1,15 +1,15 @@
 // The refusals 9 and 10 of an event line: its names and kinds, and the room for what it adds.
 ghost use mathlib.Core.Path.{_≡_};
 ghost use lib.ListN.{length};
-ghost use Rattle.decide.specs.PlanCode.{kindClash, sourceClashIn, targetClashIn, noRoomIn};
 ghost use Rattle.tables.specs.Entry.{numsSize};
+ghost use Rattle.decide.specs.PlanCode.{kindClash, sourceClashIn, targetClashIn, noRoomIn};
 use crate::known::kind_in;
-use crate::known::rows_added;
-use crate::look::LookedUp;
-use rules::kind::tracked;
-use rules::kind::with_instances;
-use rules::numbers::CORE;
-use rules::numbers::*;
+use lookup::look::LookedUp;
+use lookup::look::rows_added;
+use steps::kind::tracked;
+use steps::kind::with_instances;
+use steps::numbers::CORE;
+use steps::numbers::*;
 use tables::entry::*;
 use text::bytes::same;
 

@@ -2,13 +2,13 @@
 ghost use mathlib.Core.Path.{_≡_};
 ghost use lib.ListN.{length};
 ghost use Rattle.rules.specs.Refusals.{countAllowed};
-ghost use Rattle.decide.specs.PlanCode.{notNextIn, countFollowsIn, leastCount, countBrokenIn};
 ghost use Rattle.tables.specs.Entry.{numsSize};
+ghost use Rattle.decide.specs.PlanCode.{notNextIn, countFollowsIn, leastCount, countBrokenIn};
 use crate::known::number_in;
 use crate::known::numbered_in;
-use crate::look::LookedUp;
-use rules::kind::numbers_instance;
-use rules::numbers::SEMAPHORE;
+use lookup::look::LookedUp;
+use steps::kind::numbers_instance;
+use steps::numbers::SEMAPHORE;
 use words::code::*;
 
 // 12: whether the instance number is not the next.

@@ -2,24 +2,24 @@
 ghost use mathlib.Core.Path.{_≡_};
 ghost use lib.ListN.{length};
 ghost use Rattle.rules.specs.Lines.{eventFrom};
+ghost use Rattle.tables.specs.Entry.{numsSize, ticksSize};
 ghost use Rattle.decide.specs.Decide.{planOf, decided};
 ghost use Rattle.decide.specs.PlanCode.{timeFallsIn, stepsPlan};
-ghost use Rattle.tables.specs.Entry.{numsSize, ticksSize};
 use crate::cores::core_broken;
 use crate::known::state_in;
-use crate::look::LookedUp;
-use crate::look::look;
 use crate::names::no_room;
 use crate::names::source_clash;
 use crate::names::target_clash;
 use crate::numbers::count_broken;
 use crate::numbers::not_next;
 use line::event::Event;
-use rules::chart::Move;
-use rules::chart::chart_step;
-use rules::lines::kind_number;
+use lookup::look::LookedUp;
+use lookup::look::look;
+use steps::chart::Move;
+use steps::chart::chart_step;
+use steps::lines::kind_number;
 use tables::entry::*;
-use tables::range::sized;
+use tables::size::sized;
 use words::code::action_code;
 
 // What becomes of an event line: it is refused, or taken with what was looked up and the state that its semaphore or instance enters.

@@ -9,8 +9,8 @@ use lib.ListN.{length}
 use borrow.Author.Tests.{eq-eqb, eqb-true}
 use Rattle.tables.specs.Sized.{Sized, isSized}
 use Rattle.tables.proofs.Means.{Means, means-le, means-eq, means-and}
-use Rattle.tables.proofs.Valid.{sizes-mean}
-use Rattle.tables.proofs.Zeros.{fresh-answer}
+use Rattle.tables.proofs.Sizes.{sizes-mean}
+use Rattle.ranges.proofs.FreshTables.{fresh-answer}
 use Rattle.judge.specs.Feed.{Tables, freshTables}
 use Rattle.run.specs.Report.{textMost}
 use Rattle.input.specs.Reads.{bufferSize, inputRefusal}

@@ -1,6 +1,6 @@
 -- The text of what came in reads is at the front of the output, and it always fits.
 use mathlib.Core.Path.{_≡_, refl, sym, ap, subst, _∙_}
-use mathlib.Core.List.{List, []}
+use mathlib.Core.List.{List}
 use Prim.Native.Nat.{ℕ, _≤_}
 use native.Mathlib.Omega.{arith}
 use lib.ListN.{length}
@@ -10,11 +10,11 @@ use Rattle.text.proofs.Writes.{length-written}
 use Rattle.walk.specs.Lines.{linesOf}
 use Rattle.tables.specs.Sized.{Sized}
 use Rattle.tables.specs.Fresh.{Cleared, clearedOf}
-use Rattle.tables.proofs.Valid.{sizes-mean}
-use Rattle.judge.specs.Feed.{Tables, tables, freshTables}
+use Rattle.tables.proofs.Sizes.{sizes-mean}
 use Rattle.sheet.specs.declared.sheet.Printed.{Printed}
 use Rattle.sheet.specs.declared.sheet.Printed.the-variants.{Done, NotPrinted}
 use Rattle.sheet.specs.Sheet.{Sheeted, sheeted}
+use Rattle.judge.specs.Feed.{Tables, tables, freshTables}
 use Rattle.run.specs.Report.{reportWritten, textMost}
 use Rattle.run.proofs.Buffered.{front}
 use Rattle.promises.specs.Fed.{joined}

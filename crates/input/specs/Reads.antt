@@ -6,7 +6,7 @@ use mathlib.Core.Option.{Option, none, some}
 use Prim.Native.Nat.{ℕ, _+_, _≤_, _<_}
 use lib.Dec.{eqb}
 use lib.ListN.{length, take, getD}
-use Rattle.tables.specs.Range.{tableAnswer}
+use Rattle.ranges.specs.Range.{tableAnswer}
 use Rattle.judge.specs.Feed.{Tables}
 use Rattle.run.specs.Chunk.{carriedMost, Progress, going, stopped, readOn, atInputEnd}
 use Rattle.promises.specs.Fed.{joined}

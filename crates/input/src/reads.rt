@@ -6,10 +6,10 @@ ghost use Rattle.judge.specs.Feed.{tables};
 ghost use Rattle.run.specs.Chunk.{carriedMost};
 ghost use Rattle.input.specs.Reads.{bufferSize, OneFill, Stepped, inputRefusal, Taken};
 use libc::STDIN_FILENO;
+use ranges::range::table_answer;
 use run::chunk::Turn;
 use run::chunk::take_chunk;
 use run::chunk::take_last;
-use tables::range::table_answer;
 
 // What one read came to: how many bytes, never 0; the end of input; or an error.
 enum Got {

@@ -8,7 +8,7 @@ use run::report::TEXT_MOST;
 use run::report::report;
 use sheet::sheet::Printed;
 use tables::fresh::fresh;
-use tables::range::sized;
+use tables::size::sized;
 
 // How many bytes of the output the text takes, and how many were read; that a read failed; or a refusal of what was lent, 15, and nothing was
 // read and nothing changed.

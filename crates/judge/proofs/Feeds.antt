@@ -13,15 +13,15 @@ use Rattle.bill.specs.declared.verdict.Verdict.{Verdict}
 use Rattle.rules.specs.declared.place.Place.{Place}
 use Rattle.rules.specs.Event.{Event}
 use Rattle.rules.specs.Lines.{eventFrom}
-use Rattle.rules.specs.PlaceCode.{answerByReading}
 use Rattle.rules.proofs.Tests.{if-some}
+use Rattle.steps.specs.PlaceCode.{answerByReading}
 use Rattle.tables.specs.Entry.{verdictNumber}
 use Rattle.tables.specs.Sized.{Sized}
-use Rattle.tables.specs.Range.{tableAnswer}
-use Rattle.tables.proofs.Valid.{valid}
+use Rattle.ranges.specs.Range.{tableAnswer}
+use Rattle.ranges.proofs.Valid.{valid}
+use Rattle.lookup.specs.declared.look.LookedUp.{LookedUp}
 use Rattle.decide.specs.declared.plan.Plan.{Plan}
 use Rattle.decide.specs.declared.plan.Plan.the-variants.{Refuse, Take}
-use Rattle.decide.specs.declared.look.LookedUp.{LookedUp}
 use Rattle.decide.specs.Decide.{decided}
 use Rattle.decide.proofs.Decided.{decided-sized}
 use Rattle.store.specs.Store.{stored}

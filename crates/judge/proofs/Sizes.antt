@@ -13,10 +13,10 @@ use Rattle.line.specs.Reading.{readLine}
 use Rattle.bill.specs.Scale.{scaleNumber}
 use Rattle.rules.specs.Event.{Event}
 use Rattle.rules.specs.Lines.{eventFrom}
-use Rattle.rules.specs.PlaceCode.{answerByReading}
+use Rattle.steps.specs.PlaceCode.{answerByReading}
 use Rattle.tables.specs.Entry.{scaleIndex, creatorIndex, dateIndex, verdictNumber}
 use Rattle.tables.specs.Sized.{Sized}
-use Rattle.tables.proofs.Zeros.{fresh-valid}
+use Rattle.ranges.proofs.FreshTables.{fresh-valid}
 use Rattle.decide.specs.declared.plan.Plan.{Plan}
 use Rattle.decide.specs.declared.plan.Plan.the-variants.{Refuse, Take}
 use Rattle.decide.specs.Decide.{planOf}

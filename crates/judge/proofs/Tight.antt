@@ -14,11 +14,11 @@ use Rattle.walk.specs.Lines.{lineText, wholeLines, usedUp}
 use Rattle.line.specs.Parameter.{isVersion, isVersionLine, isComment, parameterReading}
 use Rattle.line.specs.Reading.{hasBreak, isEventLine, readLine}
 use Rattle.bill.specs.declared.verdict.Verdict.{Verdict}
-use Rattle.rules.specs.PlaceCode.{answerByReading}
+use Rattle.steps.specs.PlaceCode.{answerByReading}
 use Rattle.tables.specs.Entry.{lineCount}
 use Rattle.tables.specs.Sized.{isSized}
-use Rattle.tables.specs.Range.{tableAnswer}
-use Rattle.tables.proofs.Zeros.{fresh-answer}
+use Rattle.ranges.specs.Range.{tableAnswer}
+use Rattle.ranges.proofs.FreshTables.{fresh-answer}
 use Rattle.judge.specs.Feed.{Tables, tables, After, placeIn, counted, judgedInPlace, judgedLine, fedLine, judgedLines, AfterChunk, fedChunk}
 use Rattle.judge.specs.Feed.{verdictIn, verdictOf, freshTables}
 

@@ -13,7 +13,7 @@ use Rattle.bill.specs.declared.verdict.Verdict.{Verdict}
 use Rattle.tables.specs.Entry.{namesSize, numsSize, ticksSize}
 use Rattle.tables.specs.Sized.{Sized, isSized}
 use Rattle.tables.specs.Fresh.{Cleared, cleared, clearedOf}
-use Rattle.tables.proofs.Valid.{sizes-mean}
+use Rattle.tables.proofs.Sizes.{sizes-mean}
 use Rattle.judge.specs.Feed.{Tables, tables, After, judgedLine, judgedLines, verdict, verdictIn, freshTables, AfterTrace, traced, judgedTrace}
 use Rattle.judge.proofs.Sizes.{Alike, same, chain, left-alike, judgedLine-alike}
 

@@ -16,11 +16,11 @@ use Rattle.rules.specs.declared.place.Place.{Place}
 use Rattle.rules.specs.Event.{Event}
 use Rattle.rules.specs.Lines.{eventFrom}
 use Rattle.rules.specs.Lists.{ifZero}
-use Rattle.rules.specs.PlaceCode.{answerByReading}
+use Rattle.steps.specs.PlaceCode.{answerByReading}
 pub use Rattle.tables.specs.Entry.{Tables, tables}
 use Rattle.tables.specs.Entry.{verdictIndex, verdictLineIndex, linesIndex, scaleIndex, creatorIndex, dateIndex, namesSize, numsSize, ticksSize, verdictNumber, verdictLine, lineCount, scaleEntry, creatorEntry, dateEntry, startedEntry, firstTime, lastTime}
 use Rattle.tables.specs.Sized.{isSized}
-use Rattle.tables.specs.Range.{tableAnswer}
+use Rattle.ranges.specs.Range.{tableAnswer}
 use Rattle.decide.specs.declared.plan.Plan.{Plan}
 use Rattle.decide.specs.declared.plan.Plan.the-variants.{Refuse, Take}
 use Rattle.decide.specs.Decide.{planOf}

@@ -6,9 +6,9 @@ ghost use Rattle.judge.specs.Feed.{tables, after, fedLine, judgedLines, 
 use crate::at_end::verdict_in;
 use crate::one_line::line_in;
 use bill::verdict::Verdict;
+use ranges::range::table_answer;
 use tables::entry::*;
 use tables::fresh::fresh;
-use tables::range::table_answer;
 use walk::lines::Next;
 use walk::reader::line_from;
 

@@ -15,8 +15,8 @@ use line::event::Event;
 use line::read_split;
 use line::reading::Reading;
 use rules::place::Place;
-use rules::place::answer_in_place;
 use std::num::wrapping_add_u32;
+use steps::place::answer_in_place;
 use store::take::take;
 use tables::entry::*;
 

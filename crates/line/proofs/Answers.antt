@@ -22,13 +22,13 @@ use Rattle.words.specs.declared.scale.ScaleFound.{ScaleFound}
 use Rattle.words.specs.declared.scale.ScaleFound.the-variants.{ThisScale, NoScale}
 use Rattle.words.specs.Pair.{namedBy}
 use Rattle.fields.specs.Part.{partsOf, fieldOf}
-use Rattle.line.specs.declared.note.Note.{Note}
-use Rattle.line.specs.declared.note.Note.the-variants.{Means, Wrong}
+use Rattle.forms.specs.declared.note.Note.{Note}
+use Rattle.forms.specs.declared.note.Note.the-variants.{Means, Wrong}
+use Rattle.forms.specs.Note.{maxInstance, noteOf, isWrong}
+use Rattle.forms.specs.Rule.{ruleBroken}
 use Rattle.line.specs.declared.event.Event.{Event}
 use Rattle.line.specs.declared.reading.Reading.{Reading}
 use Rattle.line.specs.declared.reading.Reading.the-variants.{Version, Comment, Creator, CreationDate, Refused}
-use Rattle.line.specs.Note.{maxInstance, noteOf, isWrong}
-use Rattle.line.specs.Rule.{ruleBroken}
 use Rattle.line.specs.Parameter.{isVersion, isVersionLine, isComment, timeScale, isCreator, isCreationDate, scaleOr, otherReading, parameterReading}
 use Rattle.line.specs.Event.{maxTime, numbersAs, numbersOf, hasNames, eventOf, ruled, knownReading, pairReading, numbersReading, fieldsReading, eventReading}
 use Rattle.line.specs.Reading.{isEventLine, readLine, answerOf}

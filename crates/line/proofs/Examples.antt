@@ -19,12 +19,12 @@ use Rattle.words.specs.Kind.{kindWord, kindOf}
 use Rattle.words.specs.Action.{wordOf, actionCode, actionsOf, actionOf, among, isOf}
 use Rattle.words.specs.Pair.{namedBy}
 use Rattle.fields.specs.Part.{partsOf, fieldOf}
+use Rattle.forms.specs.Note.{noteOf}
+use Rattle.forms.specs.Rule.{isProcess, zeroSource, zeroTarget, isOwn, sourceBroken, targetBroken, ownBroken, presence, noteBroken, ruleBroken}
 use Rattle.line.specs.declared.event.Event.{Event}
 use Rattle.line.specs.declared.reading.Reading.{Reading}
 use Rattle.line.specs.declared.reading.Reading.the-variants.{Version, Comment, TimeScale, Creator, CreationDate, EventLine, Refused}
 use Rattle.line.specs.declared.writing.Written.the-variants.{Done}
-use Rattle.line.specs.Note.{noteOf}
-use Rattle.line.specs.Rule.{isProcess, zeroSource, zeroTarget, isOwn, sourceBroken, targetBroken, ownBroken, presence, noteBroken, ruleBroken}
 use Rattle.line.specs.Parameter.{isVersion, isVersionLine, parameterReading}
 use Rattle.line.specs.Event.{eventOf, numbersOf, hasNames, knownReading, fieldsReading, eventReading}
 use Rattle.line.specs.Reading.{hasBreak, isEventLine, readLine, answerOf}

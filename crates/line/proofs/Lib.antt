@@ -1,9 +1,6 @@
 -- The laws of a line, which the proofs of this crate and of the crates above it cite.
-pub mod Dates
-pub mod Notes
 pub mod Lines
 pub mod Plain
-pub mod Rules
 pub mod Events
 pub mod Texts
 pub mod Lowest

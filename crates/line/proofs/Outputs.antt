@@ -14,10 +14,10 @@ use Rattle.text.specs.Put.{written}
 use Rattle.text.proofs.Writes.{length-written, written-parts}
 use Rattle.words.specs.Named.{any}
 use Rattle.words.specs.Action.{isOf}
+use Rattle.forms.specs.Note.{noteOf, isWrong}
+use Rattle.forms.specs.Rule.{ruleBroken}
 use Rattle.line.specs.declared.event.Event.{Event}
 use Rattle.line.specs.declared.writing.Written.the-variants.{Done, NotWritten}
-use Rattle.line.specs.Note.{noteOf, isWrong}
-use Rattle.line.specs.Rule.{ruleBroken}
 use Rattle.line.specs.Answer.{test, lowest}
 use Rattle.line.specs.Writing.{textOf, hasSizes, hasInstances, recordRefusal, Wrote, wrote, writeText, writeLine, writtenAnswer, writerNumbers}
 

@@ -19,10 +19,10 @@ use Rattle.text.proofs.Writes.{put-fits, put-length}
 use Rattle.words.specs.Kind.{kindWord}
 use Rattle.words.specs.Action.{wordOf, isOf}
 use Rattle.words.proofs.Found.{kind-short, word-short}
+use Rattle.forms.specs.Note.{maxInstance, noteOf, isWrong}
+use Rattle.forms.specs.Rule.{ruleBroken}
 use Rattle.line.specs.declared.event.Event.{Event}
 use Rattle.line.specs.declared.writing.Written.the-variants.{Done, NotWritten}
-use Rattle.line.specs.Note.{maxInstance, noteOf, isWrong}
-use Rattle.line.specs.Rule.{ruleBroken}
 use Rattle.line.specs.Event.{maxTime}
 use Rattle.line.specs.Answer.{test, lowest}
 use Rattle.line.specs.Writing.{nameField, numberField, noteText, textOf, isEmpty, hasSizes, hasInstances, recordRefusal, wrote, writeText}

@@ -16,10 +16,10 @@ use Rattle.words.specs.declared.action.Action.the-variants.{Start}
 use Rattle.words.specs.Kind.{kindWord}
 use Rattle.words.specs.Action.{wordOf, actionCode, actionsOf, among, isOf}
 use Rattle.fields.specs.Part.{commaAt, commasOf}
+use Rattle.forms.specs.Note.{noteOf}
+use Rattle.forms.specs.Rule.{isProcess, zeroSource, zeroTarget, isOwn, sourceBroken, targetBroken, ownBroken, presence, noteBroken, ruleBroken}
 use Rattle.line.specs.declared.event.Event.{Event}
 use Rattle.line.specs.declared.writing.Written.the-variants.{Done}
-use Rattle.line.specs.Note.{noteOf}
-use Rattle.line.specs.Rule.{isProcess, zeroSource, zeroTarget, isOwn, sourceBroken, targetBroken, ownBroken, presence, noteBroken, ruleBroken}
 use Rattle.line.specs.Event.{eventOf}
 use Rattle.line.specs.Reading.{isEventLine, readLine, splitLine}
 use Rattle.line.specs.Writing.{Wrote, wrote, nameField, numberField, noteText, textOf, hasSizes, hasInstances, recordRefusal, writeLine}

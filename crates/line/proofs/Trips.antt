@@ -22,13 +22,13 @@ use Rattle.words.specs.Action.{wordOf, isOf}
 use Rattle.words.proofs.Found.{pair-back}
 use Rattle.fields.specs.Part.{partsOf, fieldOf}
 use Rattle.fields.proofs.Parts.{join-parts}
-use Rattle.line.specs.declared.note.Note.{Note}
-use Rattle.line.specs.declared.note.Note.the-variants.{Means, Wrong}
+use Rattle.forms.specs.declared.note.Note.{Note}
+use Rattle.forms.specs.declared.note.Note.the-variants.{Means, Wrong}
+use Rattle.forms.specs.Note.{maxInstance, noteOf, isWrong}
+use Rattle.forms.specs.Rule.{ruleBroken}
 use Rattle.line.specs.declared.event.Event.{Event}
 use Rattle.line.specs.declared.reading.Reading.the-variants.{EventLine}
 use Rattle.line.specs.declared.writing.Written.the-variants.{Done, NotWritten}
-use Rattle.line.specs.Note.{maxInstance, noteOf, isWrong}
-use Rattle.line.specs.Rule.{ruleBroken}
 use Rattle.line.specs.Event.{maxTime, numbersOf, hasNames, knownReading, fieldsReading, eventReading}
 use Rattle.line.specs.Reading.{lineMost, readLine}
 use Rattle.line.specs.Writing.{hasInstances, hasSizes, recordRefusal, textOf, wrote, writeText, writeLine}

@@ -14,8 +14,8 @@ use Rattle.words.specs.declared.scale.ScaleFound.{ScaleFound}
 use Rattle.words.specs.declared.scale.ScaleFound.the-variants.{ThisScale, NoScale}
 use Rattle.words.specs.Pair.{namedBy}
 use Rattle.fields.specs.Part.{partsOf, fieldOf}
-use Rattle.line.specs.Note.{maxInstance, noteOf, isWrong}
-use Rattle.line.specs.Rule.{ruleBroken}
+use Rattle.forms.specs.Note.{maxInstance, noteOf, isWrong}
+use Rattle.forms.specs.Rule.{ruleBroken}
 use Rattle.line.specs.Parameter.{isVersion, isVersionLine, isComment, timeScale, isCreator, isCreationDate}
 use Rattle.line.specs.Event.{maxTime}
 use Rattle.line.specs.Reading.{lineMost, hasBreak, isEventLine}

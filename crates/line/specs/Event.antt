@@ -13,17 +13,17 @@ use Rattle.words.specs.declared.kind.Kind.{Kind}
 use Rattle.words.specs.declared.action.Action.{Action}
 use Rattle.words.specs.declared.pair.Pair.{Pair}
 use Rattle.words.specs.declared.pair.Pair.the-variants.{Known, Unknown}
+use Rattle.words.specs.Pair.{namedBy}
 use Rattle.fields.specs.Part.{partsOf, fieldOf}
-use Rattle.line.specs.declared.note.Note.{Note}
-use Rattle.line.specs.declared.note.Note.the-variants.{Means, Wrong}
+use Rattle.forms.specs.declared.note.Note.{Note}
+use Rattle.forms.specs.declared.note.Note.the-variants.{Means, Wrong}
+use Rattle.forms.specs.Note.{maxInstance, noteOf}
+use Rattle.forms.specs.Rule.{ruleBroken}
 use Rattle.line.specs.declared.event.Event.{Event}
 use Rattle.line.specs.declared.event.Numbers.{Numbers}
 use Rattle.line.specs.declared.event.Numbers.the-variants.{TimeAndInstances, Wrong as NoNumbers}
 use Rattle.line.specs.declared.reading.Reading.{Reading}
 use Rattle.line.specs.declared.reading.Reading.the-variants.{EventLine, Refused}
-use Rattle.words.specs.Pair.{namedBy}
-use Rattle.line.specs.Note.{maxInstance, noteOf}
-use Rattle.line.specs.Rule.{ruleBroken}
 
 -- "time | 72,057,594,037,927,935 (2^56 − 1)"
 abbrev pub maxTime : ℕ

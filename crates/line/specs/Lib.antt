@@ -1,7 +1,4 @@
 -- What one line of a trace is, after document 01 and 000: its rules, how it is read and how it is written.
-pub mod Note
-pub mod Rule
-pub mod Date
 pub mod Answer
 pub mod Parameter
 pub mod Event

@@ -8,10 +8,10 @@ use Rattle.text.specs.Literal.{bytes}
 use Rattle.text.specs.Bytes.{sameBytes, startsWith}
 use Rattle.words.specs.declared.scale.ScaleFound.{ScaleFound}
 use Rattle.words.specs.declared.scale.ScaleFound.the-variants.{ThisScale, NoScale}
+use Rattle.words.specs.Scale.{scaleOf}
+use Rattle.forms.specs.Date.{isMoment}
 use Rattle.line.specs.declared.reading.Reading.{Reading}
 use Rattle.line.specs.declared.reading.Reading.the-variants.{Version, Comment, TimeScale, Creator, CreationDate, Refused}
-use Rattle.words.specs.Scale.{scaleOf}
-use Rattle.line.specs.Date.{isMoment}
 
 -- "First line: exactly `#version 2.2.0`"
 unfoldable pub isVersion : List ℕ → Bool

@@ -8,13 +8,13 @@ use lib.ListN.{length}
 use Rattle.text.specs.Name.{isName}
 use Rattle.text.specs.Number.{digitsOf}
 use Rattle.text.specs.Put.{written}
+use Rattle.words.specs.Kind.{kindWord}
+use Rattle.words.specs.Action.{wordOf, isOf}
+use Rattle.forms.specs.Note.{maxInstance, noteOf, isWrong}
+use Rattle.forms.specs.Rule.{ruleBroken}
 use Rattle.line.specs.declared.event.Event.{Event}
 use Rattle.line.specs.declared.writing.Written.{Written}
 use Rattle.line.specs.declared.writing.Written.the-variants.{Done, NotWritten}
-use Rattle.words.specs.Kind.{kindWord}
-use Rattle.words.specs.Action.{wordOf, isOf}
-use Rattle.line.specs.Note.{maxInstance, noteOf, isWrong}
-use Rattle.line.specs.Rule.{ruleBroken}
 use Rattle.line.specs.Event.{maxTime}
 use Rattle.line.specs.Answer.{test, lowest}
 

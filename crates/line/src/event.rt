@@ -1,15 +1,15 @@
 // Event lines: seven fields or eight.
 ghost use mathlib.Core.Path.{_≡_};
-ghost use mathlib.Core.Bool.{Bool, true};
+ghost use mathlib.Core.Bool.{true};
 ghost use Rattle.text.specs.Name.{allNameBytes, isName};
 ghost use Rattle.fields.specs.Part.{commasOf};
 ghost use Rattle.line.specs.Event.{allPlain, PlainFields, numbersOf, hasNames, fieldsReading, knownReading, eventReading};
-use crate::note::Note;
-use crate::note::note_of;
 use crate::reading::Reading;
-use crate::rule::rule_broken;
 use fields::between;
 use fields::part::Commas;
+use forms::note::Note;
+use forms::note::note_of;
+use forms::rule::rule_broken;
 use text::name::NAME_MOST;
 use text::name::name;
 use text::number::Number;

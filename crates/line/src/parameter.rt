@@ -1,8 +1,8 @@
 // Lines that start with `#`: the version, comments and parameters.
 ghost use mathlib.Core.Path.{_≡_};
 ghost use Rattle.line.specs.Parameter.{isVersionLine, timeScale, isCreator, isCreationDate, parameterReading, otherReading};
-use crate::date::moment;
 use crate::reading::Reading;
+use forms::date::moment;
 use text::bytes::same;
 use text::bytes::starts;
 use words::scale::ScaleFound;

@@ -6,7 +6,7 @@ use Prim.Native.Nat.{ℕ, _+_, _*_, _≤_}
 use native.Mathlib.Omega.{arith}
 use lib.ListN.{length, getD, take, drop}
 use Rattle.rules.specs.Event.{Event, Instance}
-use Rattle.rules.specs.Rows.{opened}
+use Rattle.steps.specs.Rows.{opened}
 use Rattle.tables.specs.Entry.{nameRoom, startedIndex, namesIndex, coresIndex, instancesIndex, instanceCount, ownerAt, instanceAt}
 use Rattle.tables.specs.Entry.{kindColumn, lengthColumn, standingColumn, numberColumn, numberedColumn, ownerColumn, instanceColumn, stateColumn}
 use Rattle.judge.specs.Feed.{tables}

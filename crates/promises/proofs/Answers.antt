@@ -16,12 +16,12 @@ use Rattle.rules.specs.Core.{onCore}
 use Rattle.rules.specs.History.{isTracked, names, cores, instances, kindOf, lastTime as timeBefore}
 use Rattle.rules.specs.Refusals.{Known, look, less, differs, timeFalls, sourceClash, targetClash, secondKind}
 use Rattle.rules.specs.Refusals.{noRoom, offChart, notNext, coreBroken, countBroken, eventTests, answerTo}
-use Rattle.rules.specs.Rows.{opened}
 use Rattle.rules.specs.Verdict.{answer, Accepted}
+use Rattle.steps.specs.Rows.{opened}
 use Rattle.tables.specs.Entry.{startedEntry, nameCount, coreCount, instanceCount, lastTime}
-use Rattle.decide.specs.declared.look.LookedUp.{LookedUp}
-use Rattle.decide.specs.LookedUp.{lookedUp}
-use Rattle.decide.specs.Known.{kindIn, newCore, newName, newInstance, knownBy}
+use Rattle.lookup.specs.declared.look.LookedUp.{LookedUp}
+use Rattle.lookup.specs.LookedUp.{lookedUp, newCore, newName, newInstance}
+use Rattle.decide.specs.Known.{kindIn, knownBy}
 use Rattle.judge.specs.Feed.{Tables}
 use Rattle.promises.specs.Shown.{Shown, SinglesShown, startedOf, lastOf}
 use Rattle.promises.specs.Taken.{lookedUpIn}

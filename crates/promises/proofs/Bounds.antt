@@ -8,11 +8,11 @@ use lib.Dec.{eqb}
 use Rattle.line.specs.Event.{maxTime}
 use Rattle.rules.specs.Chart.{Step, isStateOf, stateAfter}
 use Rattle.rules.specs.Event.{Event}
-use Rattle.rules.specs.Rows.{opened}
 use Rattle.rules.specs.Verdict.{Accepted}
 use Rattle.rules.specs.Sheet.{span}
 use Rattle.rules.proofs.States.{state-after-state}
 use Rattle.rules.proofs.Totals.{first-le}
+use Rattle.steps.specs.Rows.{opened}
 use Rattle.tables.specs.Entry.{firstTime, lastTime}
 use Rattle.promises.specs.Shown.{startedOf, firstOf, lastOf, SinglesShown}
 use Rattle.promises.proofs.Listed.{AllMet}

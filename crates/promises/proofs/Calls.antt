@@ -18,29 +18,29 @@ use Rattle.line.specs.Condition.{readerTests}
 use Rattle.line.specs.Writing.{writeLine, writtenAnswer}
 use Rattle.line.proofs.Answers.{answer-lowest}
 use Rattle.line.proofs.Outputs.{refused-keeps}
+use Rattle.line.proofs.Lowest.{lowest-has}
 use Rattle.bill.specs.Text.{sheetText}
 use Rattle.bill.specs.Verdict.{reportText}
-use Rattle.line.proofs.Lowest.{lowest-has}
 use Rattle.rules.specs.Limits.{lastRefusal}
 use Rattle.rules.specs.Lists.{member, ifZero}
 use Rattle.rules.specs.Event.{Event}
 use Rattle.tables.specs.Entry.{verdictNumber}
 use Rattle.tables.specs.Fresh.{clearedOf}
 use Rattle.tables.specs.Sized.{isSized}
-use Rattle.tables.specs.Range.{tableAnswer}
-use Rattle.tables.proofs.Valid.{valid, three-answers}
 use Rattle.tables.proofs.Zeros.{clear-answers}
+use Rattle.ranges.specs.Range.{tableAnswer}
+use Rattle.ranges.proofs.Valid.{valid, three-answers}
 use Rattle.decide.specs.Decide.{planAnswer, decided}
 use Rattle.decide.proofs.Decided.{ruled, plan-answer, decided-answer, plan-refuses}
+use Rattle.sheet.specs.declared.sheet.Printed.the-variants.{Done, NotPrinted}
+use Rattle.sheet.specs.Sheet.{Sheeted, sheeted, sheetIn, sheetWritten, printedAnswer}
 use Rattle.judge.specs.Feed.{Tables, After, after, judgedLine, judgedLines, fedLine, AfterChunk, fedChunk}
 use Rattle.judge.specs.Feed.{verdict, verdictIn, verdictOf, AfterTrace, freshTables, judgedTrace}
+use Rattle.run.specs.Report.{reportWritten}
+use Rattle.run.proofs.Reports.{told-most}
 use Rattle.promises.proofs.Judged.{never-16}
 use Rattle.promises.proofs.Numbers.{judged-numbered, lines-most}
 use Rattle.promises.proofs.Refused.{StopsAfter, lines-spare}
-use Rattle.sheet.specs.declared.sheet.Printed.the-variants.{Done, NotPrinted}
-use Rattle.sheet.specs.Sheet.{Sheeted, sheeted, sheetIn, sheetWritten, printedAnswer}
-use Rattle.run.specs.Report.{reportWritten}
-use Rattle.run.proofs.Reports.{told-most}
 use Rattle.promises.specs.Answers.{readAnswers, decideAnswers, freshAnswers, feedAnswers, judgeAnswers, printAnswers, writeNothing}
 
 -- ---- numbers in a row

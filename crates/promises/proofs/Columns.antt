@@ -16,8 +16,8 @@ use Rattle.tables.specs.Entry.{kindColumn, standingColumn, numberColumn, number
 use Rattle.tables.specs.Entry.{lineCount, nameCount, coreCount, instanceCount}
 use Rattle.tables.specs.Entry.{standingAt, numberAt}
 use Rattle.tables.proofs.Stores.{other, single, Outside}
-use Rattle.decide.specs.declared.look.LookedUp.{LookedUp}
-use Rattle.decide.specs.Known.{newCore, newName}
+use Rattle.lookup.specs.declared.look.LookedUp.{LookedUp}
+use Rattle.lookup.specs.LookedUp.{newCore, newName}
 use Rattle.store.specs.Store.{targetRow, storeRow, storeInstance, storeStanding, storeHolder, storeNumber, withRows, withTarget, withCore, withCounts}
 use Rattle.store.proofs.Stores.{length-storeRow, length-storeStanding, length-storeInstance}
 use Rattle.promises.proofs.Choices.{same-choice}

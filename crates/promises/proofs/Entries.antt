@@ -18,8 +18,8 @@ use Rattle.tables.specs.Entry.{kindColumn, lengthColumn, standingColumn, number
 use Rattle.tables.specs.Entry.{verdictNumber, verdictLine, lineCount, scaleEntry, creatorEntry, dateEntry, startedEntry, nameCount, coreCount, instanceCount}
 use Rattle.tables.specs.Entry.{kindAt, lengthAt, standingAt, numberAt, numberedAt, ownerAt, instanceAt, stateAt}
 use Rattle.tables.proofs.Stores.{Outside}
-use Rattle.decide.specs.declared.look.LookedUp.{LookedUp}
-use Rattle.decide.specs.Known.{newCore, newName, newInstance}
+use Rattle.lookup.specs.declared.look.LookedUp.{LookedUp}
+use Rattle.lookup.specs.LookedUp.{newCore, newName, newInstance}
 use Rattle.store.specs.Store.{coreRow, targetRow, instanceRow, storeInstance, withRows, withTarget, withCore, takenNums}
 use Rattle.store.proofs.Stores.{length-withRows, length-withTarget, length-withCore}
 use Rattle.promises.proofs.RowStores.{row-kind, row-length, row-standing, row-number, row-numbered, number-number, number-numbered, instance-owner}

@@ -3,10 +3,10 @@ use mathlib.Core.Path.{_≡_, refl, sym}
 use mathlib.Core.List.{List, [], _∷_}
 use Prim.Native.Nat.{ℕ, zero, suc}
 use native.Mathlib.Omega.{arith}
+use Rattle.fields.specs.Part.{fieldOf}
 use Rattle.line.specs.declared.event.Event.{Event as ReadEvent}
 use Rattle.line.specs.declared.reading.Reading.{Reading}
 use Rattle.line.specs.declared.reading.Reading.the-variants.{Version, Comment, TimeScale, Creator, CreationDate, EventLine, Refused}
-use Rattle.fields.specs.Part.{fieldOf}
 use Rattle.line.specs.Reading.{readLine}
 use Rattle.rules.specs.Lists.{ifZero}
 use Rattle.rules.specs.Event.{Event}
@@ -16,10 +16,10 @@ use Rattle.rules.specs.Lines.{eventFrom, eventIn, eventOfLine, withEvent, event
 use Rattle.rules.proofs.Answers.{passed}
 use Rattle.rules.proofs.Meets.{Met, line-meets}
 use Rattle.rules.proofs.Traces.{Kept}
-use Rattle.decide.specs.declared.look.LookedUp.{LookedUp}
+use Rattle.lookup.specs.declared.look.LookedUp.{LookedUp}
+use Rattle.lookup.specs.LookedUp.{lookedUp}
 use Rattle.decide.specs.declared.plan.Plan.{Plan}
 use Rattle.decide.specs.declared.plan.Plan.the-variants.{Refuse, Take}
-use Rattle.decide.specs.LookedUp.{lookedUp}
 use Rattle.decide.specs.Decide.{enters, planBy, planOf}
 use Rattle.store.specs.Store.{takenTables}
 use Rattle.judge.specs.Feed.{Tables, carried, judgedEvent}

@@ -3,7 +3,7 @@
 use mathlib.Core.Path.{_≡_, refl, sym, ap, subst, _∙_}
 use mathlib.Core.Bool.{Bool, true, false, not, _&&_, cond, and-false}
 use mathlib.Core.List.{List}
-use Prim.Native.Nat.{ℕ, _+_}
+use Prim.Native.Nat.{ℕ}
 use native.Mathlib.Omega.{arith}
 use lib.Dec.{eqb}
 use borrow.Author.Tests.{eqb-true, eqb-false, eq-eqb, ne-eqb}
@@ -17,8 +17,8 @@ use Rattle.rules.specs.History.{names, kindOf}
 use Rattle.rules.specs.Refusals.{serves}
 use Rattle.rules.specs.Verdict.{Accepted}
 use Rattle.rules.proofs.Tests.{clash, instance-true, instance-refl}
-use Rattle.tables.specs.declared.find.Found.the-variants.{At, Nothing}
 use Rattle.tables.specs.Entry.{idleCore, heldBy}
+use Rattle.lookup.specs.declared.find.Found.the-variants.{At, Nothing}
 use Rattle.decide.specs.Known.{another, isHolder, coreIn}
 use Rattle.decide.proofs.Plans.{another-differs}
 use Rattle.promises.specs.Places.{seek, rowOf}

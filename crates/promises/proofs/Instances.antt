@@ -11,15 +11,15 @@ use Rattle.text.proofs.Bools.{is-false}
 use Rattle.rules.specs.Lists.{any, oneIf}
 use Rattle.rules.specs.Event.{Event, Instance, sameInstance, instanceOf, stateOf}
 use Rattle.rules.specs.History.{hasInstances, instances}
-use Rattle.rules.specs.Rows.{opened}
 use Rattle.rules.specs.Verdict.{Accepted}
 use Rattle.rules.proofs.Tests.{both, clash, instance-true, instance-refl, and-true}
 use Rattle.rules.proofs.Changes.{state-other}
 use Rattle.rules.proofs.Answers.{Passed}
 use Rattle.rules.proofs.Tracked.{target-kind, kind-stays, named-kind}
-use Rattle.tables.specs.declared.find.Found.{Found}
-use Rattle.tables.specs.declared.find.Found.the-variants.{At, Nothing}
+use Rattle.steps.specs.Rows.{opened}
 use Rattle.tables.specs.Entry.{instanceRows, nameRows, instanceCount, ownerAt, instanceAt, stateAt}
+use Rattle.lookup.specs.declared.find.Found.{Found}
+use Rattle.lookup.specs.declared.find.Found.the-variants.{At, Nothing}
 use Rattle.decide.proofs.Plans.{own-number}
 use Rattle.store.specs.Store.{rowOr, targetRow, instanceRow, takenTables}
 use Rattle.judge.specs.Feed.{Tables}

@@ -13,7 +13,7 @@ use Rattle.walk.proofs.Chunks.{whole-anew}
 use Rattle.rules.specs.Trace.{takenLines, refusalOn, verdictOn, Sound}
 use Rattle.rules.proofs.Traces.{nothing-kept, number-sound, Names, verdict-names-first, taken-sound}
 use Rattle.tables.specs.Sized.{isSized}
-use Rattle.tables.specs.Range.{tableAnswer}
+use Rattle.ranges.specs.Range.{tableAnswer}
 use Rattle.judge.specs.Feed.{Tables, After, fedLine, judgedLines, fedChunk, verdictIn, verdictOf, freshTables, judgedTrace}
 use Rattle.judge.proofs.Feeds.{judged-fed}
 use Rattle.judge.proofs.Traces.{judgedLines-append}

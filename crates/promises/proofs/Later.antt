@@ -15,18 +15,18 @@ use Rattle.rules.specs.Event.{Event, Instance, instanceOf, wordsOf, stateOf}
 use Rattle.rules.specs.Core.{takes, onCore, coreAt}
 use Rattle.rules.specs.History.{hasInstances, isTracked, names, kindOf, activates, lastNumber, lastCount}
 use Rattle.rules.specs.Refusals.{look, secondKind, offChart, isNext, notNext, unseen, serves, coreBroken, countFollows, countAllowed, countBroken}
-use Rattle.rules.specs.Rows.{opened, leadsTo, moveBy}
 use Rattle.rules.specs.Verdict.{Accepted}
 use Rattle.rules.proofs.Tests.{neither}
-use Rattle.rules.proofs.CoreClasses.{class-on}
-use Rattle.rules.proofs.Steps.{step-state}
-use Rattle.tables.specs.declared.find.Found.{Found}
-use Rattle.tables.specs.declared.find.Found.the-variants.{Nothing}
+use Rattle.rules.proofs.Tracked.{target-is, source-is}
+use Rattle.steps.specs.Rows.{opened, leadsTo, moveBy}
+use Rattle.steps.proofs.CoreClasses.{class-on}
+use Rattle.steps.proofs.Steps.{step-state}
 use Rattle.tables.specs.Entry.{stateColumn}
+use Rattle.lookup.specs.declared.find.Found.{Found}
+use Rattle.lookup.specs.declared.find.Found.the-variants.{Nothing}
 use Rattle.decide.specs.Known.{standingIn, numberIn, entryOf, stateIn, numberKnown, coreIn, knownBy}
 use Rattle.decide.specs.Decide.{enters}
 use Rattle.judge.specs.Feed.{Tables}
-use Rattle.rules.proofs.Tracked.{target-is, source-is}
 use Rattle.promises.specs.Places.{seek}
 use Rattle.promises.specs.Shown.{Shown, theSemaphore, numberOf}
 use Rattle.promises.specs.Taken.{lookedUpIn}

@@ -11,8 +11,8 @@ use Rattle.words.specs.declared.scale.Scale.the-variants.{Picoseconds, Nanoseco
 use Rattle.line.specs.declared.reading.Reading.{Reading}
 use Rattle.line.specs.declared.reading.Reading.the-variants.{Version, Comment, TimeScale, Creator, CreationDate, EventLine, Refused}
 use Rattle.line.specs.Reading.{readLine}
-use Rattle.bill.specs.Scale.{scaleNumber}
 use Rattle.line.proofs.Lowest.{lowest-has}
+use Rattle.bill.specs.Scale.{scaleNumber}
 use Rattle.rules.specs.Limits.{verdictLineLimit, lastRefusal}
 use Rattle.rules.specs.Lists.{orElse, latest, ifZero}
 use Rattle.rules.specs.Event.{Event}
@@ -23,8 +23,8 @@ use Rattle.rules.specs.First.{firstRefusal}
 use Rattle.rules.proofs.Traces.{Kept, kept-next}
 use Rattle.rules.specs.declared.place.Place.{Place}
 use Rattle.tables.specs.Entry.{verdictNumber, verdictLine}
-use Rattle.tables.specs.Range.{tableAnswer}
-use Rattle.tables.proofs.Valid.{answers}
+use Rattle.ranges.specs.Range.{tableAnswer}
+use Rattle.ranges.proofs.Valid.{answers}
 use Rattle.judge.specs.Feed.{Tables, placeIn}
 use Rattle.promises.specs.Shown.{Shows}
 use Rattle.promises.proofs.Ranges.{in-range}

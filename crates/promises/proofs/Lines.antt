@@ -10,10 +10,10 @@ use lib.Dec.{eqb, ltb}
 use lib.ListN.{length, getD, set}
 use borrow.Author.Tests.{eq-eqb}
 use Rattle.words.specs.declared.scale.Scale.{Scale}
+use Rattle.fields.specs.Part.{fieldOf}
 use Rattle.line.specs.declared.event.Event.{Event as ReadEvent}
 use Rattle.line.specs.declared.reading.Reading.{Reading}
 use Rattle.line.specs.declared.reading.Reading.the-variants.{Version, Comment, TimeScale, Creator, CreationDate, EventLine, Refused}
-use Rattle.fields.specs.Part.{fieldOf}
 use Rattle.line.specs.Reading.{readLine}
 use Rattle.bill.specs.Scale.{scaleNumber}
 use Rattle.rules.specs.declared.place.Place.{Place}
@@ -21,8 +21,9 @@ use Rattle.rules.specs.Event.{Event}
 use Rattle.rules.specs.Verdict.{answer}
 use Rattle.rules.specs.Lines.{eventFrom, eventIn, eventOfLine, eventsOf}
 use Rattle.rules.specs.Trace.{placeOf, answerInPlace, eventAnswer, answerAt}
-use Rattle.rules.specs.PlaceCode.{answerByReading}
-use Rattle.rules.proofs.Places.{by-reading-right, nextPlace, place-next}
+use Rattle.rules.proofs.Places.{nextPlace, place-next}
+use Rattle.steps.specs.PlaceCode.{answerByReading}
+use Rattle.steps.proofs.ByReading.{by-reading-right}
 use Rattle.tables.specs.Entry.{numsSize, verdictIndex, verdictLineIndex, linesIndex, scaleIndex, creatorIndex, dateIndex, startedIndex}
 use Rattle.tables.specs.Entry.{verdictNumber, verdictLine, lineCount, scaleEntry, creatorEntry, dateEntry}
 use Rattle.judge.specs.Feed.{Tables, tables, After, after, placeIn, remembered, counted, judgedEvent, judgedReading, judgedInPlace, judgedLine}

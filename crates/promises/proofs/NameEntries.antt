@@ -15,11 +15,11 @@ use Rattle.text.proofs.Bools.{lt-or-ge}
 use Rattle.text.proofs.Writes.{written-parts, put-fits}
 use Rattle.rules.specs.Event.{Event}
 use Rattle.rules.specs.History.{isTracked}
-use Rattle.tables.specs.declared.find.Found.{Found}
-use Rattle.tables.specs.declared.find.Found.the-variants.{At, Nothing}
 use Rattle.tables.specs.Entry.{nameRows, nameRoom, namesSize, numsSize, nameCount, lengthAt, nameAt}
-use Rattle.decide.specs.declared.look.LookedUp.{LookedUp}
-use Rattle.decide.specs.Known.{rowsAdded, newCore, newName}
+use Rattle.lookup.specs.declared.find.Found.{Found}
+use Rattle.lookup.specs.declared.find.Found.the-variants.{At, Nothing}
+use Rattle.lookup.specs.declared.look.LookedUp.{LookedUp}
+use Rattle.lookup.specs.LookedUp.{rowsAdded, newCore, newName}
 use Rattle.store.specs.Store.{rowOr, targetRow, storeName, takenNames, takenNums}
 use Rattle.store.proofs.Stores.{length-storeName}
 use Rattle.promises.proofs.RowStores.{length-if}

@@ -10,11 +10,11 @@ use Rattle.rules.specs.Lists.{any, oneIf}
 use Rattle.rules.specs.Event.{Event, instanceOf, stateOf}
 use Rattle.rules.specs.Core.{onCore}
 use Rattle.rules.specs.History.{isTracked, names}
-use Rattle.rules.specs.Rows.{opened}
 use Rattle.rules.specs.Verdict.{Accepted}
 use Rattle.rules.proofs.Tests.{both}
 use Rattle.rules.proofs.Answers.{Passed}
 use Rattle.rules.proofs.Meets.{Met}
+use Rattle.steps.specs.Rows.{opened}
 use Rattle.tables.specs.Entry.{nameRows, nameRoom, nameCount, nameAt, lengthAt}
 use Rattle.store.specs.Store.{targetRow, takenTables}
 use Rattle.judge.specs.Feed.{Tables}

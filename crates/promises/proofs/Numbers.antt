@@ -8,17 +8,17 @@ use native.Mathlib.Omega.{arith}
 use lib.Dec.{eqb, ltb}
 use lib.ListN.{length, set}
 use borrow.Author.Tests.{eqb-true}
+use Rattle.fields.specs.Part.{fieldOf}
 use Rattle.line.specs.declared.reading.Reading.{Reading}
 use Rattle.line.specs.declared.reading.Reading.the-variants.{Version, Comment, TimeScale, Creator, CreationDate, EventLine, Refused}
-use Rattle.fields.specs.Part.{fieldOf}
 use Rattle.line.specs.Reading.{readLine}
 use Rattle.bill.specs.Scale.{scaleNumber}
 use Rattle.rules.specs.Limits.{lastRefusal}
 use Rattle.rules.specs.declared.place.Place.{Place}
 use Rattle.rules.specs.Event.{Event}
 use Rattle.rules.specs.Lines.{eventFrom}
-use Rattle.rules.proofs.Places.{by-reading-right}
-use Rattle.rules.specs.PlaceCode.{answerByReading}
+use Rattle.steps.proofs.ByReading.{by-reading-right}
+use Rattle.steps.specs.PlaceCode.{answerByReading}
 use Rattle.tables.specs.Entry.{numsSize, verdictIndex, linesIndex, scaleIndex, creatorIndex, dateIndex, startedIndex, verdictNumber}
 use Rattle.decide.specs.declared.plan.Plan.{Plan}
 use Rattle.decide.specs.declared.plan.Plan.the-variants.{Refuse, Take}

@@ -11,14 +11,15 @@ use borrow.Author.Tests.{leb-false}
 use Rattle.line.specs.declared.reading.Reading.the-variants.{Refused}
 use Rattle.line.specs.Reading.{readLine}
 use Rattle.line.specs.Condition.{isScale, refuses1, refuses3}
+use Rattle.line.proofs.Lowest.{lowest-has}
 use Rattle.rules.specs.declared.place.Place.{Place}
 use Rattle.rules.specs.Trace.{placeOf, tooMuch, parameterWrong, placeTests, answerInPlace, InPlace}
-use Rattle.rules.specs.PlaceCode.{answerByReading}
 use Rattle.rules.proofs.Tests.{neither, clash}
 use Rattle.rules.proofs.Told.{Told, testsOf, toldBy, told-right}
-use Rattle.rules.proofs.Places.{place-none, by-reading-right}
+use Rattle.rules.proofs.Places.{place-none}
 use Rattle.rules.specs.Limits.{lineLimit}
-use Rattle.line.proofs.Lowest.{lowest-has}
+use Rattle.steps.specs.PlaceCode.{answerByReading}
+use Rattle.steps.proofs.ByReading.{by-reading-right}
 
 -- ---- 0 to 7
 

@@ -14,10 +14,10 @@ use Rattle.rules.specs.Sheet.{span}
 use Rattle.rules.specs.Lines.{eventsOf}
 use Rattle.rules.specs.Trace.{placeOf}
 use Rattle.rules.specs.Text.{traceText}
-use Rattle.tables.proofs.Valid.{valid}
-use Rattle.judge.specs.Feed.{Tables, verdictIn}
+use Rattle.ranges.proofs.Valid.{valid}
 use Rattle.sheet.specs.declared.sheet.Printed.the-variants.{Done, NotPrinted}
 use Rattle.sheet.specs.Sheet.{sheeted, sheetIn}
+use Rattle.judge.specs.Feed.{Tables, verdictIn}
 use Rattle.run.specs.Report.{reportWritten, textMost}
 use Rattle.run.proofs.Fits.{report-fits}
 use Rattle.promises.proofs.Verdicts.{Tells}

@@ -3,7 +3,7 @@ use mathlib.Core.Path.{_≡_, refl, ap, subst, _∙_}
 use mathlib.Core.Bool.{Bool, true, false, not, _||_, cond}
 use mathlib.Core.Option.{some}
 use mathlib.Core.List.{List}
-use Prim.Native.Nat.{ℕ, zero, suc, _+_, _-_, _≤_, _<_}
+use Prim.Native.Nat.{ℕ, zero, suc, _-_, _≤_, _<_}
 use native.Mathlib.Omega.{arith}
 use lib.Dec.{eqb}
 use borrow.Author.Tests.{eqb-true, eqb-false, eq-eqb, ne-eqb, lt-ltb, le-ltb}
@@ -19,7 +19,6 @@ use Rattle.rules.specs.Event.{Event, Instance, sameInstance, wordsOf}
 use Rattle.rules.specs.Core.{Core, unknown, idle, held, coreAt}
 use Rattle.rules.specs.History.{names, instances, kindOf}
 use Rattle.rules.specs.Refusals.{unseen}
-use Rattle.rules.specs.Rows.{opened}
 use Rattle.rules.specs.Verdict.{Accepted}
 use Rattle.rules.specs.Sheet.{span}
 use Rattle.rules.proofs.Answers.{all-fit}
@@ -28,10 +27,11 @@ use Rattle.rules.proofs.Tracked.{named-kind}
 use Rattle.rules.proofs.Totals.{core-total}
 use Rattle.rules.proofs.Charges.{charge-at-most}
 use Rattle.rules.proofs.Alone.{alone}
+use Rattle.steps.specs.Rows.{opened}
 use Rattle.tables.specs.Entry.{heldFrom, heldBy, verdictNumber, verdictLine, lineCount, scaleEntry, creatorEntry, dateEntry, nameCount}
 use Rattle.tables.specs.Entry.{kindAt, standingAt, ownerAt, stateAt, heldAt, idleAt, unknownAt, sinceAt, lastTime}
-use Rattle.tables.specs.Range.{holderOk, coreOk, standingOk, maxSum}
-use Rattle.tables.proofs.Valid.{NameRow, InstanceRow, Valid}
+use Rattle.ranges.specs.Range.{holderOk, coreOk, standingOk, maxSum}
+use Rattle.ranges.proofs.Valid.{NameRow, InstanceRow, Valid}
 use Rattle.judge.specs.Feed.{Tables}
 use Rattle.promises.specs.Places.{rowOf}
 use Rattle.promises.specs.Shown.{Shown, NameShown, InstanceShown, coreStanding, theSemaphore}

@@ -8,18 +8,18 @@ use native.Mathlib.Omega.{arith}
 use lib.Dec.{eqb}
 use lib.ListN.{length}
 use Rattle.text.proofs.Tight.{unique}
+use Rattle.fields.specs.Part.{fieldOf}
 use Rattle.line.specs.declared.reading.Reading.{Reading}
 use Rattle.line.specs.declared.reading.Reading.the-variants.{Version, Comment, TimeScale, Creator, CreationDate, EventLine, Refused}
-use Rattle.fields.specs.Part.{fieldOf}
 use Rattle.line.specs.Reading.{readLine}
 use Rattle.bill.specs.declared.verdict.Verdict.{Verdict}
 use Rattle.rules.specs.Limits.{lastRefusal}
 use Rattle.rules.specs.Event.{Event}
 use Rattle.rules.specs.Lines.{eventFrom}
 use Rattle.rules.specs.Lists.{ifZero}
-use Rattle.rules.specs.PlaceCode.{answerByReading}
+use Rattle.steps.specs.PlaceCode.{answerByReading}
 use Rattle.tables.specs.Entry.{numsSize, linesIndex, verdictNumber}
-use Rattle.tables.specs.Range.{tableAnswer}
+use Rattle.ranges.specs.Range.{tableAnswer}
 use Rattle.decide.specs.declared.plan.Plan.{Plan}
 use Rattle.decide.specs.declared.plan.Plan.the-variants.{Refuse, Take}
 use Rattle.decide.specs.Decide.{planOf}

@@ -3,7 +3,7 @@
 use mathlib.Core.Path.{_≡_, refl, sym, ap, _∙_}
 use mathlib.Core.Bool.{Bool, true, false, not, _&&_, _||_, cond}
 use mathlib.Core.List.{List, _∷_}
-use Prim.Native.Nat.{ℕ, _+_, _<_}
+use Prim.Native.Nat.{ℕ, _<_}
 use native.Mathlib.Omega.{arith}
 use lib.Dec.{eqb}
 use Rattle.text.specs.Bytes.{sameBytes}
@@ -18,8 +18,8 @@ use Rattle.rules.specs.Lawful.{Fits}
 use Rattle.rules.proofs.Tests.{both, clash}
 use Rattle.rules.proofs.Answers.{Passed, room-fits}
 use Rattle.rules.proofs.CoreWords.{gives-only}
+use Rattle.steps.proofs.CoreClasses.{class-on}
 use Rattle.tables.specs.Entry.{idleCore, heldBy, nameRows, kindAt, standingAt, numberAt, numberedAt}
-use Rattle.rules.proofs.CoreClasses.{class-on}
 use Rattle.store.specs.Store.{coreRow, targetRow, takenNums}
 use Rattle.judge.specs.Feed.{Tables}
 use Rattle.promises.specs.Places.{rowOf}

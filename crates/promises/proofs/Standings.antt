@@ -3,7 +3,7 @@
 use mathlib.Core.Path.{_≡_, refl, sym, ap, _∙_}
 use mathlib.Core.Bool.{Bool, true, false, _&&_, cond}
 use mathlib.Core.List.{List, _∷_}
-use Prim.Native.Nat.{ℕ, _+_}
+use Prim.Native.Nat.{ℕ}
 use native.Mathlib.Omega.{arith}
 use lib.Dec.{eqb}
 use borrow.Author.Tests.{eq-eqb, eqb-true}
@@ -15,11 +15,11 @@ use Rattle.rules.specs.Words.{core, semaphore}
 use Rattle.rules.specs.Event.{Event, Instance, sameInstance, instanceOf, stateOf}
 use Rattle.rules.specs.Core.{Core, unknown, idle, held, becomes, gives, onCore, on, coreAt}
 use Rattle.rules.specs.History.{isTracked, names}
-use Rattle.rules.specs.Rows.{opened}
 use Rattle.rules.specs.Verdict.{Accepted}
 use Rattle.rules.proofs.Tests.{both, and-true, clash, instance-true}
 use Rattle.rules.proofs.Changes.{state-other, core-other}
 use Rattle.rules.proofs.Answers.{Passed}
+use Rattle.steps.specs.Rows.{opened}
 use Rattle.tables.specs.Entry.{idleCore, heldBy, kindAt, standingAt}
 use Rattle.store.specs.Store.{takenTables}
 use Rattle.judge.specs.Feed.{Tables}

@@ -9,12 +9,12 @@ use lib.Dec.{eqb}
 use lib.ListN.{length, set, length-set}
 use borrow.Author.Tests.{eqb-true, eq-eqb, ne-eqb}
 use Rattle.rules.specs.Core.{no-core, takes-core, gives-core}
-use Rattle.tables.specs.declared.find.Found.{Found}
-use Rattle.tables.specs.declared.find.Found.the-variants.{At, Nothing}
 use Rattle.tables.specs.Entry.{nameRows, ticksSize, firstIndex, lastIndex, startedEntry, nameCount, firstTime, lastTime, sinceAt}
 use Rattle.tables.proofs.Stores.{single, before}
-use Rattle.decide.specs.declared.look.LookedUp.{LookedUp}
-use Rattle.decide.specs.Known.{rowsAdded, newCore, newName}
+use Rattle.lookup.specs.declared.find.Found.{Found}
+use Rattle.lookup.specs.declared.find.Found.the-variants.{At, Nothing}
+use Rattle.lookup.specs.declared.look.LookedUp.{LookedUp}
+use Rattle.lookup.specs.LookedUp.{rowsAdded, newCore, newName}
 use Rattle.store.specs.Store.{rowOr, coreRow, targetRow, storeSums, settled, withTimes, withSums, takenTicks}
 use Rattle.store.proofs.Stores.{length-storeSums, length-withSums, length-settled}
 use Rattle.promises.proofs.TickStores.{Sums, sums, sumsAt, begun, coreSettled, targetSettled, settled-off, settledAt, settled-sums, either-kept}

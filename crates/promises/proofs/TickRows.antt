@@ -19,10 +19,10 @@ use Rattle.rules.specs.Refusals.{eventTests, answerTo}
 use Rattle.rules.specs.Verdict.{Accepted}
 use Rattle.rules.proofs.Tests.{both, and-true, clash}
 use Rattle.rules.proofs.Answers.{Passed}
-use Rattle.rules.proofs.CoreClasses.{class-on}
 use Rattle.rules.proofs.Tracked.{two-names, source-kind}
+use Rattle.steps.proofs.CoreClasses.{class-on}
 use Rattle.tables.specs.Entry.{lastTime, sinceAt}
-use Rattle.decide.specs.Known.{newCore, newName}
+use Rattle.lookup.specs.LookedUp.{newCore, newName}
 use Rattle.store.specs.Store.{coreRow, targetRow, takenTicks}
 use Rattle.judge.specs.Feed.{Tables}
 use Rattle.promises.specs.Places.{rowOf}

@@ -19,8 +19,8 @@ use Rattle.words.specs.Kind.{kindWord, kindOf}
 use Rattle.words.specs.Action.{wordOf, actionCode, actionsOf, actionOf, among}
 use Rattle.words.specs.Pair.{namedBy}
 use Rattle.fields.specs.Part.{partsOf, fieldOf}
-use Rattle.line.specs.Note.{noteOf}
-use Rattle.line.specs.Rule.{isProcess as isProcessLine, zeroSource, zeroTarget, isOwn, sourceBroken, targetBroken, ownBroken, presence, noteBroken, ruleBroken}
+use Rattle.forms.specs.Note.{noteOf}
+use Rattle.forms.specs.Rule.{isProcess as isProcessLine, zeroSource, zeroTarget, isOwn, sourceBroken, targetBroken, ownBroken, presence, noteBroken, ruleBroken}
 use Rattle.line.specs.Parameter.{isVersion, isVersionLine, isComment, timeScale, isCreator, isCreationDate, otherReading, parameterReading}
 use Rattle.line.specs.Event.{numbersOf, hasNames, knownReading, fieldsReading, eventReading}
 use Rattle.line.specs.Reading.{hasBreak, isEventLine, readLine}
@@ -33,10 +33,10 @@ use Rattle.rules.specs.Refusals.{timeFalls, secondKind, sourceClash, targetClas
 use Rattle.rules.specs.Refusals.{coreBroken, countFollows, countAllowed, countBroken, eventTests, answerTo}
 use Rattle.rules.specs.Lines.{kindNumber, eventOfLine, eventsOf}
 use Rattle.rules.specs.Trace.{placeOf, tooMuch, versionWrong, parameterWrong, unscaled, placeTests, answerInPlace, answerAt, atEnd, verdictOn}
-use Rattle.tables.specs.Sized.{isSized}
 use Rattle.rules.specs.First.{takenOf, firstRefusal}
-use Rattle.tables.proofs.Valid.{sizes-mean}
-use Rattle.tables.proofs.Zeros.{fresh-valid}
+use Rattle.tables.specs.Sized.{isSized}
+use Rattle.tables.proofs.Sizes.{sizes-mean}
+use Rattle.ranges.proofs.FreshTables.{fresh-valid}
 use Rattle.judge.specs.Feed.{Tables, freshTables, AfterTrace, judgedTrace}
 use Rattle.promises.proofs.Judged.{judged-tells}
 

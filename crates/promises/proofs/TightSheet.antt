@@ -20,8 +20,8 @@ use Rattle.words.specs.Kind.{kindWord, kindOf}
 use Rattle.words.specs.Action.{wordOf, actionCode, actionsOf, actionOf, among}
 use Rattle.words.specs.Pair.{namedBy}
 use Rattle.fields.specs.Part.{partsOf, fieldOf}
-use Rattle.line.specs.Note.{noteOf}
-use Rattle.line.specs.Rule.{isProcess as isProcessLine, zeroSource, zeroTarget, isOwn, sourceBroken, targetBroken, ownBroken, presence, noteBroken, ruleBroken}
+use Rattle.forms.specs.Note.{noteOf}
+use Rattle.forms.specs.Rule.{isProcess as isProcessLine, zeroSource, zeroTarget, isOwn, sourceBroken, targetBroken, ownBroken, presence, noteBroken, ruleBroken}
 use Rattle.line.specs.Parameter.{isVersion, isVersionLine, isComment, timeScale, isCreator, isCreationDate, otherReading, parameterReading}
 use Rattle.line.specs.Event.{numbersOf, hasNames, knownReading, fieldsReading, eventReading}
 use Rattle.line.specs.Reading.{hasBreak, isEventLine, readLine}
@@ -39,7 +39,7 @@ use Rattle.rules.specs.Sheet.{ticks, sheet}
 use Rattle.rules.specs.Lines.{kindNumber, eventOfLine, eventsOf}
 use Rattle.rules.specs.Trace.{placeOf, tooMuch, versionWrong, parameterWrong, unscaled, placeTests, answerInPlace, answerAt}
 use Rattle.rules.specs.First.{takenOf}
-use Rattle.tables.specs.Range.{tableAnswer}
+use Rattle.ranges.specs.Range.{tableAnswer}
 use Rattle.sheet.specs.declared.sheet.Printed.the-variants.{Done, NotPrinted}
 use Rattle.sheet.specs.Sheet.{Sheeted, sheeted, sheetIn, sheetWritten}
 use Rattle.promises.specs.Sheets.{sheetOf, figure}

@@ -15,16 +15,16 @@ use Rattle.rules.specs.Words.{core, semaphore}
 use Rattle.rules.specs.Event.{Event, Instance, stateOf}
 use Rattle.rules.specs.Core.{held, coreAt}
 use Rattle.rules.specs.History.{hasInstances, names, kindOf, lastNumber, lastCount}
-use Rattle.rules.specs.Rows.{opened}
 use Rattle.rules.specs.Verdict.{Accepted}
 use Rattle.rules.proofs.Answers.{all-fit}
 use Rattle.rules.proofs.CoreRuns.{unseen-none}
 use Rattle.rules.proofs.Seen.{Worded, first-seen}
 use Rattle.rules.proofs.Tests.{clash}
 use Rattle.rules.proofs.Tracked.{kind-named, named-kind}
-use Rattle.tables.specs.declared.find.Found.{Found}
-use Rattle.tables.specs.declared.find.Found.the-variants.{At, Nothing}
+use Rattle.steps.specs.Rows.{opened}
 use Rattle.tables.specs.Entry.{Column, column, entryAt, nameRows, instanceRows, kindColumn, standingColumn, numberColumn, numberedColumn, stateColumn, kindAt}
+use Rattle.lookup.specs.declared.find.Found.{Found}
+use Rattle.lookup.specs.declared.find.Found.the-variants.{At, Nothing}
 use Rattle.decide.specs.Known.{entryOf, kindIn, standingIn, numberIn, numberKnown}
 use Rattle.judge.specs.Feed.{Tables}
 use Rattle.promises.specs.Places.{place, seek, rowOf}

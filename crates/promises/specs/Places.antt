@@ -6,8 +6,8 @@ use Rattle.text.specs.Bytes.{sameBytes}
 use Rattle.rules.specs.Lists.{any}
 use Rattle.rules.specs.Event.{Event}
 use Rattle.rules.specs.History.{names}
-use Rattle.tables.specs.declared.find.Found.{Found}
-use Rattle.tables.specs.declared.find.Found.the-variants.{At, Nothing}
+use Rattle.lookup.specs.declared.find.Found.{Found}
+use Rattle.lookup.specs.declared.find.Found.the-variants.{At, Nothing}
 
 module _ {A : Type 0} where
   -- the place of the first element that passes the test; the length where none does

@@ -13,9 +13,9 @@ use Rattle.rules.specs.Event.{Event, Instance, sameInstance, stateOf}
 use Rattle.rules.specs.Core.{Core, unknown, idle, held, coreAt}
 use Rattle.rules.specs.History.{names, cores, instances, kindOf, lastNumber, lastCount}
 use Rattle.rules.specs.Sheet.{firstTime as firstEventTime, isHeld, isIdle, isHeldBy, heldTicks, idleTicks, unknownTicks, charge}
-use Rattle.rules.specs.Rows.{opened}
 use Rattle.rules.specs.Lines.{eventsOf}
 use Rattle.rules.specs.Trace.{placeOf}
+use Rattle.steps.specs.Rows.{opened}
 use Rattle.tables.specs.Sized.{Sized}
 use Rattle.tables.specs.Entry.{idleCore, heldBy, creatorEntry, dateEntry, startedEntry, nameCount, coreCount, instanceCount}
 use Rattle.tables.specs.Entry.{kindAt, lengthAt, standingAt, numberAt, numberedAt, ownerAt, instanceAt}

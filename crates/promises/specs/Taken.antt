@@ -10,10 +10,10 @@ use Rattle.rules.specs.Event.{Event, sameInstance}
 use Rattle.rules.specs.Lists.{any}
 use Rattle.rules.specs.Event.{Instance}
 use Rattle.rules.specs.History.{hasInstances, isTracked, names, instances}
-use Rattle.tables.specs.declared.find.Found.{Found}
-use Rattle.tables.specs.declared.find.Found.the-variants.{At, Nothing}
-use Rattle.decide.specs.declared.look.LookedUp.{LookedUp}
-use Rattle.decide.specs.LookedUp.{lookIf, instanceIn}
+use Rattle.lookup.specs.declared.find.Found.{Found}
+use Rattle.lookup.specs.declared.find.Found.the-variants.{At, Nothing}
+use Rattle.lookup.specs.declared.look.LookedUp.{LookedUp}
+use Rattle.lookup.specs.LookedUp.{lookIf, instanceIn}
 use Rattle.judge.specs.Feed.{Tables}
 use Rattle.promises.specs.Places.{seek}
 use Rattle.promises.specs.Shown.{InstanceShown}

@@ -5,14 +5,11 @@ pub mod Tests
 pub mod Sums
 pub mod ChartFact
 pub mod States
-pub mod Rows
 pub mod Changes
-pub mod Steps
 pub mod Answers
 pub mod First
 pub mod Verdicts
 pub mod CoreWords
-pub mod CoreClasses
 pub mod CoreRuns
 pub mod Chains
 pub mod Seen
@@ -29,4 +26,3 @@ pub mod Places
 pub mod Traces
 pub mod Lawful
 pub mod TraceExamples
-pub mod Tight

@@ -18,13 +18,13 @@ use Rattle.words.specs.declared.kind.Kind.the-variants.{Stimulus, Task, Interru
 use Rattle.words.specs.declared.action.Action.{Action}
 use Rattle.words.specs.Action.{actionCode, actionsOf, among, isOf}
 use Rattle.words.proofs.Actions.{actions, all, every}
+use Rattle.fields.specs.Part.{fieldOf}
+use Rattle.forms.specs.declared.note.Note.{Note}
+use Rattle.forms.specs.declared.note.Note.the-variants.{Means, Wrong}
+use Rattle.forms.specs.Note.{maxInstance, asCount, countNote, isSignal, signalNote, noteOf}
 use Rattle.line.specs.declared.event.Event.{Event as ReadEvent}
-use Rattle.line.specs.declared.note.Note.{Note}
-use Rattle.line.specs.declared.note.Note.the-variants.{Means, Wrong}
 use Rattle.line.specs.declared.reading.Reading.{Reading}
 use Rattle.line.specs.declared.reading.Reading.the-variants.{Version, Comment, TimeScale, Creator, CreationDate, EventLine, Refused}
-use Rattle.fields.specs.Part.{fieldOf}
-use Rattle.line.specs.Note.{maxInstance, asCount, countNote, isSignal, signalNote, noteOf}
 use Rattle.line.specs.Event.{maxTime}
 use Rattle.line.specs.Reading.{readLine}
 use Rattle.line.proofs.Said.{said}

@@ -15,9 +15,9 @@ use Rattle.words.specs.Kind.{kindWord, kindOf}
 use Rattle.words.specs.Action.{wordOf, actionCode, actionsOf, actionOf, among}
 use Rattle.words.specs.Pair.{namedBy}
 use Rattle.fields.specs.Part.{partsOf, fieldOf}
-use Rattle.line.specs.Note.{countNote, noteOf}
-use Rattle.line.specs.Date.{fitsByte, fitsPattern, digitAt, twoAt, isLeap, daysIn, isDay, isTime, isMoment}
-use Rattle.line.specs.Rule.{isProcess as isProcessLine, zeroSource, zeroTarget, isOwn, sourceBroken, targetBroken, ownBroken, presence, noteBroken, ruleBroken}
+use Rattle.forms.specs.Note.{countNote, noteOf}
+use Rattle.forms.specs.Date.{fitsByte, fitsPattern, digitAt, twoAt, isLeap, daysIn, isDay, isTime, isMoment}
+use Rattle.forms.specs.Rule.{isProcess as isProcessLine, zeroSource, zeroTarget, isOwn, sourceBroken, targetBroken, ownBroken, presence, noteBroken, ruleBroken}
 use Rattle.line.specs.Parameter.{isVersion, isVersionLine, isComment, timeScale, isCreator, isCreationDate, otherReading, parameterReading}
 use Rattle.line.specs.Event.{numbersOf, hasNames, knownReading, fieldsReading, eventReading}
 use Rattle.line.specs.Reading.{hasBreak, isEventLine, readLine}

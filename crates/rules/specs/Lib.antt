@@ -11,9 +11,7 @@ pub mod History
 pub mod Refusals
 pub mod Verdict
 pub mod Sheet
-pub mod Rows
 pub mod Lines
 pub mod Trace
 pub mod Text
-pub mod PlaceCode
 pub mod Lawful

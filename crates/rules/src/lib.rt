@@ -1,7 +1,3 @@
-// The rules of events. In comes what a line says and what the lines before it said; out go the number that it is answered and the state that it leads to.
-// What a whole trace comes to, by its lines alone, is said in specs/.
-pub mod chart;
-pub mod kind;
-pub mod lines;
-pub mod numbers;
+// The rules of events, and what a whole trace comes to, by its lines alone: all of it is said in specs/, with its laws in proofs/, and there is no code. `steps` has
+// the code of single rules, and the machine above it that of a trace.
 pub mod place;

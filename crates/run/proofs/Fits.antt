@@ -13,11 +13,11 @@ use Rattle.bill.specs.Verdict.{acceptedText, refusedText, verdictText, reportTe
 use Rattle.bill.proofs.Scales.{scale-short}
 use Rattle.bill.proofs.VerdictLine.{length-accepted, length-refused}
 use Rattle.tables.specs.Entry.{verdictNumber, verdictLine, lineCount, scaleEntry, firstTime, lastTime}
-use Rattle.tables.proofs.Valid.{Valid}
-use Rattle.judge.specs.Feed.{verdict, verdictIn}
+use Rattle.ranges.proofs.Valid.{Valid}
 use Rattle.sheet.specs.Sheet.{sheetIn}
 use Rattle.sheet.proofs.Short.{section-short}
 use Rattle.sheet.proofs.Written.{sheet-length}
+use Rattle.judge.specs.Feed.{verdict, verdictIn}
 use Rattle.run.specs.Report.{textMost}
 
 -- ---- the line that tells the verdict: no number of it needs more than 64 bits

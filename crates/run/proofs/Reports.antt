@@ -16,12 +16,12 @@ use Rattle.bill.specs.Verdict.{verdictText, reportText}
 use Rattle.rules.specs.Limits.{lastRefusal}
 use Rattle.rules.proofs.Tests.{if-some}
 use Rattle.tables.specs.Entry.{verdictNumber, lineCount, scaleEntry}
-use Rattle.tables.specs.Range.{tableAnswer}
-use Rattle.tables.proofs.Valid.{valid, three-answers}
-use Rattle.judge.specs.Feed.{tables, verdict, verdictIn, verdictOf}
+use Rattle.ranges.specs.Range.{tableAnswer}
+use Rattle.ranges.proofs.Valid.{valid, three-answers}
 use Rattle.sheet.specs.declared.sheet.Printed.{Printed}
 use Rattle.sheet.specs.declared.sheet.Printed.the-variants.{Done, NotPrinted}
 use Rattle.sheet.specs.Sheet.{Sheeted, sheeted, sheetIn, sheetWritten}
+use Rattle.judge.specs.Feed.{tables, verdict, verdictIn, verdictOf}
 use Rattle.run.specs.Report.{reportWritten}
 use Rattle.run.proofs.Behind.{backed, part-all, back-same, back-written, front-written}
 

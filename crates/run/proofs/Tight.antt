@@ -9,11 +9,11 @@ use Rattle.text.proofs.Tight.{unique, ShutsOut, shut-out}
 use Rattle.fields.specs.Part.{partsOf}
 use Rattle.line.specs.Event.{eventReading}
 use Rattle.line.specs.Reading.{hasBreak, isEventLine, readLine}
-use Rattle.rules.specs.PlaceCode.{answerByReading}
+use Rattle.steps.specs.PlaceCode.{answerByReading}
 use Rattle.tables.specs.Entry.{verdictNumber}
-use Rattle.tables.proofs.Zeros.{fresh-answer}
-use Rattle.judge.specs.Feed.{Tables, placeIn, remembered, judgedInPlace, judgedLine, fedLine, freshTables}
+use Rattle.ranges.proofs.FreshTables.{fresh-answer}
 use Rattle.sheet.specs.Sheet.{Sheeted}
+use Rattle.judge.specs.Feed.{Tables, placeIn, remembered, judgedInPlace, judgedLine, fedLine, freshTables}
 use Rattle.run.specs.Chunk.{Turned, chunkTaken, lastTaken}
 use Rattle.run.specs.Report.{reportWritten}
 

@@ -13,7 +13,7 @@ use Rattle.walk.proofs.Chunks.{size, rest-drop}
 use Rattle.rules.specs.Lists.{ifZero}
 use Rattle.rules.proofs.Tests.{if-some}
 use Rattle.tables.specs.Entry.{verdictNumber}
-use Rattle.tables.specs.Range.{tableAnswer}
+use Rattle.ranges.specs.Range.{tableAnswer}
 use Rattle.judge.specs.declared.feed.Fed.{Fed}
 use Rattle.judge.specs.Feed.{Tables, tables, After, fedLine, judgedLines, AfterChunk, chunked, fedChunk}
 use Rattle.run.specs.declared.chunk.Turn.the-variants.{More, Stop}

@@ -7,10 +7,10 @@ use lib.ListN.{length}
 use Rattle.text.specs.Put.{written}
 use Rattle.bill.specs.Verdict.{reportText}
 use Rattle.rules.specs.Lists.{ifZero}
-use Rattle.tables.specs.Range.{tableAnswer}
-use Rattle.judge.specs.Feed.{verdictIn}
+use Rattle.ranges.specs.Range.{tableAnswer}
 use Rattle.sheet.specs.declared.sheet.Printed.the-variants.{Done, NotPrinted}
 use Rattle.sheet.specs.Sheet.{Sheeted, sheeted, sheetIn}
+use Rattle.judge.specs.Feed.{verdictIn}
 
 -- at the front of a lent output, the rest unchanged; refused, nothing is written
 unfoldable pub reportWritten : List ℕ → List ℕ → List ℕ → List ℕ → Sheeted

@@ -14,8 +14,8 @@ use Rattle.bill.specs.Text.{figuresText, rowText, rowsText, sectionText, title}
 use Rattle.bill.proofs.Texts.{length-figure, length-three, length-row, length-section}
 use Rattle.rules.specs.Lists.{keep}
 use Rattle.tables.specs.Entry.{nameCount, kindAt, lengthAt, standingAt, heldAt, idleAt, unknownAt, nameAt}
-use Rattle.tables.proofs.Found.{name-size}
-use Rattle.tables.proofs.Valid.{Valid}
+use Rattle.tables.proofs.NameBytes.{name-size}
+use Rattle.ranges.proofs.Valid.{Valid}
 use Rattle.sheet.specs.Figure.{openAt, heldIn, idleIn, holdsCore, chargeTo, chargeIn}
 use Rattle.sheet.specs.Sheet.{belongs, figuresIn, rowIn, rowsTo, rowsIn}
 use Rattle.sheet.proofs.Rows.{keep-lines}

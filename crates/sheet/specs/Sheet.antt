@@ -13,7 +13,7 @@ use Rattle.rules.specs.Lists.{keep, ifZero}
 use Rattle.rules.specs.Words.{core}
 use Rattle.rules.specs.Charts.{isProcess}
 use Rattle.tables.specs.Entry.{nameCount, kindAt, nameAt, firstTime, lastTime, unknownAt}
-use Rattle.tables.specs.Range.{tableAnswer}
+use Rattle.ranges.specs.Range.{tableAnswer}
 use Rattle.sheet.specs.declared.sheet.Printed.{Printed}
 use Rattle.sheet.specs.declared.sheet.Printed.the-variants.{Done, NotPrinted}
 use Rattle.sheet.specs.Figure.{heldIn, idleIn, chargeIn}

@@ -4,8 +4,8 @@ ghost use Prim.Native.Nat.{_≤_, _<_};
 ghost use lib.ListN.{length};
 ghost use Rattle.tables.specs.Entry.{nameCount, numsSize, ticksSize, nameRows};
 ghost use Rattle.sheet.specs.Figure.{openAt, heldIn, idleIn, holdsCore, chargeIn};
-use rules::numbers::CORE;
 use std::num::wrapping_add_u64;
+use steps::numbers::CORE;
 use tables::entry::*;
 
 // The ticks since the ticks of row i were stored.

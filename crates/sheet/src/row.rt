@@ -5,7 +5,7 @@ ghost use lib.ListN.{length};
 ghost use Rattle.text.specs.Put.{put, after};
 ghost use Rattle.bill.specs.Text.{figuresText, rowText};
 ghost use Rattle.tables.specs.Entry.{nameCount, numsSize, ticksSize, nameRows};
-ghost use Rattle.tables.specs.Range.{tableAnswer};
+ghost use Rattle.ranges.specs.Range.{tableAnswer};
 ghost use Rattle.sheet.specs.Sheet.{figuresIn, rowIn};
 use crate::figure::charge;
 use crate::figure::held_ticks;

@@ -2,8 +2,8 @@
 ghost use mathlib.Core.Path.{_≡_};
 ghost use Rattle.sheet.specs.Sheet.{belongs};
 use bill::section::Section;
-use rules::kind::is_process;
-use rules::numbers::CORE;
+use steps::kind::is_process;
+use steps::numbers::CORE;
 
 // Whether a name of the kind stands in the section.
 pub(crate) fn in_section(section: Section, kind: u32) -> bool

@@ -17,9 +17,9 @@ use Rattle.tables.specs.Entry.{idleCore, Tables, tables, nameRows, instanceRows
 use Rattle.tables.specs.Entry.{lineCount, startedEntry, nameCount, coreCount, instanceCount, firstTime}
 use Rattle.tables.specs.Sized.{Sized}
 use Rattle.tables.proofs.Stores.{other}
-use Rattle.tables.proofs.Valid.{sizes-mean}
-use Rattle.decide.specs.declared.look.LookedUp.{LookedUp}
-use Rattle.decide.specs.Known.{newCore, newName, newInstance}
+use Rattle.tables.proofs.Sizes.{sizes-mean}
+use Rattle.lookup.specs.declared.look.LookedUp.{LookedUp}
+use Rattle.lookup.specs.LookedUp.{newCore, newName, newInstance}
 use Rattle.store.specs.Store.{coreRow, targetRow, instanceRow, storeName, storeRow, storeSums, storeInstance, storeStanding, storeHolder, storeNumber}
 use Rattle.store.specs.Store.{takenNames, withRows, withTarget, withCore, withCounts, takenNums, settled, withTimes, withSums, takenTicks}
 use Rattle.store.specs.Store.{takenTables, stored}

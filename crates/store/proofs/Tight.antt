@@ -8,10 +8,10 @@ use Rattle.rules.specs.Core.{no-core}
 use Rattle.rules.specs.Charts.{isProcess}
 use Rattle.rules.specs.Event.{Event}
 use Rattle.rules.specs.History.{hasInstances, isTracked, activates}
-use Rattle.tables.specs.declared.find.Found.the-variants.{Nothing}
 use Rattle.tables.specs.Entry.{Tables, tables, lineCount}
 use Rattle.tables.specs.Sized.{isSized}
-use Rattle.decide.specs.declared.look.LookedUp.{LookedUp}
+use Rattle.lookup.specs.declared.find.Found.the-variants.{Nothing}
+use Rattle.lookup.specs.declared.look.LookedUp.{LookedUp}
 use Rattle.store.specs.Store.{withRows, withTarget, withCore, withCounts, takenNums, takenTables, stored}
 
 pub take-unique : (t : Tables) (s : LookedUp) (state : ℕ) (e : Event) (x y : Tables) → x ≡ stored t s state e → y ≡ stored t s state e → x ≡ y

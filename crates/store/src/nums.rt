@@ -10,13 +10,13 @@ use crate::entries::store_number;
 use crate::entries::store_row;
 use crate::entries::store_standing;
 use crate::rows::*;
-use decide::look::LookedUp;
 use line::event::Event;
-use rules::kind::numbers_instance;
-use rules::kind::with_instances;
-use rules::lines::kind_number;
-use rules::numbers::*;
+use lookup::look::LookedUp;
 use std::num::wrapping_add_u32;
+use steps::kind::numbers_instance;
+use steps::kind::with_instances;
+use steps::lines::kind_number;
+use steps::numbers::*;
 use tables::entry::*;
 use words::code::action_code;
 

@@ -2,15 +2,15 @@
 ghost use mathlib.Core.Path.{_≡_};
 ghost use lib.ListN.{length};
 ghost use Rattle.tables.specs.Entry.{numsSize};
-ghost use Rattle.decide.specs.Known.{newCore, newName, newInstance};
+ghost use Rattle.lookup.specs.LookedUp.{newCore, newName, newInstance};
 ghost use Rattle.store.specs.Store.{coreRow, targetRow, instanceRow};
-use decide::known::rows_added;
-use decide::look::LookedUp;
-use rules::kind::tracked;
-use rules::kind::with_instances;
-use rules::numbers::NO_CORE;
+use lookup::find::Found;
+use lookup::look::LookedUp;
+use lookup::look::rows_added;
+use steps::kind::tracked;
+use steps::kind::with_instances;
+use steps::numbers::NO_CORE;
 use tables::entry::*;
-use tables::find::Found;
 
 // 1 where the line's core, target or instance is new.
 pub(crate) fn new_core(s: LookedUp) -> u32

@@ -11,11 +11,11 @@ use crate::rows::new_core;
 use crate::rows::new_name;
 use crate::rows::target_row;
 use crate::ticks::take_ticks;
-use decide::look::LookedUp;
 use line::event::Event;
-use rules::lines::kind_number;
+use lookup::look::LookedUp;
+use steps::lines::kind_number;
 use tables::entry::*;
-use tables::range::sized;
+use tables::size::sized;
 
 // The bytes of the names that the line adds.
 fn take_names(names: &mut [u8], nums: &[u32], s: LookedUp, kind: u32, source: &[u8], target: &[u8])

@@ -11,9 +11,9 @@ use crate::rows::core_row;
 use crate::rows::new_core;
 use crate::rows::new_name;
 use crate::rows::target_row;
-use decide::look::LookedUp;
-use rules::numbers::*;
+use lookup::look::LookedUp;
 use std::num::wrapping_add_u64;
+use steps::numbers::*;
 use tables::entry::*;
 
 // How much later a time is than another, 0 where it is not.

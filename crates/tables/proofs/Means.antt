@@ -5,8 +5,7 @@ use Prim.Native.Nat.{ℕ, _≤_, _<_}
 use lib.Dec.{leb, ltb, eqb}
 use borrow.Author.Tests.{le-leb, leb-true, lt-ltb, ltb-true, eq-eqb, eqb-true}
 use Rattle.text.proofs.Bools.{and-l, and-r, is-false}
-use Rattle.tables.specs.Range.{upTo}
-use Rattle.tables.proofs.Chains.{pass, up-each, up-all}
+use Rattle.tables.proofs.Chains.{pass}
 
 pub record Means (t : Bool) (P : Type 0) : Type 0 where
   pub holds : t ≡ true → P
@@ -30,9 +29,6 @@ means-and {t} {r} m n =
       holds = λ e. (m .holds (and-l t r e), n .holds (and-r t r e));
       shows = λ p. sym (pass (m .shows (p .0)) (sym (n .shows (p .1))));
     }
-
-pub means-up : {f : ℕ → Bool} {P : ℕ → Type 0} (n : ℕ) → ((k : ℕ) → Means (f k) (P k)) → Means (upTo f n) ((k : ℕ) → k < n → P k)
-means-up {f} n m = record { holds = λ e k h. m k .holds (up-each f n e k h); shows = λ p. up-all f n (λ k h. m k .shows (p k h)) }
 
 -- the same statement in another form
 pub means-as : {t : Bool} {P Q : Type 0} → Means t P → (P → Q) → (Q → P) → Means t Q

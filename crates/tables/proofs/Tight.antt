@@ -6,19 +6,10 @@ use Prim.Native.Nat.{ℕ}
 use lib.Dec.{eqb}
 use lib.ListN.{length, getD, replicate, length-replicate}
 use Rattle.text.proofs.Tight.{unique, ShutsOut, shut-out}
-use Rattle.tables.specs.declared.find.Found.{Found}
 use Rattle.tables.specs.Entry.{namesSize, numsSize, ticksSize}
-use Rattle.tables.specs.Find.{findName, findInstance}
 use Rattle.tables.specs.Sized.{isSized}
-use Rattle.tables.specs.Range.{tableAnswer}
 use Rattle.tables.specs.Fresh.{Cleared, cleared, clearedOf}
-use Rattle.tables.proofs.Valid.{sizes-mean}
-
-pub find-name-unique : (names nums name : List ℕ) (x y : Found) → x ≡ findName names nums name → y ≡ findName names nums name → x ≡ y
-find-name-unique names nums = unique (findName names nums)
-
-pub find-instance-unique : (nums : List ℕ) (owner number : ℕ) (x y : Found) → x ≡ findInstance nums owner number → y ≡ findInstance nums owner number → x ≡ y
-find-instance-unique nums owner = unique (findInstance nums owner)
+use Rattle.tables.proofs.Sizes.{sizes-mean}
 
 pub sized-unique : (names nums ticks : ℕ) (x y : Bool) → x ≡ isSized names nums ticks → y ≡ isSized names nums ticks → x ≡ y
 sized-unique names nums = unique (isSized names nums)
@@ -27,9 +18,6 @@ sized-unique names nums = unique (isSized names nums)
 pub sized-not-alike : ShutsOut {A = ℕ × ℕ × ℕ} (λ (names, nums, ticks). isSized names nums ticks) (λ (names, nums, ticks). eqb names nums && eqb nums ticks)
 unfolding isSized
 sized-not-alike = shut-out not (0, 0, 0) refl refl
-
-pub table-answer-unique : (names nums ticks : List ℕ) (x y : ℕ) → x ≡ tableAnswer names nums ticks → y ≡ tableAnswer names nums ticks → x ≡ y
-table-answer-unique names nums = unique (tableAnswer names nums)
 
 -- ---- `fresh`
 

@@ -1,4 +1,4 @@
--- A fresh start: the loop that zeroes a table, tables of zeros are valid, and what `fresh` answers.
+-- A fresh start: the loop that zeroes a table, tables of zeros, and what `fresh` answers.
 use mathlib.Core.Path.{_≡_, refl, ap, _∙_}
 use mathlib.Core.Bool.{Bool, true, false, cond}
 use mathlib.Core.List.{List, _++_, append-nil}
@@ -8,12 +8,10 @@ use native.Mathlib.Omega.{arith}
 use lib.ListN.{length, getD, set, drop, replicate, length-set, length-replicate}
 use lib.Seq.{drop-length}
 use borrow.Author.Fill.{fill-none, fill-more}
-use Rattle.tables.specs.Entry.{verdictIndex, verdictLineIndex, linesIndex, scaleIndex, creatorIndex, dateIndex, startedIndex, namesIndex, coresIndex, instancesIndex}
-use Rattle.tables.specs.Entry.{firstIndex, lastIndex, namesSize, numsSize, ticksSize}
-use Rattle.tables.specs.Sized.{Sized, isSized}
-use Rattle.tables.specs.Range.{tableAnswer}
+use Rattle.tables.specs.Entry.{namesSize, numsSize, ticksSize}
+use Rattle.tables.specs.Sized.{isSized}
 use Rattle.tables.specs.Fresh.{Cleared, cleared, clearedOf}
-use Rattle.tables.proofs.Valid.{Valid, sizes-mean, answers}
+use Rattle.tables.proofs.Sizes.{sizes-mean}
 
 -- ---- the loop: the first i entries of d are 0, the rest are as they were
 
@@ -43,43 +41,13 @@ zero-all {d} {s} {i} z h =
 abbrev pub zeros : ℕ → List ℕ
 zeros n = replicate n 0
 
-entry-zero : (n i : ℕ) → getD (zeros n) i 0 ≡ 0
+pub entry-zero : (n i : ℕ) → getD (zeros n) i 0 ≡ 0
 entry-zero zero i = refl
 entry-zero (suc n) zero = refl
 entry-zero (suc n) (suc i) = entry-zero n i
 
-length-zeros : (n : ℕ) → length (zeros n) ≡ n
+pub length-zeros : (n : ℕ) → length (zeros n) ≡ n
 length-zeros n = length-replicate n 0
-
-zeros-valid : (names nums ticks : List ℕ) → Sized names nums ticks → ((i : ℕ) → getD nums i 0 ≡ 0) → ((i : ℕ) → getD ticks i 0 ≡ 0) → Valid names nums ticks
-zeros-valid names nums ticks s n t =
-    record {
-      sizes = s;
-      verdict = omega (arith, n verdictIndex);
-      verdict-line = omega (arith, n verdictLineIndex);
-      lines = omega (arith, n linesIndex);
-      scale = omega (arith, n scaleIndex);
-      creator = omega (arith, n creatorIndex);
-      date = omega (arith, n dateIndex);
-      started = omega (arith, n startedIndex);
-      name-count = omega (arith, n namesIndex);
-      core-count = omega (arith, n coresIndex);
-      instance-count = omega (arith, n instancesIndex);
-      last-time = omega (arith, t lastIndex);
-      first-time = omega (arith, t firstIndex);
-      name-row = λ i h. absurd (omega (arith, n namesIndex));
-      instance-row = λ j h. absurd (omega (arith, n instancesIndex));
-    }
-
-pub fresh-valid : Valid (zeros namesSize) (zeros numsSize) (zeros ticksSize)
-fresh-valid =
-    zeros-valid (zeros namesSize) (zeros numsSize) (zeros ticksSize)
-    (record { names-size = length-zeros namesSize; nums-size = length-zeros numsSize; ticks-size = length-zeros ticksSize })
-    (entry-zero numsSize)
-    (entry-zero ticksSize)
-
-pub fresh-answer : tableAnswer (zeros namesSize) (zeros numsSize) (zeros ticksSize) ≡ 0
-fresh-answer = answers (zeros namesSize) (zeros numsSize) (zeros ticksSize) fresh-valid
 
 -- ---- what `fresh` answers: 0 and tables of zeros, or 15 and the tables as they were
 
@@ -105,6 +73,3 @@ module _ (names nums ticks : List ℕ) where
 
   pub clear-kept : clearedOf names nums ticks .answer ≡ 15 → clearedOf names nums ticks ≡ cleared 15 names nums ticks
   clear-kept e = ⊎-elim (λ z. absurd (omega (arith, ap (λ (c : Cleared). c .answer) z))) (λ z. z) clear-answers
-
-  pub clear-valid : clearedOf names nums ticks .answer ≡ 0 → Valid (clearedOf names nums ticks .names) (clearedOf names nums ticks .nums) (clearedOf names nums ticks .ticks)
-  clear-valid e = ⊎-elim (λ z. rw z fresh-valid) (λ z. absurd (omega (arith, ap (λ (c : Cleared). c .answer) z))) clear-answers

@@ -5,8 +5,8 @@ use borrow.Author.Needs.{needs}
 use borrow.Author.Tests.{lt-ltb, le-ltb}
 use Rattle.rules.specs.Limits.{nameLimit, coreLimit}
 use Rattle.tables.specs.Entry.{namesIndex, coresIndex, instancesIndex}
+use Rattle.lookup.proofs.Added.{one-at-most, one-core}
 use Rattle.decide.specs.PlanCode.{noRoomIn}
-use Rattle.decide.proofs.Counts.{one-at-most, one-core}
 use Rattle.decide.proofs.names.no_room.Statement.{statement}
 use Rattle.decide.proofs.names.no_room.Tie as tie
 

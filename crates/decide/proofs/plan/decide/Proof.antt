@@ -1,7 +1,7 @@
 -- `decide::plan::decide` meets its contract: 15 by the sizes, else what tables of the right sizes say.
 use borrow.Author.Needs.{needs}
 use Rattle.tables.proofs.Chains.{passed, failed}
-use Rattle.tables.proofs.Valid.{sizes-mean}
+use Rattle.tables.proofs.Sizes.{sizes-mean}
 use Rattle.decide.specs.Decide.{decided}
 use Rattle.decide.proofs.plan.decide.Statement.{statement}
 use Rattle.decide.proofs.plan.decide.Tie as tie

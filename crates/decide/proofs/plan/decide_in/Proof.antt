@@ -4,7 +4,7 @@ use mathlib.Core.Path.{_≡_, ap, _∙_}
 use Prim.Native.Nat.{ℕ}
 use Rattle.rules.specs.Event.{Event}
 use Rattle.rules.specs.Lines.{eventFrom}
-use Rattle.decide.specs.LookedUp.{lookedUp}
+use Rattle.lookup.specs.LookedUp.{lookedUp}
 use Rattle.decide.specs.Decide.{planOf}
 use Rattle.decide.specs.PlanCode.{testsPlan}
 use Rattle.decide.proofs.Plans.{tests-decide}

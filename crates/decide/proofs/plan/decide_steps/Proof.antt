@@ -2,8 +2,8 @@
 use borrow.Author.Needs.{needs}
 use mathlib.Core.Path.{_≡_, sym, _∙_}
 use Rattle.rules.specs.Charts.{chartOf}
-use Rattle.rules.specs.Rows.{moveBy}
-use Rattle.rules.specs.declared.chart.Move.the-variants.{To}
+use Rattle.steps.specs.Rows.{moveBy}
+use Rattle.steps.specs.declared.chart.Move.the-variants.{To}
 use Rattle.decide.specs.Known.{stateIn}
 use Rattle.decide.specs.PlanCode.{stepsPlan}
 use Rattle.decide.proofs.plan.decide_steps.Statement.{statement}

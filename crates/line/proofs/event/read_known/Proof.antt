@@ -1,8 +1,8 @@
 -- `line::event::read_known` meets its contract: the note's form, then the rules.
 use mathlib.Core.Path.{_≡_, sym, _∙_}
 use borrow.Author.Needs.{needs}
-use Rattle.line.specs.declared.note.Note.the-variants.{Means}
-use Rattle.line.specs.Note.{noteOf}
+use Rattle.forms.specs.declared.note.Note.the-variants.{Means}
+use Rattle.forms.specs.Note.{noteOf}
 use Rattle.line.specs.Event.{knownReading}
 use Rattle.line.proofs.event.read_known.Statement.{statement}
 use Rattle.line.proofs.event.read_known.Tie as tie

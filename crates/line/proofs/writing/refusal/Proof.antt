@@ -5,8 +5,8 @@ use native.Mathlib.Omega.{arith}
 use borrow.Author.Needs.{needs}
 use borrow.Author.Tests.{not-true, not-false}
 use Rattle.words.specs.Action.{isOf}
-use Rattle.line.specs.Note.{noteOf, isWrong}
-use Rattle.line.specs.Rule.{ruleBroken}
+use Rattle.forms.specs.Note.{noteOf, isWrong}
+use Rattle.forms.specs.Rule.{ruleBroken}
 use Rattle.line.specs.Writing.{hasSizes, recordRefusal}
 use Rattle.line.proofs.Texts.{refusedBy, record-refusal}
 use Rattle.line.proofs.writing.refusal.Statement.{statement}

@@ -11,8 +11,8 @@ use Rattle.bill.specs.Rows.{Row}
 use Rattle.bill.specs.Text.{figuresText, rowText}
 use Rattle.tables.specs.Entry.{nameRows, nameRoom, nameCount, lengthAt}
 use Rattle.tables.specs.Sized.{Sized}
-use Rattle.tables.proofs.Found.{lent-name}
-use Rattle.tables.proofs.Valid.{valid}
+use Rattle.tables.proofs.NameBytes.{lent-name}
+use Rattle.ranges.proofs.Valid.{valid}
 use Rattle.sheet.specs.Sheet.{rowIn}
 use Rattle.sheet.proofs.row.put_row.Statement.{statement}
 use Rattle.sheet.proofs.row.put_row.Tie as tie

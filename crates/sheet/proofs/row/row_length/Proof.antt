@@ -8,7 +8,7 @@ use Rattle.bill.specs.Rows.{Row}
 use Rattle.bill.specs.Text.{rowText}
 use Rattle.bill.proofs.Texts.{length-row}
 use Rattle.tables.specs.Entry.{lengthColumn, lengthAt}
-use Rattle.tables.proofs.Valid.{Valid, valid}
+use Rattle.ranges.proofs.Valid.{Valid, valid}
 use Rattle.sheet.specs.Sheet.{rowIn}
 use Rattle.sheet.proofs.Short.{name-sized, row-short}
 use Rattle.sheet.proofs.row.row_length.Statement.{statement}

@@ -10,7 +10,7 @@ use Rattle.text.proofs.Writes.{put-length}
 use Rattle.line.proofs.Texts.{put-none}
 use Rattle.bill.specs.Text.{rowsText}
 use Rattle.tables.specs.Entry.{nameRows, numsSize, namesIndex, nameCount}
-use Rattle.tables.proofs.Valid.{valid}
+use Rattle.ranges.proofs.Valid.{valid}
 use Rattle.sheet.specs.Sheet.{rowsTo, rowsIn}
 use Rattle.sheet.proofs.Rows.{row-out, line-room, line-put}
 use Rattle.sheet.proofs.sheet.put_rows.Statement.{statement}

@@ -6,7 +6,7 @@ use native.Mathlib.Omega.{arith}
 use borrow.Author.Needs.{needs}
 use lib.ListN.{length}
 use Rattle.tables.specs.Entry.{nameRows, numsSize, namesIndex, nameCount}
-use Rattle.tables.proofs.Valid.{valid}
+use Rattle.ranges.proofs.Valid.{valid}
 use Rattle.sheet.specs.Sheet.{rowsTo, rowsIn}
 use Rattle.sheet.proofs.Rows.{count-in, row-out}
 use Rattle.sheet.proofs.Short.{rows-few}

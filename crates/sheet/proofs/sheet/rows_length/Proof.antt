@@ -8,7 +8,7 @@ use borrow.Author.Needs.{needs}
 use lib.ListN.{length}
 use Rattle.bill.specs.Text.{rowsText}
 use Rattle.tables.specs.Entry.{nameRows, numsSize, namesIndex, nameCount}
-use Rattle.tables.proofs.Valid.{valid}
+use Rattle.ranges.proofs.Valid.{valid}
 use Rattle.sheet.specs.Sheet.{rowsTo, rowsIn}
 use Rattle.sheet.proofs.Rows.{length-in, row-out}
 use Rattle.sheet.proofs.Short.{row-short, rows-short}

@@ -10,7 +10,7 @@ use Rattle.text.specs.Number.{digitsOf}
 use Rattle.bill.specs.Rows.{Row}
 use Rattle.bill.specs.Text.{sectionText, title}
 use Rattle.bill.proofs.Texts.{length-section}
-use Rattle.tables.proofs.Valid.{valid}
+use Rattle.ranges.proofs.Valid.{valid}
 use Rattle.sheet.specs.Sheet.{rowsIn}
 use Rattle.sheet.proofs.Short.{section-short}
 use Rattle.sheet.proofs.sheet.section_length.Statement.{statement}

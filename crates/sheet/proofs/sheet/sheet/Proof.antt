@@ -10,8 +10,8 @@ use Rattle.line.proofs.Texts.{Room, first-room, next-room}
 use Rattle.bill.specs.declared.section.Section.{Section}
 use Rattle.bill.specs.declared.section.Section.the-variants.{Cores, Processes}
 use Rattle.bill.specs.Text.{sheetText}
-use Rattle.tables.specs.Range.{tableAnswer}
-use Rattle.tables.proofs.Valid.{valid}
+use Rattle.ranges.specs.Range.{tableAnswer}
+use Rattle.ranges.proofs.Valid.{valid}
 use Rattle.sheet.specs.Sheet.{sheetIn}
 use Rattle.sheet.proofs.Short.{section-short}
 use Rattle.sheet.proofs.Written.{sectionIn, sheet-length, sheet-room, sheet-put, sheet-refused, sheet-full, sheet-done}

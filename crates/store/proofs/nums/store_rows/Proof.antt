@@ -10,7 +10,7 @@ use lib.ListN.{length}
 use borrow.Author.Needs.{needs}
 use Rattle.rules.specs.Words.{core}
 use Rattle.tables.specs.Entry.{namesIndex, nameCount}
-use Rattle.decide.specs.Known.{newCore}
+use Rattle.lookup.specs.LookedUp.{newCore}
 use Rattle.store.specs.Store.{storeRow, withRows}
 use Rattle.store.proofs.Stores.{made, unmade, made-next, length-storeRow, length-withRows}
 use Rattle.store.proofs.nums.store_rows.Statement.{statement}

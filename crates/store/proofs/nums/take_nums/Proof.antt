@@ -2,7 +2,7 @@
 use native.Mathlib.Omega.{arith}
 use borrow.Author.Needs.{needs}
 use Rattle.rules.specs.History.{isTracked}
-use Rattle.decide.proofs.Counts.{one-at-most, one-core}
+use Rattle.lookup.proofs.Added.{one-at-most, one-core}
 use Rattle.store.proofs.Stores.{nums-taken}
 use Rattle.store.proofs.nums.take_nums.Statement.{statement}
 use Rattle.store.proofs.nums.take_nums.Tie as tie

@@ -1,7 +1,7 @@
 -- `store::rows::new_core` meets its contract: the number fits, since it is 0 or 1.
 use native.Mathlib.Omega.{arith}
 use borrow.Author.Needs.{needs}
-use Rattle.decide.proofs.Counts.{one-core}
+use Rattle.lookup.proofs.Added.{one-core}
 use Rattle.store.proofs.rows.new_core.Statement.{statement}
 use Rattle.store.proofs.rows.new_core.Tie as tie
 

@@ -1,7 +1,7 @@
 -- `store::rows::new_instance` meets its contract: the number fits, since it is 0 or 1.
 use native.Mathlib.Omega.{arith}
 use borrow.Author.Needs.{needs}
-use Rattle.decide.proofs.Counts.{one-at-most}
+use Rattle.lookup.proofs.Added.{one-at-most}
 use Rattle.store.proofs.rows.new_instance.Statement.{statement}
 use Rattle.store.proofs.rows.new_instance.Tie as tie
 

@@ -2,7 +2,7 @@
 use native.Mathlib.Omega.{arith}
 use borrow.Author.Needs.{needs}
 use Rattle.tables.specs.Entry.{namesIndex}
-use Rattle.decide.proofs.Counts.{one-core}
+use Rattle.lookup.proofs.Added.{one-core}
 use Rattle.store.specs.Store.{targetRow}
 use Rattle.store.proofs.rows.target_row.Statement.{statement}
 use Rattle.store.proofs.rows.target_row.Tie as tie

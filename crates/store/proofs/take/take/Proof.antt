@@ -1,7 +1,7 @@
 -- `store::take::take` meets its contract: nothing by the sizes, else what is stored in tables of the right sizes.
 use borrow.Author.Needs.{needs}
 use Rattle.tables.proofs.Chains.{passed, failed}
-use Rattle.tables.proofs.Valid.{sizes-mean}
+use Rattle.tables.proofs.Sizes.{sizes-mean}
 use Rattle.store.specs.Store.{stored}
 use Rattle.store.proofs.take.take.Statement.{statement}
 use Rattle.store.proofs.take.take.Tie as tie

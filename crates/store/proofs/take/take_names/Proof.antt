@@ -9,7 +9,7 @@ use lib.Dec.{eqb}
 use lib.ListN.{length}
 use borrow.Author.Needs.{needs}
 use Rattle.tables.specs.Entry.{namesIndex, nameCount}
-use Rattle.decide.specs.Known.{newCore}
+use Rattle.lookup.specs.LookedUp.{newCore}
 use Rattle.store.specs.Store.{storeName, takenNames}
 use Rattle.store.proofs.Stores.{made, unmade, made-next, length-storeName, length-takenNames}
 use Rattle.store.proofs.take.take_names.Statement.{statement}

@@ -9,7 +9,7 @@ use lib.Dec.{eqb}
 use lib.ListN.{length}
 use borrow.Author.Needs.{needs}
 use Rattle.tables.specs.Entry.{namesIndex, nameCount, startedEntry, firstTime}
-use Rattle.decide.specs.Known.{newCore}
+use Rattle.lookup.specs.LookedUp.{newCore}
 use Rattle.store.specs.Store.{storeSums, withSums}
 use Rattle.store.proofs.Stores.{made, unmade, made-next, length-storeSums, length-withSums}
 use Rattle.store.proofs.ticks.store_all_sums.Statement.{statement}

@@ -1,8 +1,0 @@
--- `line::rule::target_broken` meets its contract: its tests are the definition's.
-use Rattle.line.specs.Rule.{targetBroken}
-use Rattle.line.proofs.rule.target_broken.Statement.{statement}
-use Rattle.line.proofs.rule.target_broken.Tie as tie
-
-pub target-broken-spec : {M : Type 1} → statement M
-unfolding targetBroken
-target-broken-spec = tie.close (tie.spec (λ c κs. tt) (λ c. rw (c .zero-target .ensures)))

@@ -1,0 +1,163 @@
+-- What the look-ups find, for any test: the first number that passes, the last number that passes; and what the tests of a row mean.
+use mathlib.Core.Path.{_≡_, refl, sym, ap, subst, _∙_}
+use mathlib.Core.Bool.{Bool, true, false, not, _&&_, _||_, cond, and-false}
+use mathlib.Core.List.{List}
+use mathlib.Core.Logic.{⊎-elim}
+use Prim.Native.Nat.{ℕ, zero, suc, _+_, _-_, _*_, _≤_, _<_}
+use native.Mathlib.Nat.{not-suc-le-zero, le-of-suc-le-suc, eq-or-lt-of-le}
+use native.Mathlib.Numerals.{add-one}
+use native.Mathlib.Omega.{arith}
+use lib.Dec.{eqb, ltb}
+use lib.ListN.{length, getD, drop}
+use lib.Seq.{getD-take, getD-drop}
+use borrow.Author.Tests.{eq-eqb, eqb-false, not-true}
+use Rattle.text.specs.Bytes.{sameBytes}
+use Rattle.text.proofs.Bools.{is-false, or-l, or-r}
+use Rattle.text.proofs.Words.{same-eq, eq-same}
+use Rattle.tables.specs.Entry.{nameRows, instanceRows, nameRoom, namesSize, numsSize, nameCount, lengthAt, nameAt, instanceCount, ownerAt, instanceAt}
+use Rattle.tables.proofs.Means.{Means, means-le, means-lt, means-eq, means-and}
+use Rattle.tables.proofs.NameBytes.{name-size}
+use Rattle.lookup.specs.declared.find.Found.{Found}
+use Rattle.lookup.specs.declared.find.Found.the-variants.{At, Nothing}
+use Rattle.lookup.specs.Find.{firstFrom, lastBelow, rowIs, findName, instanceIs, findInstance}
+
+-- what a search says: the number found is the first that passes of n from i on, or none of them passes
+abbrev First : (ℕ → Bool) → ℕ → ℕ → Found → Type 0
+First f i n (At k) = (i ≤ k) × (k < i + n) × (f k ≡ true) × ((m : ℕ) → i ≤ m → m < k → f m ≡ false)
+First f i n Nothing = (m : ℕ) → i ≤ m → m < i + n → f m ≡ false
+
+-- the number found is the last that passes below n, or none does
+abbrev Last : (ℕ → Bool) → ℕ → Found → Type 0
+Last f n (At k) = (k < n) × (f k ≡ true) × ((m : ℕ) → k < m → m < n → f m ≡ false)
+Last f n Nothing = (m : ℕ) → m < n → f m ≡ false
+
+module _ (f : ℕ → Bool) where
+  -- ---- the steps of a search, as code takes them
+
+  less : (i n : ℕ) → i < n → n - i ≡ suc (n - (i + 1))
+  less i n h = omega arith
+
+  pub first-hit : (i n : ℕ) → i < n → f i ≡ true → firstFrom f i (n - i) ≡ At i
+  unfolding firstFrom
+  first-hit i n h e = rw (less i n h, firstFrom, e)
+
+  pub first-miss : (i n : ℕ) → i < n → f i ≡ false → firstFrom f i (n - i) ≡ firstFrom f (i + 1) (n - (i + 1))
+  unfolding firstFrom
+  first-miss i n h e = rw (less i n h, firstFrom, e) (ap (λ k. firstFrom f k (n - (i + 1))) (sym (add-one i)))
+
+  pub first-end : (i n : ℕ) → n ≤ i → firstFrom f i (n - i) ≡ Nothing
+  unfolding firstFrom
+  first-end i n h = let e : n - i ≡ 0 = omega arith in rw (e, firstFrom)
+
+  back : (n : ℕ) → 0 < n → n ≡ suc (n - 1)
+  back n h = omega arith
+
+  pub last-hit : (n : ℕ) → 0 < n → f (n - 1) ≡ true → lastBelow f n ≡ At (n - 1)
+  unfolding lastBelow
+  last-hit n h e = ap (lastBelow f) (back n h) ∙ rw (lastBelow, e)
+
+  pub last-miss : (n : ℕ) → 0 < n → f (n - 1) ≡ false → lastBelow f n ≡ lastBelow f (n - 1)
+  unfolding lastBelow
+  last-miss n h e = ap (lastBelow f) (back n h) ∙ rw (lastBelow, e)
+
+  pub last-end : (n : ℕ) → n ≤ 0 → lastBelow f n ≡ Nothing
+  unfolding lastBelow
+  last-end n h = let e : n ≡ 0 = omega arith in rw (e, lastBelow)
+
+  -- ---- rows looked at together: where none of them passes, the last that passes is the last below them
+
+  pub gather-start : (from : ℕ) → lastBelow f (from + 0) ≡ lastBelow f from
+  gather-start from = let e : from + 0 ≡ from = omega arith in rw e
+
+  pub gather-turn : (from k : ℕ) (have test : Bool) → (test ≡ false → f (from + k) ≡ false) → (have ≡ false → lastBelow f (from + k) ≡ lastBelow f from)
+      → have || test ≡ false → lastBelow f (from + (k + 1)) ≡ lastBelow f from
+  gather-turn from k have test other so e =
+      let n : (from + (k + 1)) - 1 ≡ from + k = omega arith in
+      last-miss (from + (k + 1)) (omega arith) (rw n (other (or-r have test e))) ∙ rw n (so (or-l have test e))
+
+  -- ---- what was found
+
+  first-step : (b : Bool) (i n : ℕ) (r : Found) → f i ≡ b → First f (suc i) n r → First f i (suc n) (cond b (At i) r)
+  first-step true i n r e h = (omega arith, omega arith, e, λ m lo hi. absurd (omega arith))
+  first-step false i n (At k) e h = (omega arith, omega arith, h .2, λ m lo hi. ⊎-elim (λ q. rw q at e) (λ l. h .3 m l hi) (eq-or-lt-of-le lo))
+  first-step false i n Nothing e h = λ m lo hi. ⊎-elim (λ q. rw q at e) (λ l. h m l (omega arith)) (eq-or-lt-of-le lo)
+
+  first : (i n : ℕ) → First f i n (firstFrom f i n)
+  unfolding firstFrom
+  first i zero = λ m lo hi. absurd (omega arith)
+  first i (suc n) = first-step (f i) i n (firstFrom f (suc i) n) refl (first (suc i) n)
+
+  pub first-at : (n i : ℕ) → firstFrom f 0 n ≡ At i → (i < n) × (f i ≡ true) × ((k : ℕ) → k < i → f k ≡ false)
+  first-at n i e = let r = subst (First f 0 n) e (first 0 n) in (omega arith, r .2, λ k h. r .3 k (omega arith) h)
+
+  pub first-none : (n : ℕ) → firstFrom f 0 n ≡ Nothing → (k : ℕ) → k < n → f k ≡ false
+  first-none n e k h = subst (First f 0 n) e (first 0 n) k (omega arith) (omega arith)
+
+  last-step : (b : Bool) (n : ℕ) (r : Found) → f n ≡ b → Last f n r → Last f (suc n) (cond b (At n) r)
+  last-step true n r e h = (omega arith, e, λ m lo hi. absurd (omega arith))
+  last-step false n (At k) e h = (omega arith, h .1, λ m lo hi. ⊎-elim (λ q. rw q e) (λ l. h .2 m lo l) (eq-or-lt-of-le (le-of-suc-le-suc hi)))
+  last-step false n Nothing e h = λ m hi. ⊎-elim (λ q. rw q e) (λ l. h m l) (eq-or-lt-of-le (le-of-suc-le-suc hi))
+
+  last : (n : ℕ) → Last f n (lastBelow f n)
+  unfolding lastBelow
+  last zero = λ m hi. absurd (not-suc-le-zero hi)
+  last (suc n) = last-step (f n) n (lastBelow f n) refl (last n)
+
+  pub last-at : (n i : ℕ) → lastBelow f n ≡ At i → (i < n) × (f i ≡ true) × ((k : ℕ) → i < k → k < n → f k ≡ false)
+  last-at n i e = subst (Last f n) e (last n)
+
+  pub last-none : (n : ℕ) → lastBelow f n ≡ Nothing → (k : ℕ) → k < n → f k ≡ false
+  last-none n e = subst (Last f n) e (last n)
+
+-- ---- the two look-ups, in tables of their sizes
+
+pub name-found : (names nums name : List ℕ) → length names ≡ namesSize → length nums ≡ numsSize → findName names nums name ≡ firstFrom (rowIs names nums name) 0 (nameCount nums)
+unfolding findName
+name-found names nums name h k = rw (eq-eqb (length names) namesSize h, eq-eqb (length nums) numsSize k)
+
+pub instance-found : (nums : List ℕ) (owner number : ℕ) → length nums ≡ numsSize → findInstance nums owner number ≡ lastBelow (instanceIs nums owner number) (instanceCount nums)
+unfolding findInstance
+instance-found nums owner number h = rw (eq-eqb (length nums) numsSize h)
+
+-- ---- what the tests of a row mean
+
+means-same : (s t : List ℕ) → Means (sameBytes s t) (s ≡ t)
+means-same s t = record { holds = same-eq s t; shows = eq-same s t }
+
+pub row-means : (names nums name : List ℕ) (i : ℕ)
+    → Means (rowIs names nums name i) ((i < nameRows) × ((lengthAt nums i ≡ length name) × ((lengthAt nums i ≤ nameRoom) × (nameAt names nums i ≡ name))))
+unfolding rowIs
+row-means names nums name i =
+    means-and (means-lt i nameRows) (means-and (means-eq (lengthAt nums i) (length name)) (means-and (means-le (lengthAt nums i) nameRoom) (means-same (nameAt names nums i) name)))
+
+pub row-name : (names nums name : List ℕ) (i : ℕ) → rowIs names nums name i ≡ true → nameAt names nums i ≡ name
+row-name names nums name i e = row-means names nums name i .holds e .1 .1 .1
+
+-- a row with another byte at an index of the name does not hold it, however long it is
+pub other-name : (names name : List ℕ) (i j : ℕ) → j < length name → (getD names (nameRoom * i + j) 0 ≡ getD name j 0 → ⊥) → (nums : List ℕ) → rowIs names nums name i ≡ false
+other-name names name i j h other nums =
+    is-false (rowIs names nums name i) (λ e.
+    let m = row-means names nums name i .holds e in
+    let l : j < lengthAt nums i = omega (arith, m .1 .0) in
+    other (sym (getD-drop (nameRoom * i) names j 0) ∙ sym (getD-take (lengthAt nums i) (drop (nameRoom * i) names) j 0 l) ∙ ap (λ (s : List ℕ). getD s j 0) (m .1 .1 .1)))
+
+-- bytes compared together: where two of them differ, the row does not hold the name
+pub differ-turn : (names name : List ℕ) (i n at k : ℕ) (differ : Bool) → at ≡ nameRoom * i + n → n + k < length name
+    → (differ ≡ true → (nums : List ℕ) → rowIs names nums name i ≡ false)
+    → differ || not (eqb (getD names (at + k) 0) (getD name (n + k) 0)) ≡ true → (nums : List ℕ) → rowIs names nums name i ≡ false
+differ-turn names name i n at k true a h so e nums = so refl nums
+differ-turn names name i n at k false a h so e nums =
+    let j : at + k ≡ nameRoom * i + (n + k) = omega arith in
+    other-name names name i (n + k) h (eqb-false _ _ (not-true _ (rw j at e))) nums
+
+pub name-row : (names nums name : List ℕ) (i : ℕ) → length names ≡ namesSize → i < nameRows → lengthAt nums i ≤ nameRoom → nameAt names nums i ≡ name → rowIs names nums name i ≡ true
+name-row names nums name i s h k e = row-means names nums name i .shows (h, (sym (name-size names nums i s h k) ∙ ap length e, (k, e)))
+
+pub instance-means : (nums : List ℕ) (owner number j : ℕ) → Means (instanceIs nums owner number j) ((j < instanceRows) × ((instanceAt nums j ≡ number) × (ownerAt nums j ≡ owner)))
+unfolding instanceIs
+instance-means nums owner number j = means-and (means-lt j instanceRows) (means-and (means-eq (instanceAt nums j) number) (means-eq (ownerAt nums j) owner))
+
+-- a row whose number or owner is another is not that instance
+pub other-instance : (nums : List ℕ) (owner number j : ℕ) → eqb (instanceAt nums j) number && eqb (ownerAt nums j) owner ≡ false → instanceIs nums owner number j ≡ false
+unfolding instanceIs
+other-instance nums owner number j e = rw e (and-false (ltb j instanceRows))

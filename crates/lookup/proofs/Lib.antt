@@ -1,0 +1,4 @@
+-- The laws of the look-ups, which the proofs of this crate and of the crates above it cite.
+pub mod Found
+pub mod Added
+pub mod Tight

@@ -1,0 +1,2 @@
+-- The ranges of the lent tables' entries, 16.
+pub mod Range

@@ -1,0 +1,3 @@
+// 15 and 16: in come three lent tables as they are; out goes whether they have their sizes and every entry is in its range.
+pub mod range;
+pub mod state;

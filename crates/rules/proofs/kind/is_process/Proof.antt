@@ -1,9 +1,0 @@
--- `rules::kind::is_process` meets its contract: its tests are the definition's.
-use mathlib.Core.Path.{refl}
-use Rattle.rules.specs.Charts.{isProcess}
-use Rattle.rules.proofs.kind.is_process.Statement.{statement}
-use Rattle.rules.proofs.kind.is_process.Tie as tie
-
-pub is-process-spec : {M : Type 1} → statement M
-unfolding isProcess
-is-process-spec = tie.close (tie.spec (λ c. refl))

@@ -1,8 +1,0 @@
--- `rules::kind::tracked` meets its contract: its tests are the definition's.
-use Rattle.rules.specs.History.{isTracked}
-use Rattle.rules.proofs.kind.tracked.Statement.{statement}
-use Rattle.rules.proofs.kind.tracked.Tie as tie
-
-pub tracked-spec : {M : Type 1} → statement M
-unfolding isTracked
-tracked-spec = tie.close (tie.spec (λ c κs. tt) (λ c. rw (c .with-instances .ensures)))

@@ -1,7 +1,0 @@
--- `tables::state::of_runnable` meets its contract: its tests are the chart's at every number.
-use Rattle.tables.proofs.States.{runnable-states}
-use Rattle.tables.proofs.state.of_runnable.Statement.{statement}
-use Rattle.tables.proofs.state.of_runnable.Tie as tie
-
-pub of-runnable-spec : {M : Type 1} → statement M
-of-runnable-spec = tie.close (tie.spec (λ c. runnable-states (c .args .state)))
