@@ -4,9 +4,9 @@ ghost use lib.ListN.{length};
 ghost use Rattle.text.specs.Bytes.{sameBytes};
 ghost use Rattle.text.specs.Put.{put, after};
 ghost use Rattle.words.specs.Named.{pick};
-ghost use Rattle.words.specs.Kind.{kindOf, kindWord};
+ghost use Rattle.words.specs.Kind.{kindOf, kindWord, kindStart};
+use crate::writing::put_part;
 use text::bytes::same;
-use text::put::put_bytes;
 
 pub enum Kind {
     Stimulus,
@@ -66,18 +66,27 @@ pub fn kind_length(kind: Kind) -> usize
     }
 }
 
+// Where a type's word begins among all words, which stand one after the other in the order of the types.
+fn kind_start(kind: Kind) -> usize
+    ensures { λ r. ⌜ r ≡ kindStart kind ⌝ }
+{
+    match kind {
+        Kind::Stimulus => 0,
+        Kind::Task => 3,
+        Kind::Interrupt => 4,
+        Kind::Runnable => 5,
+        Kind::Scheduler => 6,
+        Kind::OsEvent => 11,
+        Kind::Signal => 16,
+        Kind::Semaphore => 19,
+    }
+}
+
 // Puts a type's word into out from the index at on.
 pub fn put_kind(kind: Kind, out: &mut [u8], at: usize) -> usize
     ensures { λ r. ⌜ after r (now (out .exit)) ≡ put (now (out .entry)) at (kindWord kind) ⌝ }
 {
-    match kind {
-        Kind::Stimulus => put_bytes(b"STI", out, at),
-        Kind::Task => put_bytes(b"T", out, at),
-        Kind::Interrupt => put_bytes(b"I", out, at),
-        Kind::Runnable => put_bytes(b"R", out, at),
-        Kind::Scheduler => put_bytes(b"SCHED", out, at),
-        Kind::OsEvent => put_bytes(b"EVENT", out, at),
-        Kind::Signal => put_bytes(b"SIG", out, at),
-        Kind::Semaphore => put_bytes(b"SEM", out, at),
-    }
+    let start = kind_start(kind);
+    let n = kind_length(kind);
+    put_part(b"STITIRSCHEDEVENTSIGSEM", start, n, out, at)
 }

@@ -1,6 +1,6 @@
 // The word of each event, written: the event words of 000's sections 2.3.1 to 2.3.7.
 ghost use mathlib.Core.Path.{_≡_};
-ghost use Prim.Native.Nat.{_-_, _≤_};
+ghost use Prim.Native.Nat.{_+_, _≤_};
 ghost use lib.ListN.{length, take, drop};
 ghost use Rattle.text.specs.Put.{put, after};
 ghost use Rattle.words.specs.Action.{wordOf, wordStart};
@@ -107,11 +107,12 @@ pub fn word_length(action: Action) -> usize
     LENGTHS[code]
 }
 
-// Puts a part of s into out from the index at on.
-fn put_part(s: &[u8], start: usize, end: usize, out: &mut [u8], at: usize) -> usize
-    requires { ⌜ (start ≤ end) × (end ≤ length (now s)) ⌝ }
-    ensures { λ r. ⌜ after r (now (out .exit)) ≡ put (now (out .entry)) at (take (end - start) (drop start (now (s .entry)))) ⌝ }
+// Puts the n bytes of s from start on into out from the index at on.
+pub(crate) fn put_part(s: &[u8], start: usize, n: usize, out: &mut [u8], at: usize) -> usize
+    requires { ⌜ start + n ≤ length (now s) ⌝ }
+    ensures { λ r. ⌜ after r (now (out .exit)) ≡ put (now (out .entry)) at (take n (drop start (now (s .entry)))) ⌝ }
 {
+    let end = start + n;
     put_bytes(&s[start..end], out, at)
 }
 
@@ -120,11 +121,11 @@ pub fn put_word(action: Action, out: &mut [u8], at: usize) -> usize
     ensures { λ r. ⌜ after r (now (out .exit)) ≡ put (now (out .entry)) at (wordOf action) ⌝ }
 {
     let start = word_start(action);
-    let end = start + word_length(action);
+    let n = word_length(action);
     put_part(
         b"triggeractivateinterrupt_suspendedmtalimitexceededparkpollpoll_parkingpreemptreleaserelease_parkingresumerunstartterminatewaitsuspendscheduleschedulepointclear_eventset_eventwait_eventreadwriteassigneddecrementfreefullincrementlocklock_usedoverfullqueuedreleasedrequestsemaphoreunlockunlock_fullusedwaiting",
         start,
-        end,
+        n,
         out,
         at,
     )
