@@ -1,5 +1,6 @@
 // Writing one event line.
 ghost use mathlib.Core.Path.{_≡_};
+ghost use mathlib.Core.List.{[], _∷_};
 ghost use Prim.Native.Nat.{_+_, _≤_};
 ghost use lib.ListN.{length};
 ghost use Rattle.text.specs.Name.{nameMost};
@@ -83,13 +84,20 @@ fn line_length(event: Event, source: &[u8], target: &[u8], note: &[u8]) -> usize
     n + 1 + note.len()
 }
 
+// Puts a comma into out at the index at.
+fn put_comma(out: &mut [u8], at: usize) -> usize
+    ensures { λ r. ⌜ after r (now (out .exit)) ≡ put (now (out .entry)) at (44 ∷ []) ⌝ }
+{
+    put_bytes(b",", out, at)
+}
+
 // Puts a number and a comma into out from the index at on.
 fn put_number_field(x: u64, out: &mut [u8], at: usize) -> usize
     requires { ⌜ at + length (numberField x) ≤ length (now out) ⌝ }
     ensures { λ r. ⌜ after r (now (out .exit)) ≡ put (now (out .entry)) at (numberField x) ⌝ }
 {
     let comma = put_number(x, out, at);
-    put_bytes(b",", out, comma)
+    put_comma(out, comma)
 }
 
 // Puts a name and a comma into out from the index at on.
@@ -98,7 +106,7 @@ fn put_name_field(s: &[u8], out: &mut [u8], at: usize) -> usize
     ensures { λ r. ⌜ after r (now (out .exit)) ≡ put (now (out .entry)) at (nameField (now (s .entry))) ⌝ }
 {
     let comma = put_bytes(s, out, at);
-    put_bytes(b",", out, comma)
+    put_comma(out, comma)
 }
 
 // Puts a type and a comma into out from the index at on.
@@ -107,7 +115,7 @@ fn put_kind_field(kind: Kind, out: &mut [u8], at: usize) -> usize
     ensures { λ r. ⌜ after r (now (out .exit)) ≡ put (now (out .entry)) at (nameField (kindWord kind)) ⌝ }
 {
     let comma = put_kind(kind, out, at);
-    put_bytes(b",", out, comma)
+    put_comma(out, comma)
 }
 
 // Puts a comma and the note into out from the index at on; an empty note is no note.
@@ -118,7 +126,7 @@ fn put_note(note: &[u8], out: &mut [u8], at: usize) -> usize
     if note.len() == 0 {
         return at;
     }
-    let text = put_bytes(b",", out, at);
+    let text = put_comma(out, at);
     put_bytes(note, out, text)
 }
 

@@ -9,12 +9,12 @@ returns : tie.Need-returns
 unfolding nameField
 returns c =
     let b = c .before .before in
-    let between = b .before .before .before in
+    let between = b .before .before in
     let a = between .before .before in
     let lent = a .before .before in
     let start = lent .before .before in
-    put-two _ _ _ _ (a .put-bytes .ensures) (b .put-bytes2 .ensures) (start .pre)
+    put-two _ _ _ _ (a .put-bytes .ensures) (b .put-comma .ensures) (start .pre)
 
 pub put-name-field-spec : {M : Type 1} → statement M
 put-name-field-spec =
-    tie.close (tie.spec (λ c κs. tt) (λ c. search needs) (λ c κs. tt) (λ c. search needs) returns)
+    tie.close (tie.spec (λ c κs. tt) (λ c κs. tt) (λ c. search needs) returns)

@@ -17,17 +17,16 @@ returns-2 c =
     let b = c .before .before in
     let between = b .before .before in
     let a = between .before .before in
-    let d = a .before .before .before in
+    let d = a .before .before in
     let s = d .before .before .before in
     let e = note-some (s .args .note .now) (d .if1 .left) in
-    rw e (put-two _ _ _ _ (a .put-bytes .ensures) (b .put-bytes2 .ensures) (rw e at (s .pre)))
+    rw e (put-two _ _ _ _ (a .put-comma .ensures) (b .put-bytes .ensures) (rw e at (s .pre)))
 
 pub put-note-spec : {M : Type 1} → statement M
 put-note-spec =
     tie.close
     (tie.spec
     returns
-    (λ c. search needs)
     (λ c κs. tt)
     (λ c κs. tt)
     (λ c. search needs)

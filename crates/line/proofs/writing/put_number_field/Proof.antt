@@ -9,10 +9,10 @@ returns : tie.Need-returns
 unfolding nameField numberField
 returns c =
     let b = c .before .before in
-    let between = b .before .before .before in
+    let between = b .before .before in
     let a = between .before .before in
-    put-two _ _ _ _ (a .put-number .ensures) (b .put-bytes .ensures) (a .before .before .before .pre)
+    put-two _ _ _ _ (a .put-number .ensures) (b .put-comma .ensures) (a .before .before .before .pre)
 
 pub put-number-field-spec : {M : Type 1} → statement M
 put-number-field-spec =
-    tie.close (tie.spec (λ c κs. tt) (λ c. search needs) (λ c κs. tt) (λ c. search needs) returns)
+    tie.close (tie.spec (λ c κs. tt) (λ c κs. tt) (λ c. search needs) returns)
