@@ -1,104 +1,72 @@
 // Steps that lend the tables to a function.
+ghost use Prim.Native.Nat.{_≤_};
+use crate::buffers::Buffers;
+use crate::buffers::NAMES_ROOM;
+use crate::buffers::NUMS_ROOM;
+use crate::buffers::TICKS_ROOM;
+use crate::compare::same_buffers;
 use crate::say::say;
-use crate::say::say_number;
-use crate::step::Call;
-use crate::step::Sizes;
+use crate::say::say_answer;
+use crate::say::say_change;
+use crate::say::say_fed;
+use crate::say::say_verdict;
+use crate::step::first_of;
+use crate::step::rest_of;
+use crate::word::CHUNK;
+use crate::word::FEED;
+use crate::word::FRESH;
 use judge::feed::feed;
 use judge::feed::feed_chunk;
 use judge::feed::verdict_now;
 use tables::fresh::fresh;
-use text::put::put_bytes;
 
-// Byte 10 for a slash: a chunk stands in one line of the script.
-fn end_or(b: u8) -> u8 {
-    if b == b'/' {
-        return b'\n';
-    }
-    b
-}
-
-fn end_lines(s: &mut [u8]) {
-    let mut i = 0;
-    while i < s.len() {
-        s[i] = end_or(s[i]);
-        i += 1;
+// Asks the function that a word names, and prints what it answers.
+fn ask(names: &mut [u8], nums: &mut [u32], ticks: &mut [u64], word: u64, text: &[u8]) {
+    if word == FRESH {
+        say_answer(fresh(names, nums, ticks));
+    } else if word == FEED {
+        say_answer(feed(names, nums, ticks, text));
+    } else if word == CHUNK {
+        say_fed(feed_chunk(names, nums, ticks, text));
+    } else {
+        say_verdict(verdict_now(names, nums, ticks));
     }
 }
 
-fn call_fresh(names: &mut [u8], nums: &mut [u32], ticks: &mut [u64]) {
-    say(b"fresh ");
-    say_number(fresh(names, nums, ticks) as u64);
+fn at_most(n: usize, most: usize) -> usize
+    ensures { λ r. ⌜ r ≤ most ⌝ }
+{
+    if n < most {
+        return n;
+    }
+    most
 }
 
-fn call_feed(names: &mut [u8], nums: &mut [u32], ticks: &mut [u64], l: &[u8]) {
-    say(b"feed ");
-    say_number(feed(names, nums, ticks, l) as u64);
-}
-
-fn call_chunk(names: &mut [u8], nums: &mut [u32], ticks: &mut [u64], chunk: &[u8]) {
-    let mut copy = [0u8; 4096];
-    let n = chunk.len();
-    if 4096 < n {
-        say(b"chunk too long");
-        return;
-    }
-    put_bytes(chunk, &mut copy, 0);
-    end_lines(&mut copy);
-    let fed = feed_chunk(names, nums, ticks, &copy[0..n]);
-    say(b"chunk ");
-    say_number(fed.answer as u64);
-    say(b" used ");
-    say_number(fed.used as u64);
-}
-
-fn call_verdict(names: &[u8], nums: &[u32], ticks: &[u64]) {
-    let v = verdict_now(names, nums, ticks);
-    say(b"verdict ");
-    say_number(v.number as u64);
-    say(b" line ");
-    say_number(v.line as u64);
-    say(b" scale ");
-    say_number(v.scale as u64);
-    say(b" span ");
-    say_number(v.span);
-}
-
-fn call_one(names: &mut [u8], nums: &mut [u32], ticks: &mut [u64], call: Call, rest: &[u8]) {
-    match call {
-        Call::Fresh => call_fresh(names, nums, ticks),
-        Call::Feed => call_feed(names, nums, ticks, rest),
-        Call::Chunk => call_chunk(names, nums, ticks, rest),
-        Call::Verdict => call_verdict(names, nums, ticks),
-        Call::Unknown => say(b"no such step"),
-    }
-}
-
-// Lends the first entries of each buffer to a call.
-pub(crate) fn lend(
-    names: &mut [u8],
-    nums: &mut [u32],
-    ticks: &mut [u64],
-    lent: Sizes,
-    call: Call,
-    rest: &[u8],
-) {
-    let a = lent.names;
-    let b = lent.nums;
-    let c = lent.ticks;
-    if names.len() < a {
-        return say(b"no such sizes");
-    }
-    if nums.len() < b {
-        return say(b"no such sizes");
-    }
-    if ticks.len() < c {
-        return say(b"no such sizes");
-    }
-    call_one(
+// Lends the first entries of copies of the buffers, and compares the copies with the buffers, the entries that were not lent too: none of those may
+// change either.
+pub(crate) fn run_call(t: Buffers, word: u64, step: &[u8]) -> Buffers {
+    let mut names = t.names;
+    let mut nums = t.nums;
+    let mut ticks = t.ticks;
+    let a = at_most(t.names_lent, NAMES_ROOM);
+    let b = at_most(t.nums_lent, NUMS_ROOM);
+    let c = at_most(t.ticks_lent, TICKS_ROOM);
+    say(first_of(step));
+    ask(
         &mut names[0..a],
         &mut nums[0..b],
         &mut ticks[0..c],
-        call,
-        rest,
+        word,
+        rest_of(step),
     );
+    let after = Buffers {
+        names,
+        nums,
+        ticks,
+        names_lent: a,
+        nums_lent: b,
+        ticks_lent: c,
+    };
+    say_change(same_buffers(t, after));
+    after
 }

@@ -1,16 +1,17 @@
 // Tables compared, entry by entry.
 ghost use mathlib.Core.Path.{_≡_};
 ghost use Rattle.text.specs.Bytes.{sameBytes};
+use crate::buffers::Buffers;
+use crate::buffers::NUMS_ROOM;
+use crate::buffers::TICKS_ROOM;
+use text::bytes::same;
 
 // Whether the numbers are the same, by the definition that bytes are compared by.
-pub(crate) fn same_nums(s: &[u32], t: &[u32]) -> bool
-    ensures { λ r. ⌜ r ≡ sameBytes (now (s .entry)) (now (t .entry)) ⌝ }
+fn same_nums(s: [u32; NUMS_ROOM], t: [u32; NUMS_ROOM]) -> bool
+    ensures { λ r. ⌜ r ≡ sameBytes s t ⌝ }
 {
-    if s.len() != t.len() {
-        return false;
-    }
     let mut i = 0;
-    while i < s.len() {
+    while i < NUMS_ROOM {
         if s[i] != t[i] {
             return false;
         }
@@ -19,18 +20,22 @@ pub(crate) fn same_nums(s: &[u32], t: &[u32]) -> bool
     true
 }
 
-pub(crate) fn same_ticks(s: &[u64], t: &[u64]) -> bool
-    ensures { λ r. ⌜ r ≡ sameBytes (now (s .entry)) (now (t .entry)) ⌝ }
+fn same_ticks(s: [u64; TICKS_ROOM], t: [u64; TICKS_ROOM]) -> bool
+    ensures { λ r. ⌜ r ≡ sameBytes s t ⌝ }
 {
-    if s.len() != t.len() {
-        return false;
-    }
     let mut i = 0;
-    while i < s.len() {
+    while i < TICKS_ROOM {
         if s[i] != t[i] {
             return false;
         }
         i += 1;
     }
     true
+}
+
+pub(crate) fn same_buffers(s: Buffers, t: Buffers) -> bool {
+    let names = same(&s.names, &t.names);
+    let nums = same_nums(s.nums, t.nums);
+    let ticks = same_ticks(s.ticks, t.ticks);
+    names & nums & ticks
 }

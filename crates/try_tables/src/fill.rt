@@ -1,16 +1,18 @@
 // Steps that store in a table.
-use crate::say::say;
-use crate::step::first_of;
-use crate::step::number_or;
-use crate::step::rest_of;
-use text::bytes::same;
+use crate::buffers::Buffers;
+use crate::buffers::NAMES_ROOM;
+use crate::buffers::NUMS_ROOM;
+use crate::buffers::TICKS_ROOM;
+use crate::say::say_done;
+use crate::step::Numbers;
+use crate::word::NAMES;
+use crate::word::NUMS;
+use crate::word::TICKS;
+use text::put::room;
 
 // Stores v in n entries from an entry on; false where there are no such entries.
-fn fill_names(s: &mut [u8], from: usize, n: usize, v: u8) -> bool {
-    if s.len() < from {
-        return false;
-    }
-    if s.len() - from < n {
+fn fill_names(s: &mut [u8; NAMES_ROOM], from: usize, n: usize, v: u8) -> bool {
+    if !room(NAMES_ROOM, from, n) {
         return false;
     }
     let mut i = 0;
@@ -21,11 +23,8 @@ fn fill_names(s: &mut [u8], from: usize, n: usize, v: u8) -> bool {
     true
 }
 
-fn fill_nums(s: &mut [u32], from: usize, n: usize, v: u32) -> bool {
-    if s.len() < from {
-        return false;
-    }
-    if s.len() - from < n {
+fn fill_nums(s: &mut [u32; NUMS_ROOM], from: usize, n: usize, v: u32) -> bool {
+    if !room(NUMS_ROOM, from, n) {
         return false;
     }
     let mut i = 0;
@@ -36,11 +35,8 @@ fn fill_nums(s: &mut [u32], from: usize, n: usize, v: u32) -> bool {
     true
 }
 
-fn fill_ticks(s: &mut [u64], from: usize, n: usize, v: u64) -> bool {
-    if s.len() < from {
-        return false;
-    }
-    if s.len() - from < n {
+fn fill_ticks(s: &mut [u64; TICKS_ROOM], from: usize, n: usize, v: u64) -> bool {
+    if !room(TICKS_ROOM, from, n) {
         return false;
     }
     let mut i = 0;
@@ -51,29 +47,19 @@ fn fill_ticks(s: &mut [u64], from: usize, n: usize, v: u64) -> bool {
     true
 }
 
-// Stores what a step says in the table that its word names; a value is taken modulo the width of its entry.
-fn store(names: &mut [u8], nums: &mut [u32], ticks: &mut [u64], word: &[u8], rest: &[u8]) -> bool {
-    let after = rest_of(rest);
-    let from = number_or(first_of(rest), 0) as usize;
-    let v = number_or(first_of(after), 0);
-    let n = number_or(rest_of(after), 1) as usize;
-    if same(word, b"names") {
-        return fill_names(names, from, n, (v % 256) as u8);
+// Stores what a step says in the buffer that its word names; a value is taken modulo the width of its entry.
+pub(crate) fn store(t: Buffers, word: u64, n: Numbers) -> Buffers {
+    let mut r = t;
+    let from = n.first as usize;
+    let many = n.third as usize;
+    let mut done = false;
+    if word == NAMES {
+        done = fill_names(&mut r.names, from, many, (n.second % 256) as u8);
+    } else if word == NUMS {
+        done = fill_nums(&mut r.nums, from, many, (n.second % 4294967296) as u32);
+    } else if word == TICKS {
+        done = fill_ticks(&mut r.ticks, from, many, n.second);
     }
-    if same(word, b"nums") {
-        return fill_nums(nums, from, n, (v % 4294967296) as u32);
-    }
-    fill_ticks(ticks, from, n, v)
-}
-
-pub(crate) fn run_store(
-    names: &mut [u8],
-    nums: &mut [u32],
-    ticks: &mut [u64],
-    word: &[u8],
-    rest: &[u8],
-) {
-    if !store(names, nums, ticks, word, rest) {
-        say(b"no such entries\n");
-    }
+    say_done(done);
+    r
 }

@@ -1,10 +1,50 @@
 // What is printed.
+use bill::verdict::Verdict;
+use judge::feed::Fed;
 use libc::STDOUT_FILENO;
 
 pub(crate) fn say(s: &[u8]) {
     io::write_all(STDOUT_FILENO, s);
 }
 
-pub(crate) fn say_number(n: u64) {
+pub(crate) fn say_line(s: &[u8]) {
+    say(s);
+    say(b"\n");
+}
+
+// A number after a text that tells what it is.
+fn say_named(text: &[u8], n: u64) {
+    say(text);
     io::print_decimal(STDOUT_FILENO, n);
+}
+
+pub(crate) fn say_answer(answer: u32) {
+    say_named(b" ", answer as u64);
+}
+
+pub(crate) fn say_fed(fed: Fed) {
+    say_answer(fed.answer);
+    say_named(b" used ", fed.used as u64);
+}
+
+pub(crate) fn say_verdict(v: Verdict) {
+    say_answer(v.number);
+    say_named(b" line ", v.line as u64);
+    say_named(b" scale ", v.scale as u64);
+    say_named(b" span ", v.span);
+}
+
+pub(crate) fn say_change(unchanged: bool) {
+    if unchanged {
+        say(b" unchanged\n");
+    } else {
+        say(b" changed\n");
+    }
+}
+
+// Tells of a step that nothing could be stored for.
+pub(crate) fn say_done(done: bool) {
+    if !done {
+        say(b"no such step, or no such entries\n");
+    }
 }

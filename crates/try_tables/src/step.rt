@@ -1,23 +1,14 @@
-// The words of a step, and what they mean.
+// The parts of a step.
+use fields::part::between;
 use text::bytes::find;
-use text::bytes::same;
 use text::number::Number;
 use text::number::read_number;
 
-// How many entries of each table are lent.
-pub(crate) struct Sizes {
-    pub(crate) names: usize,
-    pub(crate) nums: usize,
-    pub(crate) ticks: usize,
-}
-
-// The functions that are lent tables.
-pub(crate) enum Call {
-    Fresh,
-    Feed,
-    Chunk,
-    Verdict,
-    Unknown,
+// The numbers of a step, after its word.
+pub(crate) struct Numbers {
+    pub(crate) first: u64,
+    pub(crate) second: u64,
+    pub(crate) third: u64,
 }
 
 // The part of s before its first blank.
@@ -31,54 +22,42 @@ pub(crate) fn first_of(s: &[u8]) -> &[u8] {
 
 // The part of s after its first blank, empty where there is none.
 pub(crate) fn rest_of(s: &[u8]) -> &[u8] {
-    let n = find(s, b' ', 0);
-    if n < s.len() {
-        let from = n + 1;
-        return &s[from..];
-    }
-    &s[..0]
+    between(s, find(s, b' ', 0), s.len())
 }
 
-// The number that s writes, and another where it writes none.
-pub(crate) fn number_or(s: &[u8], other: u64) -> u64 {
+// The number that s writes, and 1 where it writes none.
+fn number_of(s: &[u8]) -> u64 {
     match read_number(s, 18446744073709551615) {
         Number::Value(v) => v,
-        Number::Bad => other,
+        Number::Bad => 1,
     }
 }
 
-pub(crate) fn sizes_of(s: &[u8]) -> Sizes {
-    let after = rest_of(s);
-    Sizes {
-        names: number_or(first_of(s), 0) as usize,
-        nums: number_or(first_of(after), 0) as usize,
-        ticks: number_or(rest_of(after), 0) as usize,
+pub(crate) fn numbers_of(step: &[u8]) -> Numbers {
+    let one = rest_of(step);
+    let two = rest_of(one);
+    Numbers {
+        first: number_of(first_of(one)),
+        second: number_of(first_of(two)),
+        third: number_of(rest_of(two)),
     }
 }
 
-// Whether a word is that of a table.
-pub(crate) fn is_table(word: &[u8]) -> bool {
-    if same(word, b"names") {
-        return true;
+// Byte 10 for a slash, but not in a remark: a chunk stands in one line of the script.
+fn end_or(first: u8, b: u8) -> u8 {
+    if first == b'#' {
+        return b;
     }
-    if same(word, b"nums") {
-        return true;
+    if b == b'/' {
+        return b'\n';
     }
-    same(word, b"ticks")
+    b
 }
 
-pub(crate) fn call_of(word: &[u8]) -> Call {
-    if same(word, b"fresh") {
-        return Call::Fresh;
+pub(crate) fn end_lines(s: &mut [u8]) {
+    let mut i = 0;
+    while i < s.len() {
+        s[i] = end_or(s[0], s[i]);
+        i += 1;
     }
-    if same(word, b"feed") {
-        return Call::Feed;
-    }
-    if same(word, b"chunk") {
-        return Call::Chunk;
-    }
-    if same(word, b"verdict") {
-        return Call::Verdict;
-    }
-    Call::Unknown
 }

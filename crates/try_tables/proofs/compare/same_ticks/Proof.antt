@@ -1,40 +1,39 @@
--- `try_tables::compare::same_ticks` meets its contract, as `text::bytes::same` does. The invariant: the slices are the same where what is left of them
+-- `try_tables::compare::same_ticks` meets its contract, as `text::bytes::same` does. The invariant: the arrays are the same where what is left of them
 -- from `i` is.
-use mathlib.Core.Path.{_≡_, sym, _∙_}
-use Prim.Native.Nat.{_-_, _≤_}
+use mathlib.Core.Path.{_≡_, refl, sym, _∙_}
+use Prim.Native.Nat.{_+_, _-_, _≤_}
 use native.Mathlib.Omega.{arith}
 use borrow.Author.Needs.{needs}
 use lib.ListN.{length, drop}
 use Rattle.text.specs.Bytes.{sameBytes}
-use Rattle.text.proofs.Words.{other-length, same-turn, same-stop, same-end}
+use Rattle.text.proofs.Words.{same-turn, same-stop, same-end}
+use Rattle.tables.specs.Entry.{ticksSize}
 use Rattle.try_tables.proofs.compare.same_ticks.Statement.{statement}
 use Rattle.try_tables.proofs.compare.same_ticks.Tie as tie
 
 abbrev Inv-loop : tie.InvT-loop
-Inv-loop s t i₀ i = (i ≤ length s) × (length s ≡ length t) × (sameBytes s t ≡ sameBytes (drop i s) (drop i t))
+Inv-loop s t i₀ i = (length s ≡ ticksSize + 1) × (length t ≡ ticksSize + 1) × (i ≤ ticksSize + 1) × (sameBytes s t ≡ sameBytes (drop i s) (drop i t))
 
 abbrev μ-loop : tie.MeasureT-loop
-μ-loop s t i₀ i = length s - i
+μ-loop s t i₀ i = ticksSize + 1 - i
 
-other-lengths : tie.Need-returns Inv-loop μ-loop
-other-lengths c = sym (other-length _ _ (c .if1 .taken))
+loop-holds : tie.Need-loop-holds Inv-loop μ-loop
+loop-holds c = (search needs, search needs, search needs, refl)
 
-entries-differ : tie.Need-returns-2 Inv-loop μ-loop
+entries-differ : tie.Need-returns Inv-loop μ-loop
 entries-differ c =
-    let entries = c .before .before in
-    let l = entries .before .before in
-    sym (l .loop .inv .2 ∙ same-stop _ _ (l .loop .i) (omega arith) (omega arith) (c .if2 .taken))
+    let l = c .before .before in
+    sym (l .loop .inv .3 ∙ same-stop _ _ (l .loop .i) (omega arith) (omega arith) (c .if1 .taken))
 
 loop-again : tie.Need-loop-again Inv-loop μ-loop
 loop-again c =
-    let entries = c .before .before in
-    let l = entries .before .before in
-    (search needs, search needs, l .loop .inv .2 ∙ same-turn _ _ (l .loop .i) (omega arith) (omega arith) (c .if2 .left))
+    let l = c .before .before in
+    (search needs, search needs, search needs, l .loop .inv .3 ∙ same-turn _ _ (l .loop .i) (omega arith) (omega arith) (c .if1 .left))
 
-all-same : tie.Need-returns-3 Inv-loop μ-loop
+all-same : tie.Need-returns-2 Inv-loop μ-loop
 all-same c =
     let l = c .before in
-    sym (l .loop .inv .2 ∙ same-end _ _ (l .loop .i) (omega arith) (omega arith))
+    sym (l .loop .inv .3 ∙ same-end _ _ (l .loop .i) (omega arith) (omega arith))
 
 pub same-ticks-spec : {M : Type 1} → statement M
 same-ticks-spec =
@@ -42,8 +41,7 @@ same-ticks-spec =
     (tie.spec
     Inv-loop
     μ-loop
-    other-lengths
-    (λ c. search needs)
+    loop-holds
     (λ c. search needs)
     (λ c. search needs)
     (λ c. search needs)

@@ -1,16 +1,19 @@
--- `try_tables::fill::fill_nums` is safe and ends: the n entries from the first on are within the slice, and a store keeps its length.
-use mathlib.Core.Path.{_≡_}
+-- `try_tables::fill::fill_nums` is safe and ends: the n entries from the first on are within the buffer.
 use Prim.Native.Nat.{_+_, _-_, _≤_}
 use borrow.Author.Needs.{needs}
-use lib.ListN.{length}
+use Rattle.text.proofs.Writes.{has-room}
+use Rattle.tables.specs.Entry.{numsSize}
 use Rattle.try_tables.proofs.fill.fill_nums.Statement.{statement}
 use Rattle.try_tables.proofs.fill.fill_nums.Tie as tie
 
 abbrev Inv-loop : tie.InvT-loop
-Inv-loop s₀ from n v i₀ s i = (length s ≡ length s₀) × (from + n ≤ length s₀)
+Inv-loop s₀ from n v i₀ s i = from + n ≤ numsSize + 1
 
 abbrev μ-loop : tie.MeasureT-loop
 μ-loop s₀ from n v i₀ s i = n - i
+
+loop-holds : tie.Need-loop-holds Inv-loop μ-loop
+loop-holds c = let a = c .before .before .args in has-room _ (a .from + a .n) (numsSize + 1) (c .before .room .ensures) (c .if1 .left)
 
 pub fill-nums-spec : {M : Type 1} → statement M
 fill-nums-spec =
@@ -18,11 +21,9 @@ fill-nums-spec =
     (tie.spec
     Inv-loop
     μ-loop
+    (λ c κs. search needs)
     (λ c. search needs)
-    (λ c. search needs)
-    (λ c. search needs)
-    (λ c. search needs)
-    (λ c. search needs)
+    loop-holds
     (λ c. search needs)
     (λ c. search needs)
     (λ c. search needs)
