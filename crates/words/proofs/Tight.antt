@@ -14,8 +14,9 @@ use Rattle.words.specs.declared.kind.Kind.the-variants.{Stimulus, Task, 
 use Rattle.words.specs.declared.kind.KindFound.{KindFound}
 use Rattle.words.specs.declared.kind.KindFound.the-variants.{ThisKind, NoKind}
 use Rattle.words.specs.declared.action.Action.{Action}
-use Rattle.words.specs.declared.action.Action.the-variants.{Run, Start, Trigger}
+use Rattle.words.specs.declared.action.Action.the-variants.{Release, Run, Start, Trigger}
 use Rattle.words.specs.declared.action.ActionFound.{ActionFound}
+use Rattle.words.specs.declared.action.ActionFound.the-variants.{ThisAction, NoAction}
 use Rattle.words.specs.declared.pair.Pair.{Pair}
 use Rattle.words.specs.declared.pair.Pair.the-variants.{Known, Unknown}
 use Rattle.words.specs.declared.scale.ScaleFound.{ScaleFound}
@@ -72,6 +73,15 @@ put-kind-not-begun = shut-out (λ p. sameBytes (p .output) (bytes "xx")) (Semaph
 
 pub action-unique : (k : Kind) (s : List ℕ) (x y : ActionFound) → x ≡ actionOf k s → y ≡ actionOf k s → x ≡ y
 action-unique k = unique (actionOf k)
+
+abbrev isAction : List ℕ → ActionFound → Bool
+isAction w (ThisAction a) = sameBytes w (wordOf a)
+isAction w NoAction = false
+
+-- a word names its own event, and not one that it begins with
+pub action-not-another : ShutsOut (actionOf Task) (λ s. cond (sameBytes s (bytes "release_parking")) (ThisAction Release) (actionOf Task s))
+unfolding actionOf actionsOf wordOf pick sameBytes
+action-not-another = shut-out (isAction (bytes "release_parking")) (bytes "release_parking") refl refl
 
 pub code-unique : (a : Action) (x y : ℕ) → x ≡ actionCode a → y ≡ actionCode a → x ≡ y
 code-unique = unique actionCode
