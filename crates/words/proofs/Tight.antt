@@ -14,7 +14,7 @@ use Rattle.words.specs.declared.kind.Kind.the-variants.{Stimulus, Task, 
 use Rattle.words.specs.declared.kind.KindFound.{KindFound}
 use Rattle.words.specs.declared.kind.KindFound.the-variants.{ThisKind, NoKind}
 use Rattle.words.specs.declared.action.Action.{Action}
-use Rattle.words.specs.declared.action.Action.the-variants.{Release, Run, Start, Trigger}
+use Rattle.words.specs.declared.action.Action.the-variants.{Release, Released, Run, Start, Trigger}
 use Rattle.words.specs.declared.action.ActionFound.{ActionFound}
 use Rattle.words.specs.declared.action.ActionFound.the-variants.{ThisAction, NoAction}
 use Rattle.words.specs.declared.pair.Pair.{Pair}
@@ -25,7 +25,7 @@ use Rattle.words.specs.Named.{pick}
 use Rattle.words.specs.Kind.{kindWord, kindOf}
 use Rattle.words.specs.Action.{wordOf, actionCode, actionsOf, actionOf, among, isOf}
 use Rattle.words.specs.Pair.{pairWith, namedBy}
-use Rattle.words.specs.Code.{waiting}
+use Rattle.words.specs.Code.{release, released, waiting}
 use Rattle.words.specs.Class.{no-class, unparking, beginning, classAt, classOf}
 use Rattle.words.specs.Scale.{scaleWord, scaleOf}
 
@@ -94,6 +94,11 @@ code-not-from-one = shut-out (eqb 0) Trigger refl refl
 pub code-not-shared : ShutsOut actionCode (λ a. 0)
 unfolding actionCode
 code-not-shared = shut-out (eqb 12) Start refl refl
+
+-- released is a semaphore's word, and release a process's
+pub code-not-as-release : ShutsOut actionCode (λ a. cond (eqb (actionCode a) released) release (actionCode a))
+unfolding actionCode
+code-not-as-release = shut-out (eqb released) Released refl refl
 
 pub word-length-unique : (a : Action) (x y : ℕ) → x ≡ length (wordOf a) → y ≡ length (wordOf a) → x ≡ y
 word-length-unique = unique (λ a. length (wordOf a))
