@@ -1,5 +1,6 @@
 // The buffers whose first entries are lent as tables. They are handed on by value: a function that is lent three slices, to lend them on, takes the
 // prover far longer than one that takes and returns a struct.
+use crate::say::say_done;
 use crate::step::Numbers;
 use tables::entry::NAMES_SIZE;
 use tables::entry::NUMS_SIZE;
@@ -33,7 +34,12 @@ pub(crate) fn zeros() -> Buffers {
     }
 }
 
+// Tells of a size that a buffer has no room for; of that buffer all is lent then.
 pub(crate) fn resized(t: Buffers, n: Numbers) -> Buffers {
+    let names = n.first <= NAMES_ROOM as u64;
+    let nums = n.second <= NUMS_ROOM as u64;
+    let ticks = n.third <= TICKS_ROOM as u64;
+    say_done(names & nums & ticks);
     let mut r = t;
     r.names_lent = n.first as usize;
     r.nums_lent = n.second as usize;

@@ -42,7 +42,7 @@ pub(crate) fn say_change(unchanged: bool) {
     }
 }
 
-// Tells of a step that nothing could be stored for.
+// Tells of a step that there is none such, or that names more entries than there are.
 pub(crate) fn say_done(done: bool) {
     if !done {
         say(b"no such step, or no such entries\n");
