@@ -13,8 +13,9 @@ use Rattle.text.proofs.Words.{same-eq}
 use Rattle.words.specs.declared.kind.Kind.{Kind}
 use Rattle.words.specs.declared.kind.Kind.the-variants.{Stimulus, Task, Interrupt, Runnable, Scheduler, OsEvent, Signal, Semaphore}
 use Rattle.words.specs.declared.action.Action.{Action}
-use Rattle.words.specs.Kind.{kindWord, kindStart}
-use Rattle.words.specs.Action.{actionCode, wordOf, wordStart}
+use Rattle.words.specs.Kind.{kindWord}
+use Rattle.words.specs.Action.{actionCode, wordOf}
+use Rattle.words.specs.Starts.{kindStart, wordStart}
 use Rattle.words.proofs.Actions.{actions, every}
 
 pub code-bound : (a : Action) → actionCode a < 38

@@ -3,7 +3,6 @@ use Prim.Native.Nat.{ℕ}
 use mathlib.Core.Bool.{Bool}
 use mathlib.Core.List.{List, [], _∷_, _++_}
 use lib.Dec.{eqb}
-use lib.ListN.{getD}
 use Rattle.text.specs.Literal.{bytes}
 use Rattle.words.specs.declared.kind.Kind.{Kind}
 use Rattle.words.specs.declared.kind.Kind.the-variants.{Stimulus, Task, Interrupt, Runnable, Scheduler, OsEvent, Signal, Semaphore}
@@ -173,13 +172,6 @@ actionCode Unlock = unlock
 actionCode UnlockFull = unlock-full
 actionCode Used = used
 actionCode Waiting = waiting
-
--- for the code alone: where each word begins among all words, in the order of the codes
-abbrev pub starts : List ℕ
-starts = 0 ∷ 7 ∷ 15 ∷ 34 ∷ 50 ∷ 54 ∷ 58 ∷ 70 ∷ 77 ∷ 84 ∷ 99 ∷ 105 ∷ 108 ∷ 113 ∷ 122 ∷ 126 ∷ 133 ∷ 141 ∷ 154 ∷ 165 ∷ 174 ∷ 184 ∷ 188 ∷ 193 ∷ 201 ∷ 210 ∷ 214 ∷ 218 ∷ 227 ∷ 231 ∷ 240 ∷ 248 ∷ 254 ∷ 262 ∷ 278 ∷ 284 ∷ 295 ∷ 299 ∷ []
-
-unfoldable pub wordStart : Action → ℕ
-wordStart a = getD starts (actionCode a) 0
 
 -- ---- the events of each type
 

@@ -19,17 +19,6 @@ kindWord OsEvent = bytes "EVENT"
 kindWord Signal = bytes "SIG"
 kindWord Semaphore = bytes "SEM"
 
--- for the code alone: where each word begins among all words, in the order of the types
-abbrev pub kindStart : Kind → ℕ
-kindStart Stimulus = 0
-kindStart Task = 3
-kindStart Interrupt = 4
-kindStart Runnable = 5
-kindStart Scheduler = 6
-kindStart OsEvent = 11
-kindStart Signal = 16
-kindStart Semaphore = 19
-
 abbrev pub kinds : List Kind
 kinds = Stimulus ∷ Task ∷ Interrupt ∷ Runnable ∷ Scheduler ∷ OsEvent ∷ Signal ∷ Semaphore ∷ []
 

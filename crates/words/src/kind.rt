@@ -4,7 +4,8 @@ ghost use lib.ListN.{length};
 ghost use Rattle.text.specs.Bytes.{sameBytes};
 ghost use Rattle.text.specs.Put.{put, after};
 ghost use Rattle.words.specs.Named.{pick};
-ghost use Rattle.words.specs.Kind.{kindOf, kindWord, kindStart};
+ghost use Rattle.words.specs.Kind.{kindOf, kindWord};
+ghost use Rattle.words.specs.Starts.{kindStart};
 use crate::writing::put_part;
 use text::bytes::same;
 

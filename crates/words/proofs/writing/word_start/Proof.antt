@@ -1,6 +1,6 @@
 -- `words::writing::word_start` meets its contract: the code is within the table, whose entry there is the one asked for.
 use native.Mathlib.Omega.{arith}
-use Rattle.words.specs.Action.{wordStart}
+use Rattle.words.specs.Starts.{wordStart}
 use Rattle.words.proofs.Tables.{code-bound}
 use Rattle.words.proofs.writing.word_start.Statement.{statement}
 use Rattle.words.proofs.writing.word_start.Tie as tie
