@@ -1,6 +1,6 @@
 -- What the look-ups find, for any test: the first number that passes, the last number that passes; and what the tests of a row mean.
 use mathlib.Core.Path.{_≡_, refl, sym, ap, subst, _∙_}
-use mathlib.Core.Bool.{Bool, true, false, not, _&&_, _||_, cond, and-false}
+use mathlib.Core.Bool.{Bool, true, false, _&&_, _||_, cond, and-false}
 use mathlib.Core.List.{List}
 use mathlib.Core.Logic.{⊎-elim}
 use Prim.Native.Nat.{ℕ, zero, suc, _+_, _-_, _*_, _≤_, _<_}
@@ -8,15 +8,14 @@ use native.Mathlib.Nat.{not-suc-le-zero, le-of-suc-le-suc, eq-or-lt-of-le}
 use native.Mathlib.Numerals.{add-one}
 use native.Mathlib.Omega.{arith}
 use lib.Dec.{eqb, ltb}
-use lib.ListN.{length, getD, drop}
-use lib.Seq.{getD-take, getD-drop}
-use borrow.Author.Tests.{eq-eqb, eqb-false, not-true}
+use lib.ListN.{length, take, drop}
+use borrow.Author.Tests.{le-leb, lt-ltb, eq-eqb}
 use Rattle.text.specs.Bytes.{sameBytes}
 use Rattle.text.proofs.Bools.{is-false, or-l, or-r}
 use Rattle.text.proofs.Words.{same-eq, eq-same}
 use Rattle.tables.specs.Entry.{nameRows, instanceRows, nameRoom, namesSize, numsSize, nameCount, lengthAt, nameAt, instanceCount, ownerAt, instanceAt}
 use Rattle.tables.proofs.Means.{Means, means-le, means-lt, means-eq, means-and}
-use Rattle.tables.proofs.NameBytes.{name-size}
+use Rattle.tables.proofs.NameBytes.{lent-name, name-size}
 use Rattle.lookup.specs.declared.find.Found.{Found}
 use Rattle.lookup.specs.declared.find.Found.the-variants.{At, Nothing}
 use Rattle.lookup.specs.Find.{firstFrom, lastBelow, rowIs, findName, instanceIs, findInstance}
@@ -124,8 +123,11 @@ instance-found nums owner number h = rw (eq-eqb (length nums) numsSize h)
 means-same : (s t : List ℕ) → Means (sameBytes s t) (s ≡ t)
 means-same s t = record { holds = same-eq s t; shows = eq-same s t }
 
-pub row-means : (names nums name : List ℕ) (i : ℕ)
-    → Means (rowIs names nums name i) ((i < nameRows) × ((lengthAt nums i ≡ length name) × ((lengthAt nums i ≤ nameRoom) × (nameAt names nums i ≡ name))))
+-- the bytes of row i are the name: a row that there is, as long as the name, and no longer than it has room for
+abbrev Holds : List ℕ → List ℕ → List ℕ → ℕ → Type 0
+Holds names nums name i = (i < nameRows) × ((lengthAt nums i ≡ length name) × ((lengthAt nums i ≤ nameRoom) × (nameAt names nums i ≡ name)))
+
+pub row-means : (names nums name : List ℕ) (i : ℕ) → Means (rowIs names nums name i) (Holds names nums name i)
 unfolding rowIs
 row-means names nums name i =
     means-and (means-lt i nameRows) (means-and (means-eq (lengthAt nums i) (length name)) (means-and (means-le (lengthAt nums i) nameRoom) (means-same (nameAt names nums i) name)))
@@ -133,22 +135,16 @@ row-means names nums name i =
 pub row-name : (names nums name : List ℕ) (i : ℕ) → rowIs names nums name i ≡ true → nameAt names nums i ≡ name
 row-name names nums name i e = row-means names nums name i .holds e .1 .1 .1
 
--- a row with another byte at an index of the name does not hold it, however long it is
-pub other-name : (names name : List ℕ) (i j : ℕ) → j < length name → (getD names (nameRoom * i + j) 0 ≡ getD name j 0 → ⊥) → (nums : List ℕ) → rowIs names nums name i ≡ false
-other-name names name i j h other nums =
-    is-false (rowIs names nums name i) (λ e.
-    let m = row-means names nums name i .holds e in
-    let l : j < lengthAt nums i = omega (arith, m .1 .0) in
-    other (sym (getD-drop (nameRoom * i) names j 0) ∙ sym (getD-take (lengthAt nums i) (drop (nameRoom * i) names) j 0 l) ∙ ap (λ (s : List ℕ). getD s j 0) (m .1 .1 .1)))
+pub other-row : (names nums name : List ℕ) (i : ℕ) → (Holds names nums name i → ⊥) → rowIs names nums name i ≡ false
+other-row names nums name i h = is-false (rowIs names nums name i) (λ e. h (row-means names nums name i .holds e))
 
--- bytes compared together: where two of them differ, the row does not hold the name
-pub differ-turn : (names name : List ℕ) (i n at k : ℕ) (differ : Bool) → at ≡ nameRoom * i + n → n + k < length name
-    → (differ ≡ true → (nums : List ℕ) → rowIs names nums name i ≡ false)
-    → differ || not (eqb (getD names (at + k) 0) (getD name (n + k) 0)) ≡ true → (nums : List ℕ) → rowIs names nums name i ≡ false
-differ-turn names name i n at k true a h so e nums = so refl nums
-differ-turn names name i n at k false a h so e nums =
-    let j : at + k ≡ nameRoom * i + (n + k) = omega arith in
-    other-name names name i (n + k) h (eqb-false _ _ (not-true _ (rw j at e))) nums
+-- in a row as long as the name, the bytes that code lends for it decide
+pub as-long : (names nums name : List ℕ) (i : ℕ) → i < nameRows → length name ≤ nameRoom → lengthAt nums i ≡ length name
+    → sameBytes (take ((nameRoom * i + length name) - nameRoom * i) (drop (nameRoom * i) names)) name ≡ rowIs names nums name i
+unfolding rowIs
+as-long names nums name i h k e =
+    let lent : take ((nameRoom * i + length name) - nameRoom * i) (drop (nameRoom * i) names) ≡ nameAt names nums i = rw (← e) (lent-name names nums i) in
+    rw (lt-ltb i nameRows h, eq-eqb (lengthAt nums i) (length name) e, le-leb (lengthAt nums i) nameRoom (omega arith), lent)
 
 pub name-row : (names nums name : List ℕ) (i : ℕ) → length names ≡ namesSize → i < nameRows → lengthAt nums i ≤ nameRoom → nameAt names nums i ≡ name → rowIs names nums name i ≡ true
 name-row names nums name i s h k e = row-means names nums name i .shows (h, (sym (name-size names nums i s h k) ∙ ap length e, (k, e)))

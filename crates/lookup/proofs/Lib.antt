@@ -1,4 +1,5 @@
 -- The laws of the look-ups, which the proofs of this crate and of the crates above it cite.
 pub mod Found
+pub mod Compared
 pub mod Added
 pub mod Tight

@@ -2,3 +2,4 @@
 // decided and nothing stored.
 pub mod find;
 pub mod look;
+mod row;
