@@ -2,14 +2,17 @@
 
 use std::io::{self, Read};
 
-use baseline::making::{make_trace, Plan};
+use baseline::making::{make_trace, Naming, Plan};
 use baseline::reading::read_trace;
 
 fn made(cores: usize, tasks: usize, runnables: usize, bytes: u64, seed: u64) -> Vec<u8> {
-    let plan = Plan { cores, tasks, runnables, bytes, seed };
+    by_plan(&Plan { cores, tasks, runnables, bytes, seed, naming: Naming::BeginAlike })
+}
+
+fn by_plan(plan: &Plan) -> Vec<u8> {
     assert_eq!(plan.fault(), None);
     let mut trace = Vec::new();
-    make_trace(&plan, &mut trace).expect("memory can be written");
+    make_trace(plan, &mut trace).expect("memory can be written");
     trace
 }
 
@@ -46,6 +49,29 @@ fn made_traces_of_all_sizes_are_accepted() {
             assert!(tasks < cores || text.contains(&format!("\ncores {cores}\n")), "{text}");
             assert!(text.contains(&format!("\nprocesses {tasks}\n")), "{text}");
         }
+    }
+}
+
+#[test]
+fn names_that_end_alike_are_all_that_is_different() {
+    let sheet = |naming| {
+        let plan = Plan { cores: 4, tasks: 40, runnables: 200, bytes: 400_000, seed: 1, naming };
+        answer(by_plan(&plan).as_slice())
+    };
+    let end_alike = sheet(Naming::EndAlike);
+    assert!(end_alike.starts_with("verdict 0 "), "{end_alike}");
+    assert!(end_alike.contains("\nBrake_0007_Axis_WinchControl_TASK "), "{end_alike}");
+    assert_eq!(end_alike, sheet(Naming::BeginAlike).lines().map(turned).collect::<String>());
+}
+
+/// A line of the sheet with the words of a task's or a routine's name in the
+/// other order.
+fn turned(line: &str) -> String {
+    match line.split_once(' ') {
+        Some((name, figures)) if name.starts_with("TASK_") || name.starts_with("ISR_") => {
+            name.rsplit('_').collect::<Vec<_>>().join("_") + " " + figures + "\n"
+        }
+        _ => line.to_string() + "\n",
     }
 }
 

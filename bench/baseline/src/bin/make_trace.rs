@@ -1,12 +1,13 @@
-//! `make_trace CORES TASKS RUNNABLES BYTES [SEED]`: writes a valid trace of about
-//! so many bytes to standard output.
+//! `make_trace [--end-alike] CORES TASKS RUNNABLES BYTES [SEED]`: writes a valid
+//! trace of about so many bytes to standard output. Its names begin alike, or end
+//! alike.
 
 #![forbid(unsafe_code)]
 
 use std::io;
 use std::process::ExitCode;
 
-use baseline::making::{make_trace, Plan};
+use baseline::making::{make_trace, Naming, Plan};
 
 fn main() -> ExitCode {
     let arguments: Vec<String> = std::env::args().skip(1).collect();
@@ -22,12 +23,16 @@ fn main() -> ExitCode {
 }
 
 fn plan(arguments: &[String]) -> Result<Plan, String> {
-    let (sizes, seed) = match arguments {
-        [sizes @ .., seed] if arguments.len() == 5 => (sizes, number(seed)?),
+    let (naming, numbers) = match arguments {
+        [option, numbers @ ..] if option == "--end-alike" => (Naming::EndAlike, numbers),
+        numbers => (Naming::BeginAlike, numbers),
+    };
+    let (sizes, seed) = match numbers {
+        [sizes @ .., seed] if numbers.len() == 5 => (sizes, number(seed)?),
         sizes => (sizes, 1),
     };
     let [cores, tasks, runnables, bytes] = sizes else {
-        return Err("arguments: CORES TASKS RUNNABLES BYTES [SEED]".to_string());
+        return Err("arguments: [--end-alike] CORES TASKS RUNNABLES BYTES [SEED]".to_string());
     };
     let plan = Plan {
         cores: number(cores)?,
@@ -35,6 +40,7 @@ fn plan(arguments: &[String]) -> Result<Plan, String> {
         runnables: number(runnables)?,
         bytes: number(bytes)?,
         seed,
+        naming,
     };
     match plan.fault() {
         Some(fault) => Err(fault.to_string()),

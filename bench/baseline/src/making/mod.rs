@@ -16,6 +16,7 @@ mod scheduling;
 mod semaphores;
 mod world;
 
+pub use naming::Naming;
 pub use plan::Plan;
 
 use std::io::{self, Write};

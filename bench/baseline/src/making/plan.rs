@@ -1,12 +1,15 @@
 //! What is to be made.
 
-/// The sizes of a trace. Beside the names given here it tracks a few semaphores.
+use super::naming::Naming;
+
+/// The sizes of a trace, and its names. Beside the names given here it tracks a few semaphores.
 pub struct Plan {
     pub cores: usize,
     pub tasks: usize,
     pub runnables: usize,
     pub bytes: u64,
     pub seed: u64,
+    pub naming: Naming,
 }
 
 const MOST_CORES: usize = 64;

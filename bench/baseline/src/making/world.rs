@@ -1,7 +1,7 @@
 //! The system that is traced, and the lines that its parts write.
 
 use super::line_writer::LineWriter;
-use super::naming::{axis, numbered, runnable, semaphore};
+use super::naming::{numbered, Naming};
 use super::plan::Plan;
 use super::random::Random;
 
@@ -95,14 +95,17 @@ pub struct World {
 
 impl World {
     pub fn new(plan: &Plan) -> World {
+        let naming = plan.naming;
         World {
             lines: LineWriter::starting_at(FIRST_TIME),
             random: Random::new(plan.seed),
             cores: (0..plan.cores).map(new_core).collect(),
             processes: (0..plan.tasks).map(|number| new_process(plan, number)).collect(),
-            runnables: (0..plan.runnables).map(|number| Runnable { name: runnable(number), starts: 0 }).collect(),
-            semaphores: (0..plan.semaphores()).map(new_semaphore).collect(),
-            signals: (0..SIGNALS).map(|number| axis("SIG", number)).collect(),
+            runnables: (0..plan.runnables)
+                .map(|number| Runnable { name: naming.runnable(number), starts: 0 })
+                .collect(),
+            semaphores: (0..plan.semaphores()).map(|number| new_semaphore(naming, number)).collect(),
+            signals: (0..SIGNALS).map(|number| naming.axis("SIG", number)).collect(),
             depth: plan.runnables.div_ceil(plan.tasks).clamp(1, 8),
             ready: Vec::new(),
             waiting: Vec::new(),
@@ -158,9 +161,9 @@ fn new_core(number: usize) -> Core {
 fn new_process(plan: &Plan, number: usize) -> Process {
     let interrupt = number % 8 == 7;
     Process {
-        name: axis(if interrupt { "ISR" } else { "TASK" }, number),
-        stimulus: axis("STIM", number),
-        os_event: axis("EVT", number),
+        name: plan.naming.axis(if interrupt { "ISR" } else { "TASK" }, number),
+        stimulus: plan.naming.axis("STIM", number),
+        os_event: plan.naming.axis("EVT", number),
         of: if interrupt { "I" } else { "T" },
         state: State::Terminated,
         instance: 0,
@@ -175,7 +178,7 @@ fn new_process(plan: &Plan, number: usize) -> Process {
 }
 
 /// Spinlocks have one user; every second semaphore can have more.
-fn new_semaphore(number: usize) -> Semaphore {
+fn new_semaphore(naming: Naming, number: usize) -> Semaphore {
     let most = if number % 2 == 0 { 1 } else { 1 + number as u64 };
-    Semaphore { name: semaphore(number), most, count: 0, waiter: None }
+    Semaphore { name: naming.semaphore(number), most, count: 0, waiter: None }
 }

@@ -1,0 +1,90 @@
+# What the scripts of the bench have in common; each of them reads this file. It sets here and root, and a folder $work that is gone when the script ends.
+LC_ALL=C
+export LC_ALL
+
+say() { printf 'bench: %s\n' "$*" >&2; }
+die() { say "$*"; exit 2; }
+
+here=$(cd -- "$(dirname -- "$0")" && pwd -P) || exit 2
+root=$(dirname -- "$here")
+work='' child=''
+
+clean() {
+    status=$?
+    trap '' HUP INT TERM
+    # only the process that this script started
+    if [ -n "$child" ]; then kill "$child" 2>/dev/null; fi
+    if [ -n "$work" ]; then rm -rf "$work"; fi
+    exit "$status"
+}
+trap clean EXIT
+trap 'exit 129' HUP
+trap 'exit 130' INT
+trap 'exit 143' TERM
+
+# Looks at the numbers $megabytes and $rounds, and makes the folder.
+start() {
+    case $megabytes in '' | 0* | *[!0-9]*) die "'$megabytes' is no number of megabytes" ;; esac
+    case $rounds in '' | 0* | *[!0-9]*) die "'$rounds' is no number of rounds" ;; esac
+    case $(now) in *[!0-9]*) die 'date knows no nanoseconds here' ;; esac
+    all_rounds=$(awk -v rounds="$rounds" 'BEGIN { for (i = 1; i <= rounds; i++) print i }')
+    mkdir -p "$root/target" || die "cannot make $root/target"
+    work=$(mktemp -d "$root/target/bench.XXXXXX") || die "cannot write in $root/target"
+}
+
+build_baseline() {
+    say 'building'
+    cargo build --release --quiet -j1 --manifest-path "$here/baseline/Cargo.toml" --target-dir "$here/baseline/target" ||
+        die 'the baseline could not be built'
+    make_trace=$here/baseline/target/release/make_trace
+    fast_reader=$here/baseline/target/release/fast_reader
+}
+
+# ---- time
+
+# Nanoseconds since 1970.
+now() { date +%s%N; }
+
+# TIMES TRACE COMMAND..: runs a command on a trace and adds the nanoseconds that it took to the file TIMES.
+clock() {
+    times=$1 trace=$2
+    shift 2
+    before=$(now)
+    "$@" <"$trace" >"$work/out"
+    after=$(now)
+    printf '%s\n' $((after - before)) >>"$times"
+}
+
+least() { sort -n "$1" | head -n 1; }
+
+# TIMES: the least number of nanoseconds there, without what reading the clock takes.
+best() { printf '%s\n' $(($(least "$1") - nothing)); }
+
+# What reading the clock takes.
+clock_nothing() {
+    for _ in 1 2 3 4 5 6 7 8 9; do clock "$work/nothing" /dev/null :; done
+    nothing=$(least "$work/nothing")
+}
+
+# ---- traces and answers
+
+# TRACE PROGRAM: the program must accept the trace $work/TRACE.btf and print what fast_reader prints.
+compare() {
+    "$2" <"$work/$1.btf" >"$work/answer.program"
+    "$fast_reader" <"$work/$1.btf" >"$work/answer.fast_reader"
+    cmp "$work/answer.program" "$work/answer.fast_reader" >&2 || die "$2 and fast_reader print different answers"
+    grep -q '^verdict 0 ' "$work/answer.program" || die 'the trace was refused'
+}
+
+size_of() { wc -c <"$1"; }
+
+# ---- the head of a report
+
+machine() {
+    model=$(sed -n 's/^model name[[:space:]]*: //p' /proc/cpuinfo 2>/dev/null | head -n 1)
+    if [ -z "$model" ]; then model=$(lscpu 2>/dev/null | sed -n 's/^Model name: *//p' | head -n 1); fi
+    read -r load _ 2>/dev/null </proc/loadavg || load=unknown
+    printf 'machine: %s, %s, %s processors, load at the start %s\n' \
+        "$(uname -m)" "${model:-model unknown}" "$(getconf _NPROCESSORS_ONLN)" "$load"
+    printf 'times: best of %s rounds in turn\n' "$rounds"
+}
