@@ -27,6 +27,6 @@ title Processes = bytes "processes "
 unfoldable pub sectionText : List ℕ → List Row → List ℕ
 sectionText head rs = head ++ digitsOf (length rs) ++ 10 ∷ rowsText rs
 
--- "The sheet question writes the lines from `cores` on"
+-- the sheet is "the lines from `cores` on"
 unfoldable pub sheetText : Sheet → List ℕ
 sheetText s = sectionText (title Cores) (s .cores) ++ sectionText (title Processes) (s .processes)

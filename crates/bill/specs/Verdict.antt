@@ -6,8 +6,6 @@ use lib.Dec.{eqb}
 use Rattle.text.specs.Literal.{bytes}
 use Rattle.text.specs.Number.{digitsOf}
 use Rattle.bill.specs.declared.verdict.Verdict.{Verdict}
-use Rattle.bill.specs.Rows.{Sheet}
-use Rattle.bill.specs.Text.{sheetText}
 use Rattle.bill.specs.Scale.{scaleText}
 
 -- "verdict 0 line 0 scale ns span 960175", "verdict 13 line 7"; "every line ends with byte 10"
@@ -20,6 +18,6 @@ refusedText n l = bytes "verdict " ++ digitsOf n ++ bytes " line " ++ digitsOf l
 unfoldable pub verdictText : Verdict → List ℕ
 verdictText v = cond (eqb (v .number) 0) (acceptedText (v .scale) (v .span)) (refusedText (v .number) (v .line))
 
--- "A refused trace prints one line"
-unfoldable pub reportText : Verdict → Sheet → List ℕ
-reportText v s = verdictText v ++ cond (eqb (v .number) 0) (sheetText s) []
+-- what is printed of a verdict and the text of a sheet: "A refused trace prints one line"
+unfoldable pub reportText : Verdict → List ℕ → List ℕ
+reportText v sheet = verdictText v ++ cond (eqb (v .number) 0) sheet []

@@ -16,7 +16,7 @@ use Rattle.text.specs.Bytes.{startsWith, findFrom}
 use Rattle.text.specs.Number.{numberOf}
 use Rattle.text.proofs.Bools.{lt-or-ge}
 use Rattle.text.proofs.Finds.{find-ge}
-use Rattle.run.proofs.Behind.{part-all}
+use Rattle.outcome.proofs.Wholes.{part-all}
 use Rattle.bundle.specs.declared.container.Entry.{Entry}
 use Rattle.bundle.specs.declared.container.Entry.the-variants.{Trace, Untold}
 use Rattle.bundle.specs.declared.container.Ended.the-variants.{Whole, Broken}

@@ -1,11 +1,12 @@
 // What is printed of one trace, taken as a whole: its label and its text.
 ghost use Prim.Native.Nat.{_≤_};
 ghost use lib.ListN.{length};
-use judge::feed::judge;
 use libc::STDOUT_FILENO;
+use outcome::now::SHEET_MOST;
+use outcome::whole::outcome_of;
+use run::report::Printed;
 use run::report::TEXT_MOST;
-use run::report::report;
-use sheet::sheet::Printed;
+use run::report::put_outcome;
 use tables::entry::NAMES_SIZE;
 use tables::entry::NUMS_SIZE;
 use tables::entry::TICKS_SIZE;
@@ -30,8 +31,9 @@ fn put_text(trace: &[u8], out: &mut [u8]) -> usize
     let mut names = [0u8; NAMES_SIZE];
     let mut nums = [0u32; NUMS_SIZE];
     let mut ticks = [0u64; TICKS_SIZE];
-    judge(&mut names, &mut nums, &mut ticks, trace);
-    let Printed::Done(n) = report(&names, &nums, &ticks, out) else {
+    let mut sheet = [0u8; SHEET_MOST];
+    let o = outcome_of(&mut names, &mut nums, &mut ticks, trace, &mut sheet);
+    let Printed::Done(n) = put_outcome(o, &sheet, out) else {
         return 0;
     };
     least(n, out.len())

@@ -8,7 +8,6 @@ use lib.Seq.{take-add, take-at, getD-take, getD-drop, length-take-le}
 use Rattle.judge.specs.Feed.{Tables}
 use Rattle.run.specs.declared.chunk.Turn.the-variants.{More, Stop}
 use Rattle.run.specs.Chunk.{Turned, chunkTaken, lastTaken, going, stopped, readOn, atInputEnd}
-use Rattle.run.proofs.Behind.{backed}
 use Rattle.run.proofs.Buffered.{goesOn, turn-step, turn-end}
 use Rattle.input.specs.declared.reads.Got.{Got}
 use Rattle.input.specs.declared.reads.Got.the-variants.{Bytes, End}
@@ -18,7 +17,7 @@ use Rattle.input.specs.Reads.{bufferSize, Filled, OneFill, ARead, OneMor
 
 module _ (b m : List ℕ) (have : ℕ) (fit : have < length b) where
   abbrev filledBuffer : List ℕ
-  filledBuffer = backed b have m
+  filledBuffer = take have b ++ (m ++ drop (length b - have) (drop have b))
 
   front-length : length (take have b) ≡ have
   front-length = length-take-le have b (omega arith)

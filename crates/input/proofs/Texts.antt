@@ -11,11 +11,10 @@ use Rattle.walk.specs.Lines.{linesOf}
 use Rattle.tables.specs.Sized.{Sized}
 use Rattle.tables.specs.Fresh.{Cleared, clearedOf}
 use Rattle.tables.proofs.Sizes.{sizes-mean}
-use Rattle.sheet.specs.declared.sheet.Printed.{Printed}
-use Rattle.sheet.specs.declared.sheet.Printed.the-variants.{Done, NotPrinted}
-use Rattle.sheet.specs.Sheet.{Sheeted, sheeted}
 use Rattle.judge.specs.Feed.{Tables, tables, freshTables}
-use Rattle.run.specs.Report.{reportWritten, textMost}
+use Rattle.run.specs.declared.report.Printed.{Printed}
+use Rattle.run.specs.declared.report.Printed.the-variants.{Done, NotPrinted}
+use Rattle.run.specs.Report.{Reported, reported, textPrinted, reportWritten, textMost}
 use Rattle.run.proofs.Buffered.{front}
 use Rattle.promises.specs.Fed.{joined}
 use Rattle.promises.proofs.Reading.{written-right}
@@ -58,30 +57,32 @@ module _ {t : Tables} (b : List ℕ) (u : Tables) (c : List ℕ) (start : t ≡ 
 -- ---- the text
 
 module _ {bytes : ℕ} {names nums ticks : List ℕ} (came : Came bytes freshTables (tables names nums ticks)) (out : List ℕ) (room : textMost ≤ length out)
-    {r : Printed} {m : List ℕ} (e : sheeted r m ≡ reportWritten names nums ticks out) where
+    {r : Printed} {m : List ℕ} (e : reported r m ≡ reportWritten names nums ticks out) where
   abbrev text : List ℕ
   text = textOf (came .reads)
 
-  all-written : sheeted r m ≡ sheeted (Done (length text)) (written out 0 text)
+  all-written : reported r m ≡ reported (Done (length text)) (written out 0 text)
+  unfolding textPrinted
   all-written =
       let fits : length text ≤ length out = omega (arith, text-fits (linesOf (joined (came .reads)))) in
       e
       ∙ ap (λ (u : Tables). reportWritten (u .names) (u .nums) (u .ticks) out) (came .left)
-      ∙ (rw (le-leb (length text) (length out) fits) at (written-right (came .reads) out))
+      ∙ written-right (came .reads) out
+      ∙ rw (le-leb (length text) (length out) fits)
 
   pub told : {n : ℕ} {l : Lent} {b : List ℕ} → l .output ≡ out → r ≡ Done n → Told n bytes l (lent names nums ticks b m)
   told {n} q p =
-      let same : Done n ≡ Done (length text) = sym p ∙ ap (λ (x : Sheeted). x .answer) all-written in
+      let same : Done n ≡ Done (length text) = sym p ∙ ap (λ (x : Reported). x .answer) all-written in
       record {
         came = came;
         size = cc;
-        output = ap (λ (x : Sheeted). x .output) all-written ∙ ap (λ (o : List ℕ). written o 0 text) (sym q);
+        output = ap (λ (x : Reported). x .output) all-written ∙ ap (λ (o : List ℕ). written o 0 text) (sym q);
       }
 
   -- never "too short"
   pub always-fits : {n : ℕ} → r ≡ NotPrinted n → ⊥
   always-fits {n} q =
-      let p : NotPrinted n ≡ Done (length text) = sym q ∙ ap (λ (x : Sheeted). x .answer) all-written in
+      let p : NotPrinted n ≡ Done (length text) = sym q ∙ ap (λ (x : Reported). x .answer) all-written in
       let z : _≡_ {A = ℕ} 0 1 = cc in
       omega arith
 

@@ -4,9 +4,9 @@ ghost use Rattle.input.specs.Whole.{lent, sizeRefusal, lentRefusal, Answ
 use crate::reads::BUFFER_SIZE;
 use crate::reads::Input;
 use crate::reads::read_all;
+use run::report::Printed;
 use run::report::TEXT_MOST;
 use run::report::report;
-use sheet::sheet::Printed;
 use tables::fresh::fresh;
 use tables::size::sized;
 

@@ -1,5 +1,4 @@
--- One line against the tables: each return of the code is what the definitions say. So too where the tables are tested first, for a line, a chunk and the
--- verdict.
+-- One line against the tables: each return of the code is what the definitions say. So too where the tables are tested first, for a line and a chunk.
 use mathlib.Core.Path.{_≡_, sym, _∙_}
 use mathlib.Core.List.{List}
 use Prim.Native.Nat.{ℕ}
@@ -9,7 +8,6 @@ use Rattle.fields.specs.Part.{fieldOf}
 use Rattle.line.specs.declared.event.Event.{Event as ReadEvent}
 use Rattle.line.specs.declared.reading.Reading.{Reading}
 use Rattle.line.specs.Reading.{readLine}
-use Rattle.bill.specs.declared.verdict.Verdict.{Verdict}
 use Rattle.rules.specs.declared.place.Place.{Place}
 use Rattle.rules.specs.Event.{Event}
 use Rattle.rules.specs.Lines.{eventFrom}
@@ -27,7 +25,7 @@ use Rattle.decide.proofs.Decided.{decided-sized}
 use Rattle.store.specs.Store.{stored}
 use Rattle.store.proofs.Stores.{stored-sized}
 use Rattle.judge.specs.Feed.{Tables, After, after, placeIn, remembered, carried, judgedEvent, judgedReading, judgedInPlace, judgedLine, fedLine}
-use Rattle.judge.specs.Feed.{judgedLines, chunked, fedChunk, verdict, verdictIn, verdictOf}
+use Rattle.judge.specs.Feed.{judgedLines, chunked, fedChunk}
 
 -- ---- an event line
 
@@ -97,11 +95,3 @@ module _ (t : Tables) where
       → chunked (record { answer = verdictNumber (u .nums); used = n }) (u .names) (u .nums) (u .ticks) ≡ fedChunk t s
   unfolding fedChunk
   judged-chunk s e z pn pu = rw (← e, z, pn, pu)
-
-  pub unsized-verdict : {r : ℕ} → r ≡ answer → (r ≡ 0 → ⊥) → verdict r 0 0 0 ≡ verdictOf t
-  unfolding verdictOf
-  unsized-verdict {r} e h = rw (← e) (sym (if-some r (verdictIn (t .nums) (t .ticks)) (verdict r 0 0 0) h))
-
-  pub now-verdict : {r : ℕ} {v : Verdict} → r ≡ answer → r ≡ 0 → v ≡ verdictIn (t .nums) (t .ticks) → v ≡ verdictOf t
-  unfolding verdictOf
-  now-verdict e z p = rw (← e, z) p

@@ -1,5 +1,5 @@
 -- Every line keeps the sizes of the three tables, and so do many lines and a fresh start.
-use mathlib.Core.Path.{_≡_, refl, sym, _∙_}
+use mathlib.Core.Path.{_≡_, refl, _∙_}
 use mathlib.Core.Bool.{Bool, true, false, cond}
 use mathlib.Core.List.{List, [], _∷_}
 use Prim.Native.Nat.{ℕ, zero, suc}
@@ -102,14 +102,6 @@ judgedLines-alike t (l ∷ ls) = chain (judgedLine-alike t l) (judgedLines-alike
 
 pub alike-sized : {t u : Tables} → Alike t u → Sized (t .names) (t .nums) (t .ticks) → Sized (u .names) (u .nums) (u .ticks)
 alike-sized a s = record { names-size = a .names-kept ∙ s .names-size; nums-size = a .nums-kept ∙ s .nums-size; ticks-size = a .ticks-kept ∙ s .ticks-size }
-
-pub sized-alike : (t u : Tables) → Sized (t .names) (t .nums) (t .ticks) → Sized (u .names) (u .nums) (u .ticks) → Alike t u
-sized-alike t u s z =
-    record {
-      names-kept = z .names-size ∙ sym (s .names-size);
-      nums-kept = z .nums-size ∙ sym (s .nums-size);
-      ticks-kept = z .ticks-size ∙ sym (s .ticks-size);
-    }
 
 pub fresh-sized : {t : Tables} → t ≡ freshTables → Sized (t .names) (t .nums) (t .ticks)
 fresh-sized e = rw e (fresh-valid .sizes)

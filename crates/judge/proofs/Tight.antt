@@ -13,14 +13,10 @@ use Rattle.text.proofs.Tight.{ShutsOut, shut-out}
 use Rattle.walk.specs.Lines.{lineText, wholeLines, usedUp}
 use Rattle.line.specs.Parameter.{isVersion, isVersionLine, isComment, parameterReading}
 use Rattle.line.specs.Reading.{hasBreak, isEventLine, readLine}
-use Rattle.bill.specs.declared.verdict.Verdict.{Verdict}
 use Rattle.steps.specs.PlaceCode.{answerByReading}
 use Rattle.tables.specs.Entry.{lineCount}
-use Rattle.tables.specs.Sized.{isSized}
-use Rattle.ranges.specs.Range.{tableAnswer}
 use Rattle.ranges.proofs.FreshTables.{fresh-answer}
-use Rattle.judge.specs.Feed.{Tables, tables, After, placeIn, counted, judgedInPlace, judgedLine, fedLine, judgedLines, AfterChunk, fedChunk}
-use Rattle.judge.specs.Feed.{verdictIn, verdictOf, freshTables}
+use Rattle.judge.specs.Feed.{Tables, After, placeIn, counted, judgedInPlace, judgedLine, fedLine, judgedLines, AfterChunk, fedChunk, freshTables}
 
 -- ---- `feed`
 
@@ -75,15 +71,3 @@ chunk-not-idle g h =
       input = (freshTables, oneLine);
       breaks = λ e. omega (arith, ap (λ (t : Tables). lineCount (t .nums)) h, ap (λ (x : AfterChunk). lineCount (x .left .nums)) e, line-counted);
     }
-
--- ---- `verdict_now`
-
--- nothing taken is not all taken
-pub verdict-not-of-nothing : (g : Tables → Verdict) → g freshTables .number ≡ 0 → ShutsOut verdictOf g
-unfolding verdictOf verdictIn
-verdict-not-of-nothing g h = shut-out (λ v. eqb (v .number) 2) freshTables (rw fresh-answer) (rw h)
-
--- tables are tested
-pub verdict-not-untested : ShutsOut verdictOf (λ t. verdictIn (t .nums) (t .ticks))
-unfolding verdictOf verdictIn tableAnswer isSized
-verdict-not-untested = shut-out (λ v. eqb (v .number) 15) (tables [] [] []) refl refl

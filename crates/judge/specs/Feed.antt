@@ -1,16 +1,15 @@
--- One line against the tables, many lines, and the verdict if the trace ended now.
+-- One line against the tables, and many lines.
 use mathlib.Core.Bool.{not, cond}
 use mathlib.Core.List.{List, [], _∷_}
-use Prim.Native.Nat.{ℕ, _+_, _-_, _%_, _^_}
+use Prim.Native.Nat.{ℕ, _+_, _%_, _^_}
 use lib.Dec.{eqb}
-use lib.ListN.{length, set, replicate}
-use Rattle.walk.specs.Lines.{wholeLines, usedUp, linesOf}
+use lib.ListN.{set, replicate}
+use Rattle.walk.specs.Lines.{wholeLines, usedUp}
 use Rattle.fields.specs.Part.{fieldOf}
 use Rattle.line.specs.declared.event.Event.{Event as ReadEvent}
 use Rattle.line.specs.declared.reading.Reading.{Reading}
 use Rattle.line.specs.declared.reading.Reading.the-variants.{Version, Comment, TimeScale, Creator, CreationDate, EventLine, Refused}
 use Rattle.line.specs.Reading.{readLine}
-use Rattle.bill.specs.declared.verdict.Verdict.{Verdict}
 use Rattle.bill.specs.Scale.{scaleNumber}
 use Rattle.rules.specs.declared.place.Place.{Place}
 use Rattle.rules.specs.Event.{Event}
@@ -18,8 +17,7 @@ use Rattle.rules.specs.Lines.{eventFrom}
 use Rattle.rules.specs.Lists.{ifZero}
 use Rattle.steps.specs.PlaceCode.{answerByReading}
 pub use Rattle.tables.specs.Entry.{Tables, tables}
-use Rattle.tables.specs.Entry.{verdictIndex, verdictLineIndex, linesIndex, scaleIndex, creatorIndex, dateIndex, namesSize, numsSize, ticksSize, verdictNumber, verdictLine, lineCount, scaleEntry, creatorEntry, dateEntry, startedEntry, firstTime, lastTime}
-use Rattle.tables.specs.Sized.{isSized}
+use Rattle.tables.specs.Entry.{verdictIndex, verdictLineIndex, linesIndex, scaleIndex, creatorIndex, dateIndex, namesSize, numsSize, ticksSize, verdictNumber, lineCount, scaleEntry, creatorEntry, dateEntry, startedEntry}
 use Rattle.ranges.specs.Range.{tableAnswer}
 use Rattle.decide.specs.declared.plan.Plan.{Plan}
 use Rattle.decide.specs.declared.plan.Plan.the-variants.{Refuse, Take}
@@ -110,37 +108,7 @@ fedChunk t chunk =
     })
     (record { fed = record { answer = tableAnswer (t .names) (t .nums) (t .ticks); used = 0 }; left = t })
 
--- ---- the verdict if the trace ended now
-
-abbrev pub verdict : ℕ → ℕ → ℕ → ℕ → Verdict
-verdict n l scale span = record { number = n; line = l; scale = scale; span = span }
-
--- "An empty trace is refusal 2 at line 1. A trace of n taken lines that ends without a scale is refusal 4 at line n + 1."
-unfoldable pub verdictIn : List ℕ → List ℕ → Verdict
-verdictIn nums ticks =
-    let span = lastTime ticks - firstTime ticks in
-    cond (eqb (verdictNumber nums) 0)
-    (cond (eqb (lineCount nums) 0) (verdict 2 1 0 span)
-    (cond (eqb (scaleEntry nums) 0) (verdict 4 ((lineCount nums + 1) % 2 ^ 32) 0 span) (verdict 0 0 (scaleEntry nums) span)))
-    (verdict (verdictNumber nums) (verdictLine nums) (scaleEntry nums) span)
-
-unfoldable pub verdictOf : Tables → Verdict
-verdictOf t = ifZero (tableAnswer (t .names) (t .nums) (t .ticks)) (verdictIn (t .nums) (t .ticks)) (verdict (tableAnswer (t .names) (t .nums) (t .ticks)) 0 0 0)
-
--- ---- a whole trace from a fresh start
+-- ---- a fresh start
 
 abbrev pub freshTables : Tables
 freshTables = tables (replicate namesSize 0) (replicate numsSize 0) (replicate ticksSize 0)
-
-pub record AfterTrace : Type 0 where
-  pub judged : Verdict
-  pub left : Tables
-
-abbrev pub traced : Verdict → List ℕ → List ℕ → List ℕ → AfterTrace
-traced v names nums ticks = record { judged = v; left = tables names nums ticks }
-
-unfoldable pub judgedTrace : Tables → List ℕ → AfterTrace
-judgedTrace t trace =
-    cond (isSized (length (t .names)) (length (t .nums)) (length (t .ticks)))
-    (let u = judgedLines freshTables (linesOf trace) in record { judged = verdictIn (u .nums) (u .ticks); left = u })
-    (record { judged = verdict 15 0 0 0; left = t })

@@ -1,2 +1,2 @@
--- The judge over lent tables: one line, many lines, a whole trace, and the verdict if it ended now.
+-- The judge over lent tables: one line, and many lines.
 pub mod Feed

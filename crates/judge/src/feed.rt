@@ -1,14 +1,11 @@
-// What the judge is asked over lent tables, whatever they hold: one line, the lines of a chunk, a whole trace, and the verdict if the trace ended now.
+// What the judge is asked over lent tables, whatever they hold: one line, and the lines of a chunk.
 ghost use mathlib.Core.Path.{_≡_};
 ghost use Rattle.walk.specs.Lines.{wholeLines, usedUp};
 ghost use Rattle.tables.specs.Sized.{Sized};
-ghost use Rattle.judge.specs.Feed.{tables, after, fedLine, judgedLines, chunked, fedChunk, verdictOf, traced, judgedTrace};
-use crate::at_end::verdict_in;
+ghost use Rattle.judge.specs.Feed.{tables, after, fedLine, judgedLines, chunked, fedChunk};
 use crate::one_line::line_in;
-use bill::verdict::Verdict;
 use ranges::range::table_answer;
 use tables::entry::*;
-use tables::fresh::fresh;
 use walk::lines::Next;
 use walk::reader::line_from;
 
@@ -62,41 +59,4 @@ pub fn feed_chunk(names: &mut [u8], nums: &mut [u32], ticks: &mut [u64], chunk: 
         answer: nums[VERDICT],
         used,
     }
-}
-
-// The question after the verdict if the trace ended now; it changes nothing.
-pub fn verdict_now(names: &[u8], nums: &[u32], ticks: &[u64]) -> Verdict
-    ensures { λ r. ⌜ r ≡ verdictOf (tables (now (names .entry)) (now (nums .entry)) (now (ticks .entry))) ⌝ }
-{
-    let t = table_answer(names, nums, ticks);
-    if t != 0 {
-        return Verdict {
-            number: t,
-            line: 0,
-            scale: 0,
-            span: 0,
-        };
-    }
-    verdict_in(nums, ticks)
-}
-
-// A fresh start and every line of a whole trace, the last one with or without its end; the verdict.
-pub fn judge(names: &mut [u8], nums: &mut [u32], ticks: &mut [u64], trace: &[u8]) -> Verdict
-    ensures { λ r. ⌜ traced r (now (names .exit)) (now (nums .exit)) (now (ticks .exit))
-        ≡ judgedTrace (tables (now (names .entry)) (now (nums .entry)) (now (ticks .entry))) (now (trace .entry)) ⌝ }
-{
-    let t = fresh(names, nums, ticks);
-    if t != 0 {
-        return Verdict {
-            number: t,
-            line: 0,
-            scale: 0,
-            span: 0,
-        };
-    }
-    let used = lines_in(names, nums, ticks, trace);
-    if used < trace.len() {
-        line_in(names, nums, ticks, &trace[used..]);
-    }
-    verdict_in(nums, ticks)
 }

@@ -1,4 +1,3 @@
-// The judge over lent tables. In come the tables and a line, a chunk or a whole trace; out go the number or the verdict, and the tables after it.
-pub mod at_end;
+// The judge over lent tables. In come the tables and a line or a chunk; out go the number, and the tables after it.
 pub mod feed;
 pub mod one_line;

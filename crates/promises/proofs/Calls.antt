@@ -6,7 +6,7 @@ use mathlib.Core.List.{List, [], _∷_}
 use Prim.Native.Nat.{ℕ, zero, suc, _+_, _≤_, _<_}
 use native.Mathlib.Omega.{arith}
 use lib.Dec.{eqb, leb}
-use lib.ListN.{length}
+use lib.ListN.{length, take}
 use borrow.Author.Tests.{eqb-false, ne-eqb}
 use Rattle.text.specs.Put.{written}
 use Rattle.walk.specs.Lines.{wholeLines, usedUp, linesOf}
@@ -19,6 +19,7 @@ use Rattle.line.specs.Writing.{writeLine, writtenAnswer}
 use Rattle.line.proofs.Answers.{answer-lowest}
 use Rattle.line.proofs.Outputs.{refused-keeps}
 use Rattle.line.proofs.Lowest.{lowest-has}
+use Rattle.bill.specs.declared.verdict.Verdict.{Verdict}
 use Rattle.bill.specs.Text.{sheetText}
 use Rattle.bill.specs.Verdict.{reportText}
 use Rattle.rules.specs.Limits.{lastRefusal}
@@ -32,16 +33,19 @@ use Rattle.ranges.specs.Range.{tableAnswer}
 use Rattle.ranges.proofs.Valid.{valid, three-answers}
 use Rattle.decide.specs.Decide.{planAnswer, decided}
 use Rattle.decide.proofs.Decided.{ruled, plan-answer, decided-answer, plan-refuses}
-use Rattle.sheet.specs.declared.sheet.Printed.the-variants.{Done, NotPrinted}
-use Rattle.sheet.specs.Sheet.{Sheeted, sheeted, sheetIn, sheetWritten, printedAnswer}
+use Rattle.sheet.specs.Sheet.{sheetIn}
 use Rattle.judge.specs.Feed.{Tables, After, after, judgedLine, judgedLines, fedLine, AfterChunk, fedChunk}
-use Rattle.judge.specs.Feed.{verdict, verdictIn, verdictOf, AfterTrace, freshTables, judgedTrace}
-use Rattle.run.specs.Report.{reportWritten}
-use Rattle.run.proofs.Reports.{told-most}
-use Rattle.promises.proofs.Judged.{never-16}
+use Rattle.outcome.specs.declared.now.Outcome.{Outcome}
+use Rattle.outcome.specs.AtEnd.{verdictIn}
+use Rattle.outcome.specs.Outcome.{Asked, asked, refusedBy, outcomeIn, traceOutcome}
+use Rattle.outcome.proofs.AtEnd.{told-most}
+use Rattle.run.specs.declared.report.Printed.the-variants.{Done, NotPrinted}
+use Rattle.run.specs.Report.{Reported, reported, printedAnswer, textPrinted, outcomePrinted, reportWritten}
+use Rattle.promises.specs.Answers.{readAnswers, decideAnswers, freshAnswers, feedAnswers, traceAnswers, printAnswers, reportAnswers, writeNothing}
+use Rattle.promises.proofs.Judged.{after-lines, never-16}
 use Rattle.promises.proofs.Numbers.{judged-numbered, lines-most}
 use Rattle.promises.proofs.Refused.{StopsAfter, lines-spare}
-use Rattle.promises.specs.Answers.{readAnswers, decideAnswers, freshAnswers, feedAnswers, judgeAnswers, printAnswers, writeNothing}
+use Rattle.promises.proofs.Outcomes.{trace-outcome, wrong-sizes}
 
 -- ---- numbers in a row
 
@@ -62,9 +66,9 @@ in-feed : (n : ℕ) → n ≤ 16 → member n feedAnswers ≡ true
 unfolding upFrom
 in-feed n h = in-row 0 17 n (omega arith) (omega arith)
 
-in-judge : (n : ℕ) → n ≤ 15 → member n judgeAnswers ≡ true
+in-trace : (n : ℕ) → n ≤ 15 → member n traceAnswers ≡ true
 unfolding upFrom
-in-judge n h = in-row 0 16 n (omega arith) (omega arith)
+in-trace n h = in-row 0 16 n (omega arith) (omega arith)
 
 in-decide : (n : ℕ) → (1 ≤ n → (8 ≤ n) × (n ≤ lastRefusal)) → member n decideAnswers ≡ true
 unfolding upFrom
@@ -166,65 +170,87 @@ module _ (t : Tables) where
         (λ q. absurd (let z : _≡_ {A = ℕ} 0 1 = cc in omega arith))
         (λ q. absurd (let z : _≡_ {A = ℕ} 0 1 = cc in omega arith))
 
-  -- ---- a trace, and the verdict now
+-- ---- the one question, and a whole trace
 
-  module _ (trace : List ℕ) where
-    abbrev all : Bool → AfterTrace
-    all b =
-        cond b (let u = judgedLines freshTables (linesOf trace) in record { judged = verdictIn (u .nums) (u .ticks); left = u })
-        (record { judged = verdict 15 0 0 0; left = t })
+-- what tables in range tell: a number of at most 15, and where that is 15 the output is as it was
+pub record Telling (x : Asked) (out : List ℕ) : Type 0 where
+  pub most : x .outcome .verdict .number ≤ 15
+  pub spares : member (x .outcome .verdict .number) writeNothing ≡ true → x .output ≡ out
 
-    trace-most : all true .judged .number ≤ lastRefusal
-    trace-most = let u = judgedLines freshTables (linesOf trace) in told-most (u .names) (u .nums) (u .ticks) (never-16 (linesOf trace))
+module _ (t : Tables) (out : List ℕ) where
+  abbrev question : ℕ → Asked
+  question n =
+      ifZero n
+      (let text = sheetText (sheetIn (t .names) (t .nums) (t .ticks)) in
+      cond (leb (length text) (length out)) (asked (record { verdict = verdictIn (t .nums) (t .ticks); length = length text }) (written out 0 text))
+      (asked (refusedBy 15) out))
+      (asked (refusedBy n) out)
 
-    pub judges : member (judgedTrace t trace .judged .number) judgeAnswers ≡ true
-    unfolding judgedTrace
-    judges = by-size (isSized (length (t .names)) (length (t .nums)) (length (t .ticks)))
-      where
-        by-size : (b : Bool) → member (all b .judged .number) judgeAnswers ≡ true
-        by-size true = let m = trace-most in in-judge (all true .judged .number) (omega arith)
-        by-size false = refl
+  told : tableAnswer (t .names) (t .nums) (t .ticks) ≡ 0 → Telling (question 0) out
+  told e =
+      let text = sheetText (sheetIn (t .names) (t .nums) (t .ticks)) in
+      by-room (leb (length text) (length out)) (verdictIn (t .nums) (t .ticks)) (length text) (written out 0 text) (told-most (t .names) (t .nums) (t .ticks) e)
+    where
+      by-room : (b : Bool) (v : Verdict) (n : ℕ) (m : List ℕ) → v .number ≤ lastRefusal →
+          Telling (cond b (asked (record { verdict = v; length = n }) m) (asked (refusedBy 15) out)) out
+      by-room true v n m h = record { most = omega arith; spares = λ q. let z = remembers (v .number) h in absurd (let y : _≡_ {A = ℕ} 0 1 = cc in omega arith) }
+      by-room false v n m h = record { most = omega arith; spares = λ q. refl }
 
-    pub judge-still : judgedTrace t trace .judged .number ≡ 15 → judgedTrace t trace .left ≡ t
-    unfolding judgedTrace
-    judge-still = by-size (isSized (length (t .names)) (length (t .nums)) (length (t .ticks)))
-      where
-        by-size : (b : Bool) → all b .judged .number ≡ 15 → all b .left ≡ t
-        by-size true q = absurd (let m = trace-most in omega arith)
-        by-size false q = refl
-
-  pub tells : member (verdictOf t .number) feedAnswers ≡ true
-  unfolding verdictOf
+  pub tells : member (outcomeIn t out .outcome .verdict .number) feedAnswers ≡ true
+  unfolding outcomeIn
   tells =
-      by-own (λ n. member (ifZero n (verdictIn (t .nums) (t .ticks)) (verdict n 0 0 0) .number) feedAnswers ≡ true)
-      (λ e. let m = told-most (t .names) (t .nums) (t .ticks) e in in-feed (verdictIn (t .nums) (t .ticks) .number) (omega arith)) refl refl
+      by-own t (λ n. member (question n .outcome .verdict .number) feedAnswers ≡ true)
+      (λ e. let m = told e .most in in-feed (question 0 .outcome .verdict .number) (omega arith)) refl refl
+
+  pub tell-still : member (outcomeIn t out .outcome .verdict .number) writeNothing ≡ true → outcomeIn t out .output ≡ out
+  unfolding outcomeIn
+  tell-still =
+      by-own t (λ n. member (question n .outcome .verdict .number) writeNothing ≡ true → question n .output ≡ out) (λ e. told e .spares) (λ q. refl) (λ q. refl)
+
+after-told : (u : Tables) (out : List ℕ) → tableAnswer (u .names) (u .nums) (u .ticks) ≡ 0 → Telling (outcomeIn u out) out
+unfolding outcomeIn
+after-told u out e = rw e (told u out e)
+
+module _ (t : Tables) (trace out : List ℕ) where
+  abbrev sizes : Bool
+  sizes = isSized (length (t .names)) (length (t .nums)) (length (t .ticks))
+
+  trace-tells : Telling (traceOutcome t trace out .told) out
+  trace-tells = by-size sizes refl
+    where
+      by-size : (b : Bool) → sizes ≡ b → Telling (traceOutcome t trace out .told) out
+      by-size true f = rw (trace-outcome t trace f out) (after-told (after-lines (linesOf trace)) out (never-16 (linesOf trace)))
+      by-size false f = rw (wrong-sizes t f trace out) (record { most = omega arith; spares = λ q. refl })
+
+  pub traces : member (traceOutcome t trace out .told .outcome .verdict .number) traceAnswers ≡ true
+  traces = in-trace _ (trace-tells .most)
+
+  pub trace-still : traceOutcome t trace out .told .outcome .verdict .number ≡ 15 → traceOutcome t trace out .told .output ≡ out
+  trace-still q = trace-tells .spares (rw q)
 
 -- ---- an output
 
-pub record Printing (x : Sheeted) (out : List ℕ) : Type 0 where
-  pub gives : member (printedAnswer (x .answer)) printAnswers ≡ true
+pub record Printing (x : Reported) (out : List ℕ) (answers : List ℕ) : Type 0 where
+  pub gives : member (printedAnswer (x .answer)) answers ≡ true
   pub spares : (printedAnswer (x .answer) ≡ 0 → ⊥) → x .output ≡ out
 
-module _ (names nums ticks out text : List ℕ) where
-  abbrev print : ℕ → Sheeted
-  print n =
-      ifZero n (cond (leb (length text) (length out)) (sheeted (Done (length text)) (written out 0 text)) (sheeted (NotPrinted 15) out))
-      (sheeted (NotPrinted n) out)
-
-  prints : Printing (print (tableAnswer names nums ticks)) out
-  unfolding printedAnswer
-  prints =
-      own names nums ticks (λ n. Printing (print n) out) (λ e. by-room (leb (length text) (length out)))
-      (record { gives = refl; spares = λ h. refl }) (record { gives = refl; spares = λ h. refl })
+module _ (text out : List ℕ) where
+  text-prints : (answers : List ℕ) → member 0 answers ≡ true → member 15 answers ≡ true → Printing (textPrinted text out) out answers
+  unfolding textPrinted printedAnswer
+  text-prints answers z f = by-room (leb (length text) (length out))
     where
-      by-room : (b : Bool) → Printing (cond b (sheeted (Done (length text)) (written out 0 text)) (sheeted (NotPrinted 15) out)) out
-      by-room true = record { gives = refl; spares = λ h. absurd (h refl) }
-      by-room false = record { gives = refl; spares = λ h. refl }
+      by-room : (b : Bool) → Printing (cond b (reported (Done (length text)) (written out 0 text)) (reported (NotPrinted 15) out)) out answers
+      by-room true = record { gives = z; spares = λ h. absurd (h refl) }
+      by-room false = record { gives = f; spares = λ h. refl }
 
-pub sheets : (names nums ticks out : List ℕ) → Printing (sheetWritten names nums ticks out) out
-unfolding sheetWritten
-sheets names nums ticks out = prints names nums ticks out (sheetText (sheetIn names nums ticks))
+pub prints : (o : Outcome) (sheet out : List ℕ) → Printing (outcomePrinted o sheet out) out printAnswers
+unfolding outcomePrinted
+prints o sheet out = text-prints (reportText (o .verdict) (take (o .length) sheet)) out printAnswers refl refl
 
-pub reports : (names nums ticks out : List ℕ) → Printing (reportWritten names nums ticks out) out
-unfolding reportWritten
-reports names nums ticks out = prints names nums ticks out (reportText (verdictIn nums ticks) (sheetIn names nums ticks))
+pub reports : (names nums ticks out : List ℕ) → Printing (reportWritten names nums ticks out) out reportAnswers
+unfolding reportWritten printedAnswer
+reports names nums ticks out =
+    let text = reportText (verdictIn nums ticks) (sheetText (sheetIn names nums ticks)) in
+    own names nums ticks (λ n. Printing (ifZero n (textPrinted text out) (reported (NotPrinted n) out)) out reportAnswers)
+    (λ e. text-prints text out reportAnswers refl refl)
+    (record { gives = refl; spares = λ h. refl }) (record { gives = refl; spares = λ h. refl })

@@ -5,6 +5,7 @@ use mathlib.Core.Path.{_≡_}
 use mathlib.Core.Bool.{true, false}
 use mathlib.Core.List.{List}
 use Prim.Native.Nat.{ℕ}
+use lib.ListN.{length}
 use Rattle.walk.specs.Lines.{wholeLines}
 use Rattle.line.specs.declared.event.Event.{Event as ReadEvent}
 use Rattle.line.specs.Reading.{readLine, answerOf}
@@ -12,16 +13,20 @@ use Rattle.line.specs.Writing.{writeLine, writtenAnswer}
 use Rattle.line.proofs.Outputs.{writer-answers}
 use Rattle.rules.specs.Lists.{member}
 use Rattle.rules.specs.Event.{Event}
+use Rattle.tables.specs.Sized.{isSized}
 use Rattle.tables.specs.Fresh.{cleared, clearedOf}
 use Rattle.tables.proofs.Zeros.{clear-kept}
 use Rattle.decide.specs.Decide.{planAnswer, decided}
-use Rattle.judge.specs.Feed.{Tables, judgedLines, fedLine, fedChunk, verdictOf, judgedTrace}
-use Rattle.sheet.specs.Sheet.{sheetWritten, printedAnswer}
-use Rattle.run.specs.Report.{reportWritten}
-use Rattle.promises.specs.Answers.{readAnswers, writeAnswers, decideAnswers, freshAnswers, feedAnswers, judgeAnswers, printAnswers, writeNothing}
+use Rattle.judge.specs.Feed.{Tables, judgedLines, fedLine, fedChunk}
+use Rattle.outcome.specs.declared.now.Outcome.{Outcome}
+use Rattle.outcome.specs.Outcome.{asked, refusedBy, outcomeIn, traceOutcome}
+use Rattle.run.specs.Report.{printedAnswer, outcomePrinted, reportWritten}
+use Rattle.promises.specs.Answers.{readAnswers, writeAnswers, decideAnswers, freshAnswers, feedAnswers, traceAnswers, printAnswers, reportAnswers}
+use Rattle.promises.specs.Answers.{writeNothing}
 use Rattle.promises.proofs.Refused.{OnlyVerdict, refused-spares, StopsAfter}
-use Rattle.promises.proofs.Calls.{reads, write-kept, freshens, decides, feeds, feed-still, chunks, chunk-still, chunk-stops, judges, judge-still, tells}
-use Rattle.promises.proofs.Calls.{sheets, reports}
+use Rattle.promises.proofs.Outcomes.{wrong-sizes}
+use Rattle.promises.proofs.Calls.{reads, write-kept, freshens, decides, feeds, feed-still, chunks, chunk-still, chunk-stops, tells, tell-still}
+use Rattle.promises.proofs.Calls.{traces, trace-still, prints, reports}
 
 pub record Demand1 : Type 0 where
   -- any bytes as a line
@@ -43,15 +48,19 @@ pub record Demand1 : Type 0 where
   pub chunk-spares : (t : Tables) (chunk : List ℕ) → member (fedChunk t chunk .fed .answer) writeNothing ≡ false →
       (fedChunk t chunk .left ≡ judgedLines t (wholeLines chunk)) × StopsAfter t (wholeLines chunk)
   pub chunk-idle : (t : Tables) (chunk : List ℕ) → member (fedChunk t chunk .fed .answer) writeNothing ≡ true → fedChunk t chunk .left ≡ t
+  -- any tables, any output: the one question, to which no table is lent to be changed
+  pub outcome-gives : (t : Tables) (out : List ℕ) → member (outcomeIn t out .outcome .verdict .number) feedAnswers ≡ true
+  pub outcome-spares : (t : Tables) (out : List ℕ) → member (outcomeIn t out .outcome .verdict .number) writeNothing ≡ true → outcomeIn t out .output ≡ out
   -- any bytes as a trace
-  pub judge-gives : (t : Tables) (trace : List ℕ) → member (judgedTrace t trace .judged .number) judgeAnswers ≡ true
-  pub judge-idle : (t : Tables) (trace : List ℕ) → judgedTrace t trace .judged .number ≡ 15 → judgedTrace t trace .left ≡ t
-  -- any tables; and any output
-  pub verdict-gives : (t : Tables) → member (verdictOf t .number) feedAnswers ≡ true
-  pub sheet-gives : (names nums ticks out : List ℕ) → member (printedAnswer (sheetWritten names nums ticks out .answer)) printAnswers ≡ true
-  pub sheet-spares : (names nums ticks out : List ℕ) → (printedAnswer (sheetWritten names nums ticks out .answer) ≡ 0 → ⊥) →
-      sheetWritten names nums ticks out .output ≡ out
-  pub report-gives : (names nums ticks out : List ℕ) → member (printedAnswer (reportWritten names nums ticks out .answer)) printAnswers ≡ true
+  pub trace-gives : (t : Tables) (trace out : List ℕ) → member (traceOutcome t trace out .told .outcome .verdict .number) traceAnswers ≡ true
+  pub trace-spares : (t : Tables) (trace out : List ℕ) → traceOutcome t trace out .told .outcome .verdict .number ≡ 15 →
+      traceOutcome t trace out .told .output ≡ out
+  pub trace-idle : (t : Tables) → isSized (length (t .names)) (length (t .nums)) (length (t .ticks)) ≡ false → (trace out : List ℕ) →
+      traceOutcome t trace out ≡ record { told = asked (refusedBy 15) out; left = t }
+  -- any outcome, any bytes as its sheet; any tables
+  pub print-gives : (o : Outcome) (sheet out : List ℕ) → member (printedAnswer (outcomePrinted o sheet out .answer)) printAnswers ≡ true
+  pub print-spares : (o : Outcome) (sheet out : List ℕ) → (printedAnswer (outcomePrinted o sheet out .answer) ≡ 0 → ⊥) → outcomePrinted o sheet out .output ≡ out
+  pub report-gives : (names nums ticks out : List ℕ) → member (printedAnswer (reportWritten names nums ticks out .answer)) reportAnswers ≡ true
   pub report-spares : (names nums ticks out : List ℕ) → (printedAnswer (reportWritten names nums ticks out .answer) ≡ 0 → ⊥) →
       reportWritten names nums ticks out .output ≡ out
 
@@ -69,11 +78,13 @@ demand-1 = record {
   chunk-gives = chunks;
   chunk-spares = chunk-stops;
   chunk-idle = chunk-still;
-  judge-gives = judges;
-  judge-idle = judge-still;
-  verdict-gives = tells;
-  sheet-gives = λ names nums ticks out. sheets names nums ticks out .gives;
-  sheet-spares = λ names nums ticks out. sheets names nums ticks out .spares;
+  outcome-gives = tells;
+  outcome-spares = tell-still;
+  trace-gives = traces;
+  trace-spares = trace-still;
+  trace-idle = wrong-sizes;
+  print-gives = λ o sheet out. prints o sheet out .gives;
+  print-spares = λ o sheet out. prints o sheet out .spares;
   report-gives = λ names nums ticks out. reports names nums ticks out .gives;
   report-spares = λ names nums ticks out. reports names nums ticks out .spares;
 }

@@ -1,4 +1,4 @@
--- DEMAND 2 OF THE JUDGE, over the bytes of any trace, in tables of the right sizes, whatever they held.
+-- DEMAND 2 OF THE JUDGE, over any lines, and over the bytes of any trace in tables of the right sizes, whatever they held.
 -- `demand-2`: the verdict on a trace is 0 exactly if the trace is lawful. `Lawful` (rules/specs/Lawful) has a field for each thing that is asked of the lines
 -- and of the list of their events; of tables, and of how the judge decides, it does not speak.
 -- `demand-2-refused`: any other verdict names the first line that breaks this. The lines before it break nothing, with it they do, and the number is the
@@ -8,20 +8,25 @@ use mathlib.Core.Path.{_≡_, refl, sym, ap, _∙_}
 use mathlib.Core.Logic.{_↔_}
 use mathlib.Core.Bool.{Bool, true, false, cond}
 use mathlib.Core.List.{List, [], _∷_, _++_, reverse, reverse-reverse}
-use Prim.Native.Nat.{ℕ, _+_}
+use Prim.Native.Nat.{ℕ, _+_, _≤_}
 use native.Mathlib.Omega.{arith}
 use lib.Dec.{eqb}
 use lib.ListN.{length, length-reverse}
 use borrow.Author.Tests.{eqb-true}
 use Rattle.walk.specs.Lines.{linesOf}
+use Rattle.bill.specs.declared.verdict.Verdict.{Verdict}
+use Rattle.bill.specs.Text.{sheetText}
 use Rattle.rules.specs.First.{FirstRefused}
 use Rattle.rules.specs.Trace.{placeOf, answerAt, atEnd, takenLines}
 use Rattle.rules.specs.Lawful.{SoFar, Lawful}
-use Rattle.rules.proofs.Traces.{Kept, kept-before, Why, Names, at-line, at-end, taken-sound}
+use Rattle.rules.proofs.Traces.{Kept, kept-before, Why, Names, at-line, at-end, number-sound, verdict-names-first, taken-sound}
 use Rattle.rules.proofs.Lawful.{kept-so-far, sound-lawful}
 use Rattle.tables.specs.Sized.{isSized}
-use Rattle.judge.specs.Feed.{Tables, judgedTrace}
-use Rattle.promises.proofs.Judged.{judge-sound, judge-names-first}
+use Rattle.judge.specs.Feed.{Tables}
+use Rattle.outcome.specs.Outcome.{Asked, AfterTrace, traceOutcome}
+use Rattle.promises.specs.Sheets.{sheetOf}
+use Rattle.promises.specs.Outcomes.{verdictOf}
+use Rattle.promises.proofs.Outcomes.{answered, trace-outcome}
 
 -- the first line of a list, THE OLDEST FIRST, that breaks what is asked, and why
 pub record FirstBroken (ls : List (List ℕ)) (number line : ℕ) : Type 0 where
@@ -75,14 +80,32 @@ module _ (ls : List (List ℕ)) (number line : ℕ) where
   named (at-line r why) n = first-broken (by-line r why)
   named (at-end q v) n = at-its-end n (kept-so-far (reverse ls) .0 (rw q at (taken-sound ls .kept))) (reverse ls) refl (rw q at v)
 
--- ---- a whole trace
+-- ---- any lines
 
-module _ (t : Tables) (fits : isSized (length (t .names)) (length (t .nums)) (length (t .ticks)) ≡ true) (trace : List ℕ) where
-  pub demand-2 : (judgedTrace t trace .judged .number ≡ 0) ↔ Lawful (reverse (linesOf trace))
-  demand-2 =
-      let s = judge-sound t fits trace in
-      let l = sound-lawful (reverse (linesOf trace)) in
+module _ (ls : List (List ℕ)) where
+  pub lawful-exactly : (verdictOf ls .number ≡ 0) ↔ Lawful (reverse ls)
+  lawful-exactly =
+      let s = number-sound ls in
+      let l = sound-lawful (reverse ls) in
       (λ q. l .0 (s .0 q), λ w. s .1 (l .1 w))
 
-  pub demand-2-refused : (judgedTrace t trace .judged .number ≡ 0 → ⊥) → Refusal (linesOf trace) (judgedTrace t trace .judged .number) (judgedTrace t trace .judged .line)
-  demand-2-refused = named (linesOf trace) (judgedTrace t trace .judged .number) (judgedTrace t trace .judged .line) (judge-names-first t fits trace)
+  pub refused-first : (verdictOf ls .number ≡ 0 → ⊥) → Refusal ls (verdictOf ls .number) (verdictOf ls .line)
+  refused-first = named ls (verdictOf ls .number) (verdictOf ls .line) (verdict-names-first ls)
+
+-- ---- a whole trace, where its sheet has room
+
+module _ (t : Tables) (fits : isSized (length (t .names)) (length (t .nums)) (length (t .ticks)) ≡ true) (trace out : List ℕ)
+    (room : length (sheetText (sheetOf (linesOf trace))) ≤ length out) where
+  abbrev pub told : Verdict
+  told = traceOutcome t trace out .told .outcome .verdict
+
+  pub told-right : told ≡ verdictOf (linesOf trace)
+  told-right =
+      ap (λ (x : AfterTrace). x .told .outcome .verdict) (trace-outcome t trace fits out)
+      ∙ ap (λ (x : Asked). x .outcome .verdict) (answered (linesOf trace) out room)
+
+  pub demand-2 : (told .number ≡ 0) ↔ Lawful (reverse (linesOf trace))
+  demand-2 = rw told-right (lawful-exactly (linesOf trace))
+
+  pub demand-2-refused : (told .number ≡ 0 → ⊥) → Refusal (linesOf trace) (told .number) (told .line)
+  demand-2-refused = rw told-right (refused-first (linesOf trace))

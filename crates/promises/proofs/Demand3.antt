@@ -1,16 +1,11 @@
--- DEMAND 3, over the lines taken from a fresh start and the sheet that is written: the three figures of each core add up to the last event time less the
--- first; all charges add up to all held ticks; each figure is the sum over the gaps that the history gives it; each name stands once; and the text is
--- exactly these names and figures. `sheetOf ls` is the sheet of the events of the lines taken of ls, by the definitions of `rules` alone.
+-- DEMAND 3, over the lines taken from a fresh start: the three figures of each core add up to the last event time less the first; all charges add up to all
+-- held ticks; each figure is the sum over the gaps that the history gives it; and each name stands once. `sheetOf ls` is the sheet of the events of the lines
+-- taken of ls, by the definitions of `rules` alone. That its text is what is written, beside the verdict on these lines, is `one-answer` (proofs/OneAnswer).
 use mathlib.Core.Path.{_≡_, sym, _∙_}
-use mathlib.Core.Bool.{cond}
 use mathlib.Core.List.{List, []}
 use Prim.Native.Nat.{ℕ}
-use lib.Dec.{leb}
-use lib.ListN.{length}
 use Rattle.text.specs.Bytes.{sameBytes}
-use Rattle.text.specs.Put.{written}
 use Rattle.text.proofs.Words.{same-eq, same-refl}
-use Rattle.bill.specs.Text.{sheetText}
 use Rattle.rules.specs.Lists.{sumOver}
 use Rattle.rules.specs.History.{names, cores, processes}
 use Rattle.rules.specs.Sheet.{span, sheet}
@@ -19,11 +14,10 @@ use Rattle.rules.specs.Trace.{takenLines}
 use Rattle.rules.proofs.Sums.{Once}
 use Rattle.rules.proofs.Tracked.{names-once}
 use Rattle.rules.proofs.Traces.{taken-sound}
-use Rattle.sheet.specs.declared.sheet.Printed.the-variants.{Done, NotPrinted}
-use Rattle.sheet.specs.Sheet.{sheeted, sheetIn, sheetWritten}
+use Rattle.sheet.specs.Sheet.{sheetIn}
 use Rattle.promises.specs.Sheets.{sheetOf, figure, Balanced}
 use Rattle.promises.proofs.Events.{all-met}
-use Rattle.promises.proofs.Judged.{after-lines, shows-taken, never-16}
+use Rattle.promises.proofs.Judged.{after-lines, shows-taken}
 use Rattle.promises.proofs.ShownRows.{sheet-shown}
 use Rattle.promises.proofs.Balances.{rows-balanced, sum-held, sum-charges}
 
@@ -48,12 +42,3 @@ figures-right ls =
 -- and each name stands once
 pub named-once : (ls : List (List ℕ)) → Once sameBytes same-eq same-refl (names (eventsOf (takenLines [] ls)))
 named-once ls = names-once (eventsOf (takenLines [] ls))
-
--- 4: the text is exactly these names and figures
-pub text-right : (ls : List (List ℕ)) (out : List ℕ) →
-    let t = after-lines ls in
-    let text = sheetText (sheetOf ls) in
-    sheetWritten (t .names) (t .nums) (t .ticks) out
-    ≡ cond (leb (length text) (length out)) (sheeted (Done (length text)) (written out 0 text)) (sheeted (NotPrinted 15) out)
-unfolding sheetWritten
-text-right ls out = rw (never-16 ls, figures-right ls)

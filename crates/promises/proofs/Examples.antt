@@ -1,5 +1,5 @@
 -- Document 01's examples with a mark, those of single lines among them, as one statement over one list: each holds by the definitions. By the law
--- `judged-tells` the judge answers so too.
+-- `verdict-right` the judge answers so too.
 use mathlib.Core.Path.{_≡_, ap}
 use mathlib.Core.List.{List, [], _∷_, _++_, map}
 use Rattle.line.proofs.Examples as lines

@@ -1,22 +1,24 @@
--- The laws of the judge from a fresh start, for all lines. 1: the verdict on a whole trace is 0 exactly if the trace is sound, and otherwise names the
--- first line that breaks this, stated over the list of lines alone. 2: the tables show the lines taken. 4: no line ever leads to 16.
--- 5: line by line, by chunks cut at line ends, and the whole trace at once end in the same tables and verdict.
+-- The laws of the judge from a fresh start, for all lines. 1: the verdict that the tables tell is that of the list of lines alone. 2: the tables show the
+-- lines taken. 4: no line ever leads to 16. 5: line by line, by chunks cut at line ends, and the whole trace at once end in the same tables.
 use mathlib.Core.Path.{_≡_, refl, sym, ap, _∙_}
-use mathlib.Core.Logic.{_↔_}
 use mathlib.Core.Bool.{true}
-use mathlib.Core.List.{List, [], _∷_, _++_, reverse, append-assoc, append-nil}
+use mathlib.Core.List.{List, [], _∷_, _++_, append-assoc, append-nil}
 use Prim.Native.Nat.{ℕ}
 use lib.ListN.{length}
 use Rattle.text.specs.Pieces.{pieces, ended}
-use Rattle.walk.specs.Lines.{wholeLines, linesOf}
-use Rattle.walk.proofs.Chunks.{whole-anew}
-use Rattle.rules.specs.Trace.{takenLines, refusalOn, verdictOn, Sound}
-use Rattle.rules.proofs.Traces.{nothing-kept, number-sound, Names, verdict-names-first, taken-sound}
+use Rattle.walk.specs.Lines.{wholeLines, restOf, lastLine, linesOf}
+use Rattle.walk.proofs.Chunks.{whole-anew, rest-drop}
+use Rattle.rules.specs.Trace.{takenLines, refusalOn, verdictOn}
+use Rattle.rules.proofs.Traces.{nothing-kept, taken-sound}
 use Rattle.tables.specs.Sized.{isSized}
+use Rattle.tables.specs.Fresh.{clearedOf}
 use Rattle.ranges.specs.Range.{tableAnswer}
-use Rattle.judge.specs.Feed.{Tables, After, fedLine, judgedLines, fedChunk, verdictIn, verdictOf, freshTables, judgedTrace}
+use Rattle.ranges.proofs.FreshTables.{fresh-answer}
+use Rattle.judge.specs.Feed.{Tables, After, fedLine, judgedLines, fedChunk, freshTables}
 use Rattle.judge.proofs.Feeds.{judged-fed}
 use Rattle.judge.proofs.Traces.{judgedLines-append}
+use Rattle.outcome.specs.AtEnd.{verdictIn}
+use Rattle.outcome.specs.Outcome.{begun, restFed, traceFed}
 use Rattle.promises.specs.Fed.{allFed, chunksFed, joined, AtLineEnds}
 use Rattle.promises.proofs.Traces.{Followed, followed}
 use Rattle.promises.proofs.Limits.{refusal-small, shows-valid}
@@ -42,28 +44,11 @@ never-16 ls =
     (rw (ap (λ (p : ℕ × ℕ). p .0) (b .remembers)) (r .0))
     (rw (ap (λ (p : ℕ × ℕ). p .1) (b .remembers)) (r .1))
 
--- ---- 1: demand 2, exactly
+-- ---- 1: the verdict
 
 pub lines-tell : (ls : List (List ℕ)) → Tells (verdictIn (after-lines ls .nums) (after-lines ls .ticks)) (verdictOn [] ls) (takenLines [] ls)
 unfolding verdictOn
 lines-tell ls = now-tells (takenLines [] ls) (taken-sound ls .kept) (after-lines ls) (refusalOn [] ls) (shows-taken ls)
-
--- a whole trace judged in tables of the right sizes, whatever they held
-module _ (t : Tables) (fits : isSized (length (t .names)) (length (t .nums)) (length (t .ticks)) ≡ true) (trace : List ℕ) where
-  judged-so :
-      let u = after-lines (linesOf trace) in
-      judgedTrace t trace ≡ record { judged = verdictIn (u .nums) (u .ticks); left = u }
-  unfolding judgedTrace
-  judged-so = rw fits
-
-  pub judged-tells : Tells (judgedTrace t trace .judged) (verdictOn [] (linesOf trace)) (takenLines [] (linesOf trace))
-  judged-tells = rw judged-so (lines-tell (linesOf trace))
-
-  pub judge-sound : (judgedTrace t trace .judged .number ≡ 0) ↔ Sound (reverse (linesOf trace))
-  judge-sound = rw (ap (λ (p : ℕ × ℕ). p .0) (judged-tells .verdict)) (number-sound (linesOf trace))
-
-  pub judge-names-first : Names (linesOf trace) (judgedTrace t trace .judged .number, judgedTrace t trace .judged .line) (takenLines [] (linesOf trace))
-  judge-names-first = rw (judged-tells .verdict) (verdict-names-first (linesOf trace))
 
 -- ---- 5: however the lines come
 
@@ -106,8 +91,12 @@ pub chunk-by-chunk : (cs : List (List ℕ)) → AtLineEnds cs → chunksFed fres
 unfolding judgedLines
 chunk-by-chunk cs a = from-chunks cs [] a
 
--- and the whole trace at once: the same tables, and the verdict that is then asked for
-pub all-at-once : (t : Tables) → isSized (length (t .names)) (length (t .nums)) (length (t .ticks)) ≡ true → (trace : List ℕ) →
-    let u = allFed freshTables (linesOf trace) in judgedTrace t trace ≡ record { judged = verdictOf u; left = u }
-unfolding verdictOf
-all-at-once t fits trace = judged-so t fits trace ∙ rw (line-by-line (linesOf trace), never-16 (linesOf trace))
+-- and the whole trace at once, in tables of the right sizes, whatever they held
+pub rest-fed : (ks : List (List ℕ)) (r : List ℕ) → restFed (after-lines ks) r ≡ after-lines (ks ++ lastLine r)
+rest-fed ks [] = ap after-lines (sym (append-nil ks))
+rest-fed ks (x ∷ r) = fed-one ks (x ∷ r)
+
+pub trace-fed : (t : Tables) → isSized (length (t .names)) (length (t .nums)) (length (t .ticks)) ≡ true → (trace : List ℕ) →
+    traceFed (begun t) trace ≡ after-lines (linesOf trace)
+unfolding traceFed begun clearedOf fedChunk linesOf
+trace-fed t fits trace = rw (fits, fresh-answer, ← (rest-drop trace)) (rest-fed (wholeLines trace) (restOf trace))

@@ -6,12 +6,11 @@ use mathlib.Core.Logic.{⊎-elim}
 use mathlib.Core.List.{List, [], _∷_, _++_, append-nil, append-assoc}
 use Prim.Native.Nat.{ℕ, zero, suc, _+_, _≤_, _<_}
 use native.Mathlib.Omega.{arith}
-use lib.Dec.{leb, ltb}
+use lib.Dec.{ltb}
 use lib.ListN.{length, take, drop, length-append}
 use lib.Seq.{length-take-le, take-length}
 use borrow.Author.Tests.{ne-eqb, lt-ltb, ltb-true, ltb-false}
 use Rattle.text.specs.Bytes.{toByte}
-use Rattle.text.specs.Put.{written}
 use Rattle.text.specs.Pieces.{pieces, ended, unended}
 use Rattle.text.proofs.Bools.{lt-or-ge}
 use Rattle.text.proofs.Pieces.{clean-before}
@@ -28,23 +27,25 @@ use Rattle.tables.specs.Entry.{verdictNumber}
 use Rattle.judge.specs.Feed.{Tables, After, judgedInPlace, judgedLine, judgedLines, fedLine, fedChunk, freshTables}
 use Rattle.judge.proofs.Feeds.{judged-chunk}
 use Rattle.judge.proofs.Traces.{judgedLines-append}
+use Rattle.outcome.specs.Outcome.{restFed}
 use Rattle.rules.specs.First.{firstRefusal}
 use Rattle.promises.specs.Fed.{joined}
 use Rattle.promises.proofs.Traces.{further}
-use Rattle.promises.proofs.Judged.{after-lines, shows-taken, never-16, fed-one}
+use Rattle.promises.proofs.Judged.{after-lines, shows-taken, never-16, fed-one, rest-fed}
 use Rattle.promises.proofs.Printed.{printed, after-text, written-text}
-use Rattle.sheet.specs.declared.sheet.Printed.the-variants.{Done, NotPrinted}
-use Rattle.sheet.specs.Sheet.{sheeted}
-use Rattle.run.specs.Report.{reportWritten}
+use Rattle.run.specs.Report.{textPrinted, reportWritten}
 use Rattle.run.specs.Chunk.{carriedMost, Progress, going, stopped, lastTaken, readOn, atInputEnd}
 
 -- ---- tables after lines from a fresh start, fed the last line and one chunk more
 
 -- what is carried over is a line at the end of input, and nothing is none
-last-fed : (ks : List (List ℕ)) (rest : List ℕ) → lastTaken (after-lines ks) rest (length rest) ≡ after-lines (ks ++ lastLine rest)
+last-rest : (t : Tables) (rest : List ℕ) → lastTaken t rest (length rest) ≡ restFed t rest
 unfolding lastTaken
-last-fed ks [] = ap after-lines (sym (append-nil ks))
-last-fed ks (x ∷ rest) = rw (ne-eqb (length (x ∷ rest)) 0 (λ e. omega arith), take-length (x ∷ rest)) (fed-one ks (x ∷ rest))
+last-rest t [] = refl
+last-rest t (x ∷ rest) = rw (ne-eqb (length (x ∷ rest)) 0 (λ e. omega arith), take-length (x ∷ rest))
+
+last-fed : (ks : List (List ℕ)) (rest : List ℕ) → lastTaken (after-lines ks) rest (length rest) ≡ after-lines (ks ++ lastLine rest)
+last-fed ks rest = last-rest (after-lines ks) rest ∙ rest-fed ks rest
 
 -- the tables after the whole lines of what was read
 abbrev whole : List ℕ → Tables
@@ -211,10 +212,7 @@ module _ (rs : List (List ℕ)) where
 
   -- and so it is written, where it fits
   pub written-right : (out : List ℕ) →
-      let t = atInputEnd progress in
-      let text = traceText (linesOf (joined rs)) in
-      reportWritten (t .names) (t .nums) (t .ticks) out
-      ≡ cond (leb (length text) (length out)) (sheeted (Done (length text)) (written out 0 text)) (sheeted (NotPrinted 15) out)
+      let t = atInputEnd progress in reportWritten (t .names) (t .nums) (t .ticks) out ≡ textPrinted (traceText (linesOf (joined rs))) out
   written-right out = rw all-read (written-text (linesOf (joined rs)) out)
 
 -- two ways of cutting the same bytes into reads print the same

@@ -12,7 +12,6 @@ use Rattle.fields.specs.Part.{fieldOf}
 use Rattle.line.specs.declared.reading.Reading.{Reading}
 use Rattle.line.specs.declared.reading.Reading.the-variants.{Version, Comment, TimeScale, Creator, CreationDate, EventLine, Refused}
 use Rattle.line.specs.Reading.{readLine}
-use Rattle.bill.specs.declared.verdict.Verdict.{Verdict}
 use Rattle.rules.specs.Limits.{lastRefusal}
 use Rattle.rules.specs.Event.{Event}
 use Rattle.rules.specs.Lines.{eventFrom}
@@ -24,9 +23,10 @@ use Rattle.decide.specs.declared.plan.Plan.{Plan}
 use Rattle.decide.specs.declared.plan.Plan.the-variants.{Refuse, Take}
 use Rattle.decide.specs.Decide.{planOf}
 use Rattle.judge.specs.Feed.{Tables, tables, After, after, placeIn, remembered, carried, judgedEvent, judgedReading, judgedInPlace}
-use Rattle.judge.specs.Feed.{judgedLine, judgedLines, fedLine, AfterChunk, fedChunk, verdict, verdictOf, AfterTrace, judgedTrace}
+use Rattle.judge.specs.Feed.{judgedLine, judgedLines, fedLine, AfterChunk, fedChunk}
 use Rattle.judge.proofs.Sizes.{judgedLine-alike}
 use Rattle.judge.proofs.Feeds.{verdict-again}
+use Rattle.outcome.specs.Outcome.{asked, refusedBy, outcomeIn}
 use Rattle.promises.proofs.Agreeing.{AgreeFrom}
 use Rattle.promises.proofs.LineEntries.{remembered-later}
 use Rattle.promises.proofs.Traces.{further}
@@ -148,9 +148,9 @@ module _ (t : Tables) (n : ℕ) (q : tableAnswer (t .names) (t .nums) (t .ticks)
   unfolding fedChunk
   chunk-untaken c = rw q
 
-  pub verdict-untold : verdictOf t ≡ verdict (suc n) 0 0 0
-  unfolding verdictOf
-  verdict-untold = rw q
+  pub outcome-untold : (out : List ℕ) → outcomeIn t out ≡ asked (refusedBy (suc n)) out
+  unfolding outcomeIn
+  outcome-untold out = rw q
 
 -- ---- 6: no second answer and no second table
 
@@ -159,9 +159,3 @@ feed-unique t = unique (fedLine t)
 
 pub chunk-unique : (t : Tables) (c : List ℕ) (x y : AfterChunk) → x ≡ fedChunk t c → y ≡ fedChunk t c → x ≡ y
 chunk-unique t = unique (fedChunk t)
-
-pub verdict-unique : (t : Tables) (v w : Verdict) → v ≡ verdictOf t → w ≡ verdictOf t → v ≡ w
-verdict-unique = unique verdictOf
-
-pub judge-unique : (t : Tables) (s : List ℕ) (x y : AfterTrace) → x ≡ judgedTrace t s → y ≡ judgedTrace t s → x ≡ y
-judge-unique t = unique (judgedTrace t)

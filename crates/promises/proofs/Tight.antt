@@ -1,11 +1,11 @@
--- Judges of a whole trace that the contract of `judge` shuts out, whatever else they do: one that refuses everything, one that accepts everything, and one
+-- Judges of a whole trace that the contract of `outcome_of` shuts out, whatever else they do: one that refuses everything, one that accepts everything, and one
 -- that follows the charts on the first event line only. The right verdict on three small traces is computed from the definitions of lines and rules.
 use mathlib.Core.Path.{_≡_, refl, ap, _∙_}
 use mathlib.Core.Bool.{true}
 use mathlib.Core.List.{List, [], _∷_, _++_}
-use Prim.Native.Nat.{ℕ}
+use Prim.Native.Nat.{ℕ, _≤_}
 use native.Mathlib.Omega.{arith}
-use lib.ListN.{length}
+use lib.ListN.{length, replicate, length-replicate}
 use Rattle.text.specs.Literal.{bytes}
 use Rattle.text.specs.Bytes.{sameBytes, startsWith}
 use Rattle.text.specs.Pieces.{pieces, ended, unended}
@@ -25,6 +25,8 @@ use Rattle.line.specs.Parameter.{isVersion, isVersionLine, isComment, timeScale
 use Rattle.line.specs.Event.{numbersOf, hasNames, knownReading, fieldsReading, eventReading}
 use Rattle.line.specs.Reading.{hasBreak, isEventLine, readLine}
 use Rattle.line.specs.Condition.{refuses1, refuses3, countWrong, numberWrong, nameWrong, noteWrong, refuses5, refuses6, refuses7}
+use Rattle.bill.specs.declared.verdict.Verdict.{Verdict}
+use Rattle.bill.specs.Text.{sheetText}
 use Rattle.bill.specs.Scale.{scaleNumber}
 use Rattle.rules.specs.Charts.{chartOf, processChart, isProcess}
 use Rattle.rules.specs.Core.{takes, gives, keeps, onCore}
@@ -36,17 +38,31 @@ use Rattle.rules.specs.Trace.{placeOf, tooMuch, versionWrong, parameterWrong, u
 use Rattle.rules.specs.First.{takenOf, firstRefusal}
 use Rattle.tables.specs.Sized.{isSized}
 use Rattle.tables.proofs.Sizes.{sizes-mean}
+use Rattle.ranges.proofs.Valid.{valid}
 use Rattle.ranges.proofs.FreshTables.{fresh-valid}
-use Rattle.judge.specs.Feed.{Tables, freshTables, AfterTrace, judgedTrace}
-use Rattle.promises.proofs.Judged.{judged-tells}
+use Rattle.sheet.specs.Sheet.{sheetMost}
+use Rattle.sheet.proofs.Short.{sheet-fits}
+use Rattle.judge.specs.Feed.{Tables, freshTables}
+use Rattle.outcome.specs.Outcome.{AfterTrace, traceOutcome}
+use Rattle.promises.specs.Sheets.{sheetOf}
+use Rattle.promises.proofs.Judged.{never-16}
+use Rattle.promises.proofs.Demand3.{figures-right}
+use Rattle.promises.proofs.Demand2.{told-right}
 
 -- ---- the verdict on a trace, by its lines
 
 fresh-sized : isSized (length (freshTables .names)) (length (freshTables .nums)) (length (freshTables .ticks)) ≡ true
 fresh-sized = sizes-mean (freshTables .names) (freshTables .nums) (freshTables .ticks) .shows (fresh-valid .sizes)
 
-number-told : (s : List ℕ) → judgedTrace freshTables s .judged .number ≡ verdictOn [] (linesOf s) .0
-number-told s = ap (λ (p : ℕ × ℕ). p .0) (judged-tells freshTables fresh-sized s .verdict)
+-- where the sheet has room: memory of `sheetMost` bytes has it for any
+abbrev wide : List ℕ
+wide = replicate sheetMost 0
+
+room : (ls : List (List ℕ)) → length (sheetText (sheetOf ls)) ≤ length wide
+room ls = rw (← (figures-right ls)) (omega (arith, sheet-fits (valid _ _ _ (never-16 ls)), length-replicate {A = ℕ} sheetMost 0))
+
+number-told : (s : List ℕ) → traceOutcome freshTables s wide .told .outcome .verdict .number ≡ verdictOn [] (linesOf s) .0
+number-told s = ap (λ (v : Verdict). v .number) (told-right freshTables fresh-sized s wide (room (linesOf s)))
 
 -- ---- three traces
 
@@ -81,20 +97,25 @@ second-refused = refl
 
 -- ---- judges that are shut out
 
-abbrev judges : Tables × List ℕ → AfterTrace
-judges (t, s) = judgedTrace t s
+abbrev Call : Type 0
+Call = Tables × List ℕ × List ℕ
+
+abbrev judges : Call → AfterTrace
+judges (t, s, out) = traceOutcome t s out
+
+abbrev number : AfterTrace → ℕ
+number x = x .told .outcome .verdict .number
 
 -- one that answers otherwise than n to a trace whose number is n
-other-number : (g : Tables × List ℕ → AfterTrace) (s : List ℕ) (n : ℕ) → verdictOn [] (linesOf s) .0 ≡ n → (g (freshTables, s) .judged .number ≡ n → ⊥) →
-    ShutsOut judges g
-other-number g s n q h = record { input = (freshTables, s); breaks = λ e. h (ap (λ (x : AfterTrace). x .judged .number) e ∙ number-told s ∙ q) }
+other-number : (g : Call → AfterTrace) (s : List ℕ) (n : ℕ) → verdictOn [] (linesOf s) .0 ≡ n → (number (g (freshTables, s, wide)) ≡ n → ⊥) → ShutsOut judges g
+other-number g s n q h = record { input = (freshTables, s, wide); breaks = λ e. h (ap number e ∙ number-told s ∙ q) }
 
-pub judge-not-refusing : (g : Tables × List ℕ → AfterTrace) → ((x : Tables × List ℕ) → g x .judged .number ≡ 0 → ⊥) → ShutsOut judges g
-judge-not-refusing g h = other-number g prelude 0 prelude-taken (h (freshTables, prelude))
+pub judge-not-refusing : (g : Call → AfterTrace) → ((x : Call) → number (g x) ≡ 0 → ⊥) → ShutsOut judges g
+judge-not-refusing g h = other-number g prelude 0 prelude-taken (h (freshTables, prelude, wide))
 
-pub judge-not-accepting : (g : Tables × List ℕ → AfterTrace) → ((x : Tables × List ℕ) → g x .judged .number ≡ 0) → ShutsOut judges g
-judge-not-accepting g h = other-number g [] 2 nothing-refused (λ e. omega (arith, h (freshTables, [])))
+pub judge-not-accepting : (g : Call → AfterTrace) → ((x : Call) → number (g x) ≡ 0) → ShutsOut judges g
+judge-not-accepting g h = other-number g [] 2 nothing-refused (λ e. omega (arith, h (freshTables, [], wide)))
 
 -- a judge that follows the charts on the first event line and later only moves the time takes the second start
-pub judge-not-first-only : (g : Tables × List ℕ → AfterTrace) → g (freshTables, startedTwice) .judged .number ≡ 0 → ShutsOut judges g
+pub judge-not-first-only : (g : Call → AfterTrace) → number (g (freshTables, startedTwice, wide)) ≡ 0 → ShutsOut judges g
 judge-not-first-only g h = other-number g startedTwice 11 second-refused (λ e. omega arith)

@@ -1,8 +1,8 @@
--- How tight the contract of `sheet` is: three sheets that it shuts out, over the tables that a small trace leads to. They are a sheet of zeros, one with the
--- whole span of each core under idle, and one whose charges are made up but have the right total.
-use mathlib.Core.Path.{_≡_, refl}
+-- How tight the contract of `outcome_now` is: four sheets that it shuts out, over the tables that a small trace leads to. They are a sheet of zeros, one with the
+-- whole span of each core under idle, one whose charges are made up but have the right total, and one of another state than the verdict's.
+use mathlib.Core.Path.{_≡_, refl, sym, ap, _∙_}
 use mathlib.Core.Bool.{true, false, cond}
-use mathlib.Core.List.{List, [], _∷_, map}
+use mathlib.Core.List.{List, [], _∷_, _++_, map}
 use Prim.Native.Nat.{ℕ}
 use native.Mathlib.Omega.{arith}
 use lib.Dec.{eqb, leb}
@@ -26,6 +26,7 @@ use Rattle.line.specs.Parameter.{isVersion, isVersionLine, isComment, timeScale
 use Rattle.line.specs.Event.{numbersOf, hasNames, knownReading, fieldsReading, eventReading}
 use Rattle.line.specs.Reading.{hasBreak, isEventLine, readLine}
 use Rattle.line.specs.Condition.{refuses1, refuses3, countWrong, numberWrong, nameWrong, noteWrong, refuses5, refuses6, refuses7}
+use Rattle.bill.specs.declared.verdict.Verdict.{Verdict}
 use Rattle.bill.specs.Rows.{Row, Sheet}
 use Rattle.bill.specs.Text.{figuresText, rowText, rowsText, sectionText, sheetText}
 use Rattle.bill.specs.Scale.{scaleNumber}
@@ -40,26 +41,36 @@ use Rattle.rules.specs.Lines.{kindNumber, eventOfLine, eventsOf}
 use Rattle.rules.specs.Trace.{placeOf, tooMuch, versionWrong, parameterWrong, unscaled, placeTests, answerInPlace, answerAt}
 use Rattle.rules.specs.First.{takenOf}
 use Rattle.ranges.specs.Range.{tableAnswer}
-use Rattle.sheet.specs.declared.sheet.Printed.the-variants.{Done, NotPrinted}
-use Rattle.sheet.specs.Sheet.{Sheeted, sheeted, sheetIn, sheetWritten}
+use Rattle.sheet.specs.Sheet.{sheetIn}
+use Rattle.judge.specs.Feed.{Tables, judgedLine, judgedLines, freshTables}
+use Rattle.judge.proofs.Traces.{judgedLines-append}
+use Rattle.outcome.specs.AtEnd.{verdictIn}
+use Rattle.outcome.specs.Outcome.{Asked, asked, refusedBy, outcomeIn}
 use Rattle.promises.specs.Sheets.{sheetOf, figure}
+use Rattle.promises.specs.Outcomes.{verdictOf}
 use Rattle.promises.proofs.Judged.{after-lines, never-16}
-use Rattle.promises.proofs.Demand3.{figures-right, text-right}
+use Rattle.promises.proofs.Demand3.{figures-right}
+use Rattle.promises.proofs.Outcomes.{verdict-right, one-outcome}
 
 -- ---- a function that writes another sheet than the one that the tables show, and is right in all else
 
 abbrev Lent : Type 0
-Lent = List ℕ × List ℕ × List ℕ × List ℕ
+Lent = Tables × List ℕ
 
-abbrev sheets : Lent → Sheeted
-sheets (names, nums, ticks, out) = sheetWritten names nums ticks out
+abbrev asks : Lent → Asked
+asks (t, out) = outcomeIn t out
 
-abbrev textIn : List ℕ → List ℕ → Sheeted
-textIn out text = cond (leb (length text) (length out)) (sheeted (Done (length text)) (written out 0 text)) (sheeted (NotPrinted 15) out)
+-- a verdict, and a sheet's text beside it
+abbrev textIn : Verdict → List ℕ → List ℕ → Asked
+textIn v out text = cond (leb (length text) (length out)) (asked (record { verdict = v; length = length text }) (written out 0 text)) (asked (refusedBy 15) out)
 
-abbrev writes : (Sheet → Sheet) → Lent → Sheeted
-writes other (names, nums, ticks, out) =
-    ifZero (tableAnswer names nums ticks) (textIn out (sheetText (other (sheetIn names nums ticks)))) (sheeted (NotPrinted (tableAnswer names nums ticks)) out)
+abbrev writes : (Tables → Sheet) → Lent → Asked
+writes other (t, out) =
+    ifZero (tableAnswer (t .names) (t .nums) (t .ticks)) (textIn (verdictIn (t .nums) (t .ticks)) out (sheetText (other t)))
+    (asked (refusedBy (tableAnswer (t .names) (t .nums) (t .ticks))) out)
+
+abbrev shown : Tables → Sheet
+shown t = sheetIn (t .names) (t .nums) (t .ticks)
 
 -- ---- a small trace, and its sheet: on the core C, A runs for a tick and B for two
 
@@ -89,7 +100,7 @@ unfolding sheet ticks takenOf answerAt answerInPlace placeTests tooMuch versionW
     takes gives keeps onCore hasInstances isTracked named kindIn activates lastNumber lastCount countAllowed countFollows
 small-sheet = refl
 
--- ---- three other sheets
+-- ---- other sheets
 
 abbrev zeroRow : Row → Row
 zeroRow r = row (r .name) (map (λ n. 0) (r .figures))
@@ -120,31 +131,63 @@ made-up-total s = of (s .processes)
     of [] = refl
     of (r ∷ rs) = omega (arith, no-charges rs)
 
+-- the sheet is asked for after one line more than the verdict
+abbrev later : List ℕ
+later = bytes "4,S,0,STI,S,0,trigger"
+
+abbrev nextSheet : Tables → Sheet
+nextSheet t = shown (judgedLine t later .left)
+
+abbrev laterSheet : Sheet
+laterSheet = record { span = 4; cores = row (bytes "C") (3 ∷ 1 ∷ 0 ∷ []) ∷ []; processes = row (bytes "A") (1 ∷ []) ∷ row (bytes "B") (2 ∷ []) ∷ [] }
+
+later-sheet : sheetOf (small ++ later ∷ []) ≡ laterSheet
+unfolding sheet ticks takenOf answerAt answerInPlace placeTests tooMuch versionWrong parameterWrong unscaled placeOf scaleNumber eventOfLine eventsOf
+    kindNumber refuses1 refuses3 refuses5 refuses6 refuses7 countWrong numberWrong nameWrong noteWrong readLine hasBreak isEventLine eventReading
+    fieldsReading hasNames numbersOf knownReading partsOf pieces fieldOf noteOf isProcessLine zeroSource zeroTarget isOwn sourceBroken targetBroken
+    ownBroken presence noteBroken ruleBroken isVersion isVersionLine isComment timeScale isCreator isCreationDate otherReading parameterReading sameBytes
+    startsWith isNameByte allNameBytes isName numberOf pick scaleWord scaleOf kindWord kindOf wordOf actionCode actionsOf actionOf among namedBy answerTo
+    eventTests timeFalls secondKind sourceClash targetClash noRoom offChart notNext coreBroken countBroken names instances chartOf processChart isProcess
+    takes gives keeps onCore hasInstances isTracked named kindIn activates lastNumber lastCount countAllowed countFollows
+later-sheet = refl
+
 -- ---- they are shut out
 
-abbrev lent : List ℕ → Lent
-lent out = let t = after-lines small in (t .names, t .nums, t .ticks, out)
-
 -- by a figure that stands at an index of the text
-shut-sheet : (other : Sheet → Sheet) (at right : ℕ) (out : List ℕ)
-    → eqb (getD (textIn out (sheetText smallSheet) .output) at 0) right ≡ true
-    → eqb (getD (textIn out (sheetText (other smallSheet)) .output) at 0) right ≡ false
-    → ShutsOut sheets (writes other)
-shut-sheet other at right out p q =
-    shut-out (λ x. eqb (getD (x .output) at 0) right) (lent out) (rw (text-right small out, small-sheet) p)
-    (rw (never-16 small, figures-right small, small-sheet) q)
+shut-sheet : (other : Tables → Sheet) (wrong : Sheet) (at right : ℕ) (out : List ℕ)
+    → other (after-lines small) ≡ wrong
+    → eqb (getD (textIn (verdictOf small) out (sheetText smallSheet) .output) at 0) right ≡ true
+    → eqb (getD (textIn (verdictOf small) out (sheetText wrong) .output) at 0) right ≡ false
+    → ShutsOut asks (writes other)
+unfolding sheet
+shut-sheet other wrong at right out e p q =
+    shut-out (λ x. eqb (getD (x .output) at 0) right) (after-lines small, out) (rw (one-outcome small out, small-sheet) p)
+    (rw (never-16 small, verdict-right small, e) q)
+
+small-shown : shown (after-lines small) ≡ smallSheet
+small-shown = figures-right small ∙ small-sheet
+
+later-shown : nextSheet (after-lines small) ≡ laterSheet
+unfolding judgedLines
+later-shown =
+    ap shown (sym (judgedLines-append freshTables small (later ∷ []))) ∙ figures-right (small ++ later ∷ []) ∙ later-sheet
 
 abbrev blanks : List ℕ
 blanks = replicate 40 32
 
-pub sheet-not-zeros : ShutsOut sheets (writes zeroSheet)
+pub sheet-not-zeros : ShutsOut asks (writes (λ t. zeroSheet (shown t)))
 unfolding sheetText sectionText rowsText rowText figuresText digitsOf written
-sheet-not-zeros = shut-sheet zeroSheet 10 51 blanks refl refl
+sheet-not-zeros = shut-sheet (λ t. zeroSheet (shown t)) (zeroSheet smallSheet) 10 51 blanks (ap zeroSheet small-shown) refl refl
 
-pub sheet-not-idle : ShutsOut sheets (writes idleSheet)
+pub sheet-not-idle : ShutsOut asks (writes (λ t. idleSheet (shown t)))
 unfolding sheetText sectionText rowsText rowText figuresText digitsOf written
-sheet-not-idle = shut-sheet idleSheet 10 51 blanks refl refl
+sheet-not-idle = shut-sheet (λ t. idleSheet (shown t)) (idleSheet smallSheet) 10 51 blanks (ap idleSheet small-shown) refl refl
 
-pub sheet-not-made-up : ShutsOut sheets (writes madeUp)
+pub sheet-not-made-up : ShutsOut asks (writes (λ t. madeUp (shown t)))
 unfolding sheetText sectionText rowsText rowText figuresText digitsOf written
-sheet-not-made-up = shut-sheet madeUp 30 49 blanks refl refl
+sheet-not-made-up = shut-sheet (λ t. madeUp (shown t)) (madeUp smallSheet) 30 49 blanks (ap madeUp small-shown) refl refl
+
+-- C's idle tick is not yet there
+pub sheet-not-later : ShutsOut asks (writes nextSheet)
+unfolding sheetText sectionText rowsText rowText figuresText digitsOf written
+sheet-not-later = shut-sheet nextSheet laterSheet 12 48 blanks later-shown refl refl

@@ -15,7 +15,8 @@ use Rattle.rules.specs.Lines.{eventsOf}
 use Rattle.rules.specs.Trace.{placeOf, atEnd}
 use Rattle.rules.proofs.Traces.{Kept}
 use Rattle.tables.specs.Entry.{verdictNumber, lineCount, scaleEntry, firstTime, lastTime}
-use Rattle.judge.specs.Feed.{Tables, placeIn, verdict, verdictIn}
+use Rattle.judge.specs.Feed.{Tables, placeIn}
+use Rattle.outcome.specs.AtEnd.{verdict, verdictIn}
 use Rattle.promises.specs.Shown.{Shows}
 use Rattle.promises.proofs.Bounds.{span-shown}
 use Rattle.promises.proofs.PlaceAnswers.{lines-fit}

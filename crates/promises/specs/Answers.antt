@@ -19,17 +19,21 @@ decideAnswers = 0 ∷ 8 ∷ 9 ∷ 10 ∷ 11 ∷ 12 ∷ 13 ∷ 14 ∷ 15 ∷ []
 abbrev pub freshAnswers : List ℕ
 freshAnswers = 0 ∷ 15 ∷ []
 
--- `feed`, `feed_chunk` and `verdict_now`: all of the table
+-- `feed`, `feed_chunk` and `outcome_now`: all of the table
 abbrev pub feedAnswers : List ℕ
 feedAnswers = 0 ∷ 1 ∷ 2 ∷ 3 ∷ 4 ∷ 5 ∷ 6 ∷ 7 ∷ 8 ∷ 9 ∷ 10 ∷ 11 ∷ 12 ∷ 13 ∷ 14 ∷ 15 ∷ 16 ∷ []
 
--- `judge`: "A fresh start, a whole trace's too, overwrites what the tables held and never gives 16."
-abbrev pub judgeAnswers : List ℕ
-judgeAnswers = 0 ∷ 1 ∷ 2 ∷ 3 ∷ 4 ∷ 5 ∷ 6 ∷ 7 ∷ 8 ∷ 9 ∷ 10 ∷ 11 ∷ 12 ∷ 13 ∷ 14 ∷ 15 ∷ []
+-- `outcome_of`: "A fresh start, a whole trace's too, overwrites what the tables held and never gives 16."
+abbrev pub traceAnswers : List ℕ
+traceAnswers = 0 ∷ 1 ∷ 2 ∷ 3 ∷ 4 ∷ 5 ∷ 6 ∷ 7 ∷ 8 ∷ 9 ∷ 10 ∷ 11 ∷ 12 ∷ 13 ∷ 14 ∷ 15 ∷ []
 
--- `sheet` and `report`: "one too short is 15, tested after 16"
+-- `put_outcome`: the text of any outcome, or "one too short is 15"
 abbrev pub printAnswers : List ℕ
-printAnswers = 0 ∷ 15 ∷ 16 ∷ []
+printAnswers = 0 ∷ 15 ∷ []
+
+-- `report`: 15 and 16 of the tables too
+abbrev pub reportAnswers : List ℕ
+reportAnswers = 0 ∷ 15 ∷ 16 ∷ []
 
 -- "15 and 16 write nothing and are not remembered."
 abbrev pub writeNothing : List ℕ

@@ -6,7 +6,6 @@ use native.Mathlib.Omega.{arith}
 use lib.Dec.{eqb}
 use lib.ListN.{length, length-append}
 use Rattle.text.proofs.Digits.{digits-short}
-use Rattle.bill.specs.declared.section.Section.the-variants.{Cores, Processes}
 use Rattle.bill.specs.declared.verdict.Verdict.{Verdict}
 use Rattle.bill.specs.Text.{sheetText}
 use Rattle.bill.specs.Verdict.{acceptedText, refusedText, verdictText, reportText}
@@ -14,10 +13,9 @@ use Rattle.bill.proofs.Scales.{scale-short}
 use Rattle.bill.proofs.VerdictLine.{length-accepted, length-refused}
 use Rattle.tables.specs.Entry.{verdictNumber, verdictLine, lineCount, scaleEntry, firstTime, lastTime}
 use Rattle.ranges.proofs.Valid.{Valid}
-use Rattle.sheet.specs.Sheet.{sheetIn}
-use Rattle.sheet.proofs.Short.{section-short}
-use Rattle.sheet.proofs.Written.{sheet-length}
-use Rattle.judge.specs.Feed.{verdict, verdictIn}
+use Rattle.sheet.specs.Sheet.{sheetIn, sheetMost}
+use Rattle.sheet.proofs.Short.{sheet-fits}
+use Rattle.outcome.specs.AtEnd.{verdict, verdictIn}
 use Rattle.run.specs.Report.{textMost}
 
 -- ---- the line that tells the verdict: no number of it needs more than 64 bits
@@ -56,11 +54,12 @@ line-short v s = by-number (eqb (v .number) 0)
 
 -- ---- all of the text
 
-sheet-short : {names nums ticks : List ℕ} → Valid names nums ticks → (b : Bool) → length (cond b (sheetText (sheetIn names nums ticks)) []) ≤ 65600
-sheet-short {names} {nums} {ticks} v true = omega (arith, sheet-length names nums ticks, section-short v Cores, section-short v Processes)
+sheet-short : {names nums ticks : List ℕ} → Valid names nums ticks → (b : Bool) → length (cond b (sheetText (sheetIn names nums ticks)) []) ≤ sheetMost
+sheet-short v true = sheet-fits v
 sheet-short v false = omega arith
 
-pub report-fits : {names nums ticks : List ℕ} → Valid names nums ticks → length (reportText (verdictIn nums ticks) (sheetIn names nums ticks)) ≤ textMost
+pub report-fits : {names nums ticks : List ℕ} → Valid names nums ticks →
+    length (reportText (verdictIn nums ticks) (sheetText (sheetIn names nums ticks))) ≤ textMost
 unfolding reportText
 report-fits {names} {nums} {ticks} v =
     let w = verdictIn nums ticks in

@@ -2,8 +2,7 @@
 pub mod Shifts
 pub mod Turns
 pub mod Carried
-pub mod Behind
-pub mod Reports
 pub mod Buffered
+pub mod Reports
 pub mod Tight
 pub mod Fits

@@ -1,35 +1,65 @@
 // What is printed of a trace that ends now: the verdict, and the sheet of one that is accepted.
 ghost use mathlib.Core.Path.{_≡_};
-ghost use Rattle.sheet.specs.Sheet.{sheeted};
-ghost use Rattle.run.specs.Report.{reportWritten};
+ghost use mathlib.Core.Bool.{cond};
+ghost use mathlib.Core.List.{[]};
+ghost use Prim.Native.Nat.{_≤_};
+ghost use lib.Dec.{eqb};
+ghost use lib.ListN.{length, take};
+ghost use Rattle.run.specs.Report.{reported, outcomePrinted, reportWritten};
 use bill::verdict::put_verdict;
 use bill::verdict::verdict_length;
-use judge::feed::verdict_now;
-use sheet::sheet::Printed;
-use sheet::sheet::sheet;
+use outcome::now::Outcome;
+use outcome::now::SHEET_MOST;
+use outcome::now::outcome_now;
+use text::put::put_bytes;
+use text::put::room;
+
+// The length of the text that was written, or the number of the refusal.
+pub enum Printed {
+    Done(usize),
+    NotPrinted(u32),
+}
 
 // No text is longer: `report-fits`.
 pub const TEXT_MOST: usize = 65655;
 
-// The text at the front of the output. The sheet is written first, behind the room for the verdict: if it does not fit, nothing was written.
-pub fn report(names: &[u8], nums: &[u32], ticks: &[u64], out: &mut [u8]) -> Printed
-    ensures { λ r. ⌜ sheeted r (now (out .exit)) ≡ reportWritten (now (names .entry)) (now (nums .entry)) (now (ticks .entry)) (now (out .entry)) ⌝ }
+// How many bytes of the sheet are printed: a refused trace has one line.
+fn sheet_printed(o: Outcome, sheet: &[u8]) -> usize
+    ensures { λ r. ⌜ (r ≤ length (now (sheet .entry)))
+        × (take r (now (sheet .entry)) ≡ cond (eqb (o .verdict .number) 0) (take (o .length) (now (sheet .entry))) []) ⌝ }
 {
-    let v = verdict_now(names, nums, ticks);
-    if 15 <= v.number {
-        return Printed::NotPrinted(v.number);
+    if o.verdict.number != 0 {
+        return 0;
     }
-    let n = verdict_length(v);
-    if out.len() < n {
+    if o.length < sheet.len() {
+        return o.length;
+    }
+    sheet.len()
+}
+
+// The text of an outcome, whose sheet stands at the front of the bytes lent, at the front of the output.
+pub fn put_outcome(o: Outcome, sheet: &[u8], out: &mut [u8]) -> Printed
+    ensures { λ r. ⌜ reported r (now (out .exit)) ≡ outcomePrinted o (now (sheet .entry)) (now (out .entry)) ⌝ }
+{
+    let n = verdict_length(o.verdict);
+    let m = sheet_printed(o, sheet);
+    if !room(out.len(), n, m) {
         return Printed::NotPrinted(15);
     }
-    if v.number != 0 {
-        put_verdict(v, out, 0);
-        return Printed::Done(n);
+    let next = put_verdict(o.verdict, out, 0);
+    let end = put_bytes(&sheet[..m], out, next);
+    Printed::Done(end)
+}
+
+// The text of the trace that ends now, at the front of the output: one question, and what it answers is printed. The sheet is filled into memory of its own, since the verdict
+// stands before it.
+pub fn report(names: &[u8], nums: &[u32], ticks: &[u64], out: &mut [u8]) -> Printed
+    ensures { λ r. ⌜ reported r (now (out .exit)) ≡ reportWritten (now (names .entry)) (now (nums .entry)) (now (ticks .entry)) (now (out .entry)) ⌝ }
+{
+    let mut sheet = [0u8; SHEET_MOST];
+    let o = outcome_now(names, nums, ticks, &mut sheet);
+    if 15 <= o.verdict.number {
+        return Printed::NotPrinted(o.verdict.number);
     }
-    let Printed::Done(m) = sheet(names, nums, ticks, &mut out[n..]) else {
-        return Printed::NotPrinted(15);
-    };
-    put_verdict(v, out, 0);
-    Printed::Done(n + m)
+    put_outcome(o, &sheet, out)
 }

@@ -3,4 +3,3 @@ pub mod Rooms
 pub mod Written
 pub mod Rows
 pub mod Short
-pub mod Tight

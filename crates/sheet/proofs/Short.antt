@@ -1,4 +1,4 @@
--- How long figures, lines and sections of valid tables are at most, so that no length wraps.
+-- How long figures, lines, sections and the sheet of valid tables are at most, so that no length wraps.
 use mathlib.Core.Path.{_≡_}
 use mathlib.Core.Bool.{Bool, true, false, cond}
 use mathlib.Core.List.{List, [], _∷_, _++_, append-nil}
@@ -10,15 +10,16 @@ use Rattle.text.proofs.Digits.{digits-short}
 use Rattle.bill.specs.declared.section.Section.{Section}
 use Rattle.bill.specs.declared.section.Section.the-variants.{Cores, Processes}
 use Rattle.bill.specs.Rows.{Row}
-use Rattle.bill.specs.Text.{figuresText, rowText, rowsText, sectionText, title}
+use Rattle.bill.specs.Text.{figuresText, rowText, rowsText, sectionText, sheetText, title}
 use Rattle.bill.proofs.Texts.{length-figure, length-three, length-row, length-section}
 use Rattle.rules.specs.Lists.{keep}
 use Rattle.tables.specs.Entry.{nameCount, kindAt, lengthAt, standingAt, heldAt, idleAt, unknownAt, nameAt}
 use Rattle.tables.proofs.NameBytes.{name-size}
 use Rattle.ranges.proofs.Valid.{Valid}
 use Rattle.sheet.specs.Figure.{openAt, heldIn, idleIn, holdsCore, chargeTo, chargeIn}
-use Rattle.sheet.specs.Sheet.{belongs, figuresIn, rowIn, rowsTo, rowsIn}
+use Rattle.sheet.specs.Sheet.{belongs, figuresIn, rowIn, rowsTo, rowsIn, sheetIn, sheetMost}
 use Rattle.sheet.proofs.Rows.{keep-lines}
+use Rattle.sheet.proofs.Written.{sheet-length}
 
 -- ---- a figure is an entry of 64 bits, so it has at most 20 digits
 
@@ -99,3 +100,6 @@ module _ {names nums ticks : List ℕ} (v : Valid names nums ticks) where
       let few = rows-few s names nums ticks n in
       let count = digits-short (length rows) (omega (arith, v .name-count)) in
       omega (arith, v .name-count, length-section (title s) rows, title-short s, count, rows-short s n (omega arith))
+
+  pub sheet-fits : length (sheetText (sheetIn names nums ticks)) ≤ sheetMost
+  sheet-fits = omega (arith, sheet-length names nums ticks, section-short Cores, section-short Processes)

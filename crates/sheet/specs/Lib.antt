@@ -1,3 +1,3 @@
--- The charge sheet from the tables: its figures, its rows, and what writing it leaves.
+-- The charge sheet that the tables show: its figures and its rows.
 pub mod Figure
 pub mod Sheet

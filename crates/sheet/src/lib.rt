@@ -1,5 +1,1 @@
-// The charge sheet, from the lent tables. "the sheet of the lines taken": in come the tables; out goes its text, at the front of a lent output.
-pub mod figure;
-pub mod row;
-pub mod section;
-pub mod sheet;
+// No code. The charge sheet that lent tables show, by their entries: all of it is said in specs/, with its laws in proofs/. `outcome` writes it.

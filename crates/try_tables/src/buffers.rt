@@ -1,5 +1,6 @@
 // The buffers whose first entries are lent as tables. They are handed on by value: a function that is lent three slices, to lend them on, takes the
 // prover far longer than one that takes and returns a struct.
+ghost use Prim.Native.Nat.{_≤_};
 use crate::say::say_done;
 use crate::step::Numbers;
 use tables::entry::NAMES_SIZE;
@@ -21,6 +22,16 @@ pub(crate) struct Buffers {
     pub(crate) names_lent: usize,
     pub(crate) nums_lent: usize,
     pub(crate) ticks_lent: usize,
+}
+
+// How many entries of a buffer are lent: n, or all where there are fewer.
+pub(crate) fn at_most(n: usize, most: usize) -> usize
+    ensures { λ r. ⌜ r ≤ most ⌝ }
+{
+    if n < most {
+        return n;
+    }
+    most
 }
 
 pub(crate) fn zeros() -> Buffers {

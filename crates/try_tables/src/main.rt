@@ -1,11 +1,14 @@
-// Runs a script on lent tables, so that tables of a wrong size and entries out of their range are tried in every function that is lent
-// tables. A step that calls one prints its answer, and whether any entry of the three tables is another than before. The steps:
+// Runs a script on lent tables, so that tables of a wrong size, entries out of their range and an output that is too short are tried in every
+// function that is lent them. A step that calls one prints its answer, and whether any entry of the three tables is another than before. The steps:
 //
 //   # REMARK        printed as it stands
 //   fresh           a fresh start
 //   feed LINE       one line
 //   chunk TEXT      the whole lines of a chunk
-//   verdict         the verdict if the trace ended now
+//   ask N           the verdict if the trace ended now, and the length of the sheet, which goes to the first N bytes of an output, or to all where
+//                   there are fewer; tells of any other byte of the output that changed
+//   sheet N         the same, and then the sheet itself
+//   trace N TEXT    the same as ask, of a whole trace
 //   sizes A B C     from now on the first A, B and C entries of names, nums and ticks are lent, or all where there are fewer
 //   names I V N     stores V in N entries of names from entry I on; likewise nums and ticks
 //
@@ -14,6 +17,7 @@ mod buffers;
 mod call;
 mod compare;
 mod fill;
+mod output;
 mod say;
 mod step;
 mod word;

@@ -1,7 +1,7 @@
 // What is printed.
-use bill::verdict::Verdict;
 use judge::feed::Fed;
 use libc::STDOUT_FILENO;
+use outcome::now::Outcome;
 
 pub(crate) fn say(s: &[u8]) {
     io::write_all(STDOUT_FILENO, s);
@@ -27,18 +27,21 @@ pub(crate) fn say_fed(fed: Fed) {
     say_named(b" used ", fed.used as u64);
 }
 
-pub(crate) fn say_verdict(v: Verdict) {
+// The verdict, or 15 or 16 in its place, and how long the sheet is.
+pub(crate) fn say_outcome(o: Outcome) {
+    let v = o.verdict;
     say_answer(v.number);
     say_named(b" line ", v.line as u64);
     say_named(b" scale ", v.scale as u64);
     say_named(b" span ", v.span);
+    say_named(b" sheet ", o.length as u64);
 }
 
 pub(crate) fn say_change(unchanged: bool) {
     if unchanged {
-        say(b" unchanged\n");
+        say(b" unchanged");
     } else {
-        say(b" changed\n");
+        say(b" changed");
     }
 }
 

@@ -16,11 +16,17 @@ pub(crate) const FEED: u64 = 0x66656564;
 
 pub(crate) const CHUNK: u64 = 0x6368756e6b;
 
-pub(crate) const VERDICT: u64 = 0x76657264696374;
+pub(crate) const ASK: u64 = 0x61736b;
+
+pub(crate) const SHEET: u64 = 0x7368656574;
+
+pub(crate) const TRACE: u64 = 0x7472616365;
 
 // Whether a word names a function that is lent tables.
 pub(crate) fn is_call(word: u64) -> bool {
-    (word == FRESH) | (word == FEED) | (word == CHUNK) | (word == VERDICT)
+    let lines = (word == FRESH) | (word == FEED) | (word == CHUNK);
+    let outcome = (word == ASK) | (word == SHEET) | (word == TRACE);
+    lines | outcome
 }
 
 // The number with one byte more; of a word of more than eight bytes the last eight count.

@@ -8,12 +8,13 @@ use Rattle.tables.specs.Entry.{namesSize, numsSize, ticksSize}
 use Rattle.try_tables.proofs.call.run_call.Statement.{statement}
 use Rattle.try_tables.proofs.call.run_call.Tie as tie
 
--- from the word printed to the start, over the sizes that are lent and the copies of the buffers
+-- from the word printed to the start, over the sizes that are lent, the output and the copies of the buffers
 abbrev start : tie.After-say → tie.Start
 start c =
-    let sizes = c .before .before .before in
-    let copies = sizes .before .before .before in
-    copies .before .before .before
+    let sizes = c .before .before in
+    let output = sizes .before .before .before .before in
+    let copies = output .before .before in
+    copies .before .before .before .before
 
 names-end : tie.Need-part-names-end
 names-end c = let e : length (start c .args .t .names) ≡ namesSize + 1 = search needs in omega arith
@@ -33,6 +34,9 @@ run-call-spec =
     (λ c κs. search needs)
     (λ c κs. search needs)
     (λ c κs. search needs)
+    (λ c κs. search needs)
+    (λ c κs. search needs)
+    (λ c κs. search needs)
     (λ c. search needs)
     (λ c. search needs)
     names-end
@@ -42,6 +46,10 @@ run-call-spec =
     (λ c. search needs)
     (λ c. search needs)
     ticks-end
+    (λ c. search needs)
+    (λ c. search needs)
+    (λ c. search needs)
+    (λ c κs. search needs)
     (λ c κs. search needs)
     (λ c κs. search needs)
     (λ c κs. search needs)
