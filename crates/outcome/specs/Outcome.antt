@@ -5,6 +5,7 @@ use Prim.Native.Nat.{ℕ}
 use lib.Dec.{leb}
 use lib.ListN.{length, drop}
 use Rattle.text.specs.Put.{written}
+use Rattle.bill.specs.declared.verdict.Verdict.{Verdict}
 use Rattle.bill.specs.Text.{sheetText}
 use Rattle.rules.specs.Lists.{ifZero}
 use Rattle.tables.specs.Fresh.{clearedOf}
@@ -28,15 +29,15 @@ asked o out = record { outcome = o; output = out }
 abbrev pub refusedBy : ℕ → Outcome
 refusedBy n = record { verdict = verdict n 0 0 0; length = 0 }
 
--- 02, No. 8: "one question that returns the verdict and fills the sheet from the same state. If the sheet doesn't fit, 15 and nothing is written." 01: "at the
--- front of a lent output, the rest unchanged; one too short is 15, tested after 16". The sheet is "of the lines taken", so a refused trace has one too.
+-- a verdict, and the text of a sheet "at the front of a lent output, the rest unchanged"; "If the sheet doesn't fit, 15 and nothing is written"
+abbrev pub filled : Verdict → List ℕ → List ℕ → Asked
+filled v text out = cond (leb (length text) (length out)) (asked (record { verdict = v; length = length text }) (written out 0 text)) (asked (refusedBy 15) out)
+
+-- 02, No. 8: "one question that returns the verdict and fills the sheet from the same state". 01: "one too short is 15, tested after 16". The sheet is "of the
+-- lines taken", so a refused trace has one too.
 unfoldable pub outcomeIn : Tables → List ℕ → Asked
 outcomeIn t out =
-    ifZero (tableAnswer (t .names) (t .nums) (t .ticks))
-    (let text = sheetText (sheetIn (t .names) (t .nums) (t .ticks)) in
-    cond (leb (length text) (length out))
-    (asked (record { verdict = verdictIn (t .nums) (t .ticks); length = length text }) (written out 0 text))
-    (asked (refusedBy 15) out))
+    ifZero (tableAnswer (t .names) (t .nums) (t .ticks)) (filled (verdictIn (t .nums) (t .ticks)) (sheetText (sheetIn (t .names) (t .nums) (t .ticks))) out)
     (asked (refusedBy (tableAnswer (t .names) (t .nums) (t .ticks))) out)
 
 -- ---- a whole trace: a fresh start, every line, and the question

@@ -37,7 +37,7 @@ use Rattle.sheet.specs.Sheet.{sheetIn}
 use Rattle.judge.specs.Feed.{Tables, After, after, judgedLine, judgedLines, fedLine, AfterChunk, fedChunk}
 use Rattle.outcome.specs.declared.now.Outcome.{Outcome}
 use Rattle.outcome.specs.AtEnd.{verdictIn}
-use Rattle.outcome.specs.Outcome.{Asked, asked, refusedBy, outcomeIn, traceOutcome}
+use Rattle.outcome.specs.Outcome.{Asked, asked, refusedBy, filled, outcomeIn, traceOutcome}
 use Rattle.outcome.proofs.AtEnd.{told-most}
 use Rattle.run.specs.declared.report.Printed.the-variants.{Done, NotPrinted}
 use Rattle.run.specs.Report.{Reported, reported, printedAnswer, textPrinted, outcomePrinted, reportWritten}
@@ -177,24 +177,19 @@ pub record Telling (x : Asked) (out : List ℕ) : Type 0 where
   pub most : x .outcome .verdict .number ≤ 15
   pub spares : member (x .outcome .verdict .number) writeNothing ≡ true → x .output ≡ out
 
+filled-tells : (v : Verdict) (text out : List ℕ) → v .number ≤ lastRefusal → Telling (filled v text out) out
+filled-tells v text out h = by-room (leb (length text) (length out))
+  where
+    by-room : (b : Bool) → Telling (cond b (asked (record { verdict = v; length = length text }) (written out 0 text)) (asked (refusedBy 15) out)) out
+    by-room true = record { most = omega arith; spares = λ q. let z = remembers (v .number) h in absurd (let y : _≡_ {A = ℕ} 0 1 = cc in omega arith) }
+    by-room false = record { most = omega arith; spares = λ q. refl }
+
 module _ (t : Tables) (out : List ℕ) where
   abbrev question : ℕ → Asked
-  question n =
-      ifZero n
-      (let text = sheetText (sheetIn (t .names) (t .nums) (t .ticks)) in
-      cond (leb (length text) (length out)) (asked (record { verdict = verdictIn (t .nums) (t .ticks); length = length text }) (written out 0 text))
-      (asked (refusedBy 15) out))
-      (asked (refusedBy n) out)
+  question n = ifZero n (filled (verdictIn (t .nums) (t .ticks)) (sheetText (sheetIn (t .names) (t .nums) (t .ticks))) out) (asked (refusedBy n) out)
 
   told : tableAnswer (t .names) (t .nums) (t .ticks) ≡ 0 → Telling (question 0) out
-  told e =
-      let text = sheetText (sheetIn (t .names) (t .nums) (t .ticks)) in
-      by-room (leb (length text) (length out)) (verdictIn (t .nums) (t .ticks)) (length text) (written out 0 text) (told-most (t .names) (t .nums) (t .ticks) e)
-    where
-      by-room : (b : Bool) (v : Verdict) (n : ℕ) (m : List ℕ) → v .number ≤ lastRefusal →
-          Telling (cond b (asked (record { verdict = v; length = n }) m) (asked (refusedBy 15) out)) out
-      by-room true v n m h = record { most = omega arith; spares = λ q. let z = remembers (v .number) h in absurd (let y : _≡_ {A = ℕ} 0 1 = cc in omega arith) }
-      by-room false v n m h = record { most = omega arith; spares = λ q. refl }
+  told e = filled-tells (verdictIn (t .nums) (t .ticks)) (sheetText (sheetIn (t .names) (t .nums) (t .ticks))) out (told-most (t .names) (t .nums) (t .ticks) e)
 
   pub tells : member (outcomeIn t out .outcome .verdict .number) feedAnswers ≡ true
   unfolding outcomeIn

@@ -16,6 +16,9 @@ use Rattle.rules.specs.Trace.{placeOf}
 use Rattle.tables.specs.Sized.{isSized}
 use Rattle.tables.specs.Fresh.{clearedOf}
 use Rattle.ranges.specs.Range.{tableAnswer}
+use Rattle.ranges.proofs.Valid.{valid}
+use Rattle.sheet.specs.Sheet.{sheetMost}
+use Rattle.sheet.proofs.Short.{sheet-fits}
 use Rattle.judge.specs.Feed.{Tables, After}
 use Rattle.outcome.specs.AtEnd.{verdict, verdictIn}
 use Rattle.outcome.specs.Outcome.{asked, refusedBy, outcomeIn, restFed, traceFed, linesOutcome, begun, traceOutcome}
@@ -40,6 +43,10 @@ unfolding outcomeIn
 one-outcome ls out = rw (never-16 ls, verdict-right ls, figures-right ls)
 
 -- ---- by the room in the output
+
+-- no sheet of lines is longer than `sheetMost`, so that an output of so many bytes always has room
+pub lines-fit : (ls : List (List ℕ)) → length (sheetText (sheetOf ls)) ≤ sheetMost
+lines-fit ls = rw (← (figures-right ls)) (sheet-fits (valid _ _ _ (never-16 ls)))
 
 module _ (ls : List (List ℕ)) (out : List ℕ) where
   abbrev text : List ℕ

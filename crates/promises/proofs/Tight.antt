@@ -38,15 +38,12 @@ use Rattle.rules.specs.Trace.{placeOf, tooMuch, versionWrong, parameterWrong, u
 use Rattle.rules.specs.First.{takenOf, firstRefusal}
 use Rattle.tables.specs.Sized.{isSized}
 use Rattle.tables.proofs.Sizes.{sizes-mean}
-use Rattle.ranges.proofs.Valid.{valid}
 use Rattle.ranges.proofs.FreshTables.{fresh-valid}
 use Rattle.sheet.specs.Sheet.{sheetMost}
-use Rattle.sheet.proofs.Short.{sheet-fits}
 use Rattle.judge.specs.Feed.{Tables, freshTables}
 use Rattle.outcome.specs.Outcome.{AfterTrace, traceOutcome}
 use Rattle.promises.specs.Sheets.{sheetOf}
-use Rattle.promises.proofs.Judged.{never-16}
-use Rattle.promises.proofs.Demand3.{figures-right}
+use Rattle.promises.proofs.Outcomes.{lines-fit}
 use Rattle.promises.proofs.Demand2.{told-right}
 
 -- ---- the verdict on a trace, by its lines
@@ -59,7 +56,7 @@ abbrev wide : List ℕ
 wide = replicate sheetMost 0
 
 room : (ls : List (List ℕ)) → length (sheetText (sheetOf ls)) ≤ length wide
-room ls = rw (← (figures-right ls)) (omega (arith, sheet-fits (valid _ _ _ (never-16 ls)), length-replicate {A = ℕ} sheetMost 0))
+room ls = omega (arith, lines-fit ls, length-replicate {A = ℕ} sheetMost 0)
 
 number-told : (s : List ℕ) → traceOutcome freshTables s wide .told .outcome .verdict .number ≡ verdictOn [] (linesOf s) .0
 number-told s = ap (λ (v : Verdict). v .number) (told-right freshTables fresh-sized s wide (room (linesOf s)))

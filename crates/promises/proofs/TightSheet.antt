@@ -1,12 +1,12 @@
 -- How tight the contract of `outcome_now` is: four sheets that it shuts out, over the tables that a small trace leads to. They are a sheet of zeros, one with the
 -- whole span of each core under idle, one whose charges are made up but have the right total, and one of another state than the verdict's.
 use mathlib.Core.Path.{_≡_, refl, sym, ap, _∙_}
-use mathlib.Core.Bool.{true, false, cond}
+use mathlib.Core.Bool.{true, false}
 use mathlib.Core.List.{List, [], _∷_, _++_, map}
 use Prim.Native.Nat.{ℕ}
 use native.Mathlib.Omega.{arith}
-use lib.Dec.{eqb, leb}
-use lib.ListN.{length, getD, replicate}
+use lib.Dec.{eqb}
+use lib.ListN.{getD, replicate}
 use Rattle.text.specs.Literal.{bytes}
 use Rattle.text.specs.Bytes.{sameBytes, startsWith}
 use Rattle.text.specs.Pieces.{pieces}
@@ -26,7 +26,6 @@ use Rattle.line.specs.Parameter.{isVersion, isVersionLine, isComment, timeScale
 use Rattle.line.specs.Event.{numbersOf, hasNames, knownReading, fieldsReading, eventReading}
 use Rattle.line.specs.Reading.{hasBreak, isEventLine, readLine}
 use Rattle.line.specs.Condition.{refuses1, refuses3, countWrong, numberWrong, nameWrong, noteWrong, refuses5, refuses6, refuses7}
-use Rattle.bill.specs.declared.verdict.Verdict.{Verdict}
 use Rattle.bill.specs.Rows.{Row, Sheet}
 use Rattle.bill.specs.Text.{figuresText, rowText, rowsText, sectionText, sheetText}
 use Rattle.bill.specs.Scale.{scaleNumber}
@@ -45,7 +44,7 @@ use Rattle.sheet.specs.Sheet.{sheetIn}
 use Rattle.judge.specs.Feed.{Tables, judgedLine, judgedLines, freshTables}
 use Rattle.judge.proofs.Traces.{judgedLines-append}
 use Rattle.outcome.specs.AtEnd.{verdictIn}
-use Rattle.outcome.specs.Outcome.{Asked, asked, refusedBy, outcomeIn}
+use Rattle.outcome.specs.Outcome.{Asked, asked, refusedBy, filled, outcomeIn}
 use Rattle.promises.specs.Sheets.{sheetOf, figure}
 use Rattle.promises.specs.Outcomes.{verdictOf}
 use Rattle.promises.proofs.Judged.{after-lines, never-16}
@@ -60,13 +59,9 @@ Lent = Tables × List ℕ
 abbrev asks : Lent → Asked
 asks (t, out) = outcomeIn t out
 
--- a verdict, and a sheet's text beside it
-abbrev textIn : Verdict → List ℕ → List ℕ → Asked
-textIn v out text = cond (leb (length text) (length out)) (asked (record { verdict = v; length = length text }) (written out 0 text)) (asked (refusedBy 15) out)
-
 abbrev writes : (Tables → Sheet) → Lent → Asked
 writes other (t, out) =
-    ifZero (tableAnswer (t .names) (t .nums) (t .ticks)) (textIn (verdictIn (t .nums) (t .ticks)) out (sheetText (other t)))
+    ifZero (tableAnswer (t .names) (t .nums) (t .ticks)) (filled (verdictIn (t .nums) (t .ticks)) (sheetText (other t)) out)
     (asked (refusedBy (tableAnswer (t .names) (t .nums) (t .ticks))) out)
 
 abbrev shown : Tables → Sheet
@@ -90,7 +85,14 @@ row name figures = record { name = name; figures = figures }
 abbrev smallSheet : Sheet
 smallSheet = record { span = 3; cores = row (bytes "C") (3 ∷ 0 ∷ 0 ∷ []) ∷ []; processes = row (bytes "A") (1 ∷ []) ∷ row (bytes "B") (2 ∷ []) ∷ [] }
 
-small-sheet : sheetOf small ≡ smallSheet
+-- and after one line more, which only moves the time
+abbrev later : List ℕ
+later = bytes "4,S,0,STI,S,0,trigger"
+
+abbrev laterSheet : Sheet
+laterSheet = record { span = 4; cores = row (bytes "C") (3 ∷ 1 ∷ 0 ∷ []) ∷ []; processes = row (bytes "A") (1 ∷ []) ∷ row (bytes "B") (2 ∷ []) ∷ [] }
+
+both-sheets : (sheetOf small ≡ smallSheet) × (sheetOf (small ++ later ∷ []) ≡ laterSheet)
 unfolding sheet ticks takenOf answerAt answerInPlace placeTests tooMuch versionWrong parameterWrong unscaled placeOf scaleNumber eventOfLine eventsOf
     kindNumber refuses1 refuses3 refuses5 refuses6 refuses7 countWrong numberWrong nameWrong noteWrong readLine hasBreak isEventLine eventReading
     fieldsReading hasNames numbersOf knownReading partsOf pieces fieldOf noteOf isProcessLine zeroSource zeroTarget isOwn sourceBroken targetBroken
@@ -98,7 +100,7 @@ unfolding sheet ticks takenOf answerAt answerInPlace placeTests tooMuch versionW
     startsWith isNameByte allNameBytes isName numberOf pick scaleWord scaleOf kindWord kindOf wordOf actionCode actionsOf actionOf among namedBy answerTo
     eventTests timeFalls secondKind sourceClash targetClash noRoom offChart notNext coreBroken countBroken names instances chartOf processChart isProcess
     takes gives keeps onCore hasInstances isTracked named kindIn activates lastNumber lastCount countAllowed countFollows
-small-sheet = refl
+both-sheets = (refl, refl)
 
 -- ---- other sheets
 
@@ -132,45 +134,29 @@ made-up-total s = of (s .processes)
     of (r ∷ rs) = omega (arith, no-charges rs)
 
 -- the sheet is asked for after one line more than the verdict
-abbrev later : List ℕ
-later = bytes "4,S,0,STI,S,0,trigger"
-
 abbrev nextSheet : Tables → Sheet
 nextSheet t = shown (judgedLine t later .left)
-
-abbrev laterSheet : Sheet
-laterSheet = record { span = 4; cores = row (bytes "C") (3 ∷ 1 ∷ 0 ∷ []) ∷ []; processes = row (bytes "A") (1 ∷ []) ∷ row (bytes "B") (2 ∷ []) ∷ [] }
-
-later-sheet : sheetOf (small ++ later ∷ []) ≡ laterSheet
-unfolding sheet ticks takenOf answerAt answerInPlace placeTests tooMuch versionWrong parameterWrong unscaled placeOf scaleNumber eventOfLine eventsOf
-    kindNumber refuses1 refuses3 refuses5 refuses6 refuses7 countWrong numberWrong nameWrong noteWrong readLine hasBreak isEventLine eventReading
-    fieldsReading hasNames numbersOf knownReading partsOf pieces fieldOf noteOf isProcessLine zeroSource zeroTarget isOwn sourceBroken targetBroken
-    ownBroken presence noteBroken ruleBroken isVersion isVersionLine isComment timeScale isCreator isCreationDate otherReading parameterReading sameBytes
-    startsWith isNameByte allNameBytes isName numberOf pick scaleWord scaleOf kindWord kindOf wordOf actionCode actionsOf actionOf among namedBy answerTo
-    eventTests timeFalls secondKind sourceClash targetClash noRoom offChart notNext coreBroken countBroken names instances chartOf processChart isProcess
-    takes gives keeps onCore hasInstances isTracked named kindIn activates lastNumber lastCount countAllowed countFollows
-later-sheet = refl
 
 -- ---- they are shut out
 
 -- by a figure that stands at an index of the text
 shut-sheet : (other : Tables → Sheet) (wrong : Sheet) (at right : ℕ) (out : List ℕ)
     → other (after-lines small) ≡ wrong
-    → eqb (getD (textIn (verdictOf small) out (sheetText smallSheet) .output) at 0) right ≡ true
-    → eqb (getD (textIn (verdictOf small) out (sheetText wrong) .output) at 0) right ≡ false
+    → eqb (getD (filled (verdictOf small) (sheetText smallSheet) out .output) at 0) right ≡ true
+    → eqb (getD (filled (verdictOf small) (sheetText wrong) out .output) at 0) right ≡ false
     → ShutsOut asks (writes other)
 unfolding sheet
 shut-sheet other wrong at right out e p q =
-    shut-out (λ x. eqb (getD (x .output) at 0) right) (after-lines small, out) (rw (one-outcome small out, small-sheet) p)
+    shut-out (λ x. eqb (getD (x .output) at 0) right) (after-lines small, out) (rw (one-outcome small out, both-sheets .0) p)
     (rw (never-16 small, verdict-right small, e) q)
 
 small-shown : shown (after-lines small) ≡ smallSheet
-small-shown = figures-right small ∙ small-sheet
+small-shown = figures-right small ∙ both-sheets .0
 
 later-shown : nextSheet (after-lines small) ≡ laterSheet
 unfolding judgedLines
 later-shown =
-    ap shown (sym (judgedLines-append freshTables small (later ∷ []))) ∙ figures-right (small ++ later ∷ []) ∙ later-sheet
+    ap shown (sym (judgedLines-append freshTables small (later ∷ []))) ∙ figures-right (small ++ later ∷ []) ∙ both-sheets .1
 
 abbrev blanks : List ℕ
 blanks = replicate 40 32

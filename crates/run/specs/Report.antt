@@ -1,7 +1,7 @@
 -- What printing leaves of an output: verdict and sheet at its front, or the one line of a refused trace.
 use mathlib.Core.Bool.{cond}
 use mathlib.Core.List.{List}
-use Prim.Native.Nat.{ℕ}
+use Prim.Native.Nat.{ℕ, _+_}
 use lib.Dec.{leb}
 use lib.ListN.{length, take}
 use Rattle.text.specs.Put.{written}
@@ -9,7 +9,7 @@ use Rattle.bill.specs.Text.{sheetText}
 use Rattle.bill.specs.Verdict.{reportText}
 use Rattle.rules.specs.Lists.{ifZero}
 use Rattle.ranges.specs.Range.{tableAnswer}
-use Rattle.sheet.specs.Sheet.{sheetIn}
+use Rattle.sheet.specs.Sheet.{sheetIn, sheetMost}
 use Rattle.outcome.specs.declared.now.Outcome.{Outcome}
 use Rattle.outcome.specs.AtEnd.{verdictIn}
 use Rattle.run.specs.declared.report.Printed.{Printed}
@@ -41,6 +41,6 @@ reportWritten names nums ticks out =
     ifZero (tableAnswer names nums ticks) (textPrinted (reportText (verdictIn nums ticks) (sheetText (sheetIn names nums ticks))) out)
     (reported (NotPrinted (tableAnswer names nums ticks)) out)
 
--- no tables in range have a longer text
+-- no tables in range have a longer text: the longest sheet, and a verdict's line of at most 55 bytes
 abbrev pub textMost : ℕ
-textMost = 65655
+textMost = sheetMost + 55

@@ -20,8 +20,8 @@ pub enum Printed {
     NotPrinted(u32),
 }
 
-// No text is longer: `report-fits`.
-pub const TEXT_MOST: usize = 65655;
+// No text is longer, as specs/Report.antt has it: `report-fits`.
+pub const TEXT_MOST: usize = SHEET_MOST + 55;
 
 // How many bytes of the sheet are printed: a refused trace has one line.
 fn sheet_printed(o: Outcome, sheet: &[u8]) -> usize
