@@ -2,13 +2,14 @@
 //! follow from the lines before.
 
 use super::draft::EventText;
+use super::entity::Entity;
 use super::random::Random;
 use super::steps::{
     all_process_steps, all_runnable_steps, all_semaphore_steps, count_is_right, needs_own_core,
     process_steps, runnable_steps, semaphore_steps, takes_core, Step, REQUEST_EVENTS,
 };
 use super::story::Story;
-use super::world::{Entity, Semaphore, World};
+use super::world::{Semaphore, World};
 use super::world_semaphores::{allowed_steps, COUNTS};
 
 /// Aim 8: a time before the last one.

@@ -8,6 +8,7 @@ mod damaged_fields;
 mod damaged_history;
 mod damaged_lines;
 mod draft;
+mod entity;
 mod filling;
 mod full_tables;
 mod names;

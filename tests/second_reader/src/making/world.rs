@@ -2,20 +2,11 @@
 //! its states and so tells valid event lines.
 
 use super::draft::EventText;
+use super::entity::{new_entity, Entity};
 use super::names::fresh_name;
 use super::random::Random;
 
 pub const LATEST: u64 = (1 << 56) - 1;
-
-/// A process or a runnable.
-#[derive(Clone)]
-pub struct Entity {
-    pub name: String,
-    pub type_word: &'static str,
-    /// Number of the last activate, mtalimitexceeded or runnable start.
-    pub last: Option<u32>,
-    pub instances: Vec<(u32, &'static str)>,
-}
 
 #[derive(Clone)]
 pub struct Core {
@@ -43,32 +34,6 @@ pub struct World {
     pub strangers: Vec<String>,
     /// The tracked names and their kinds: core, T, I, R or SEM.
     pub tracked: Vec<(String, &'static str)>,
-}
-
-impl Entity {
-    pub fn state_of(&self, number: u32) -> Option<&'static str> {
-        self.instances.iter().find(|(known, _)| *known == number).map(|(_, state)| *state)
-    }
-
-    pub fn set_state(&mut self, number: u32, state: &'static str) {
-        match self.instances.iter_mut().find(|(known, _)| *known == number) {
-            Some(instance) => instance.1 = state,
-            None => self.instances.push((number, state)),
-        }
-    }
-
-    /// The only number that may come next in the series, if one has come.
-    pub fn may_be_next(&self, number: u32) -> bool {
-        self.last.map_or(true, |last| last.checked_add(1) == Some(number))
-    }
-
-    /// A number that no instance bears yet, if the draw finds one.
-    pub fn unused_number(&self, random: &mut Random) -> Option<u32> {
-        let next = self.last.map_or(0, |last| last.wrapping_add(1));
-        let drawn = random.below(1000) as u32;
-        let number = *random.pick(&[&next, &next, &next, &0, &3, &7, &drawn, &(u32::MAX - 1), &u32::MAX]);
-        self.state_of(number).is_none().then_some(number)
-    }
 }
 
 impl World {
@@ -176,10 +141,6 @@ pub fn any_number(random: &mut Random) -> u32 {
 
 pub fn new_core(name: String) -> Core {
     Core { name, tracked: false, holder: None }
-}
-
-pub fn new_entity(name: String, type_word: &'static str) -> Entity {
-    Entity { name, type_word, last: None, instances: Vec::new() }
 }
 
 pub fn new_semaphore(name: String) -> Semaphore {

@@ -1,9 +1,10 @@
 //! The events of runnables that a world may tell.
 
 use super::draft::EventText;
+use super::entity::Entity;
 use super::random::Random;
 use super::steps::{all_runnable_steps, runnable_steps, Step};
-use super::world::{any_number, Entity, World};
+use super::world::{any_number, World};
 
 impl World {
     pub fn runnable_event(&mut self, random: &mut Random) -> Option<EventText> {
