@@ -5,11 +5,11 @@ use mathlib.Core.Option.{none, some}
 use mathlib.Core.List.{List}
 use Prim.Native.Nat.{ℕ, zero, suc, _+_}
 use native.Mathlib.Omega.{arith}
-use lib.Dec.{eqb, ltb, eqb·suc-zero}
-use borrow.Author.Tests.{eqb-true, ne-eqb, lt-leb}
+use lib.Dec.{eqb, leb, ltb, eqb·suc-zero}
+use borrow.Author.Tests.{ne-eqb, lt-leb}
 use Rattle.rules.specs.Lists.{ifZero}
 use Rattle.rules.specs.Chart.{stepFor, allowed}
-use Rattle.rules.specs.Charts.{isProcess, chartOf}
+use Rattle.rules.specs.Charts.{chartOf}
 use Rattle.rules.specs.Words.{core, semaphore}
 use Rattle.rules.specs.History.{activates}
 use Rattle.rules.specs.Core.{held, takes, onCore, no-core, takes-core, coreClass}
@@ -27,6 +27,9 @@ use Rattle.rules.specs.Refusals.{
   secondKind,
   noRoom,
   offChart,
+  reaches,
+  neverActivated,
+  notAllowed,
   isNext,
   notNext,
   coreBroken,
@@ -37,18 +40,18 @@ use Rattle.rules.specs.Refusals.{
   answerTo,
 }
 use Rattle.rules.proofs.Tests.{instance-refl}
-use Rattle.rules.proofs.Tests.{clash}
 use Rattle.rules.proofs.CoreWords.{on-process}
+use Rattle.rules.proofs.Seen.{own-number}
 use Rattle.steps.specs.Rows.{opened, leadsTo, moveIf, moveBy}
 use Rattle.steps.proofs.CoreClasses.{class-on, class-takes}
 use Rattle.tables.specs.Entry.{idleCore, heldBy, startedEntry, lastTime}
 use Rattle.lookup.specs.declared.find.Found.{Found}
 use Rattle.lookup.specs.declared.find.Found.the-variants.{At, Nothing}
 use Rattle.lookup.specs.declared.look.LookedUp.{LookedUp}
-use Rattle.lookup.specs.LookedUp.{lookedUp}
+use Rattle.lookup.specs.LookedUp.{lookedUp, aboveIn}
 use Rattle.decide.specs.declared.plan.Plan.{Plan}
 use Rattle.decide.specs.declared.plan.Plan.the-variants.{Refuse, Take}
-use Rattle.decide.specs.Known.{kindIn, standingIn, numberIn, numberedIn, stateIn, another, isHolder, coreIn, knownBy}
+use Rattle.decide.specs.Known.{kindIn, standingIn, numberIn, numberedIn, firstNumberIn, stateIn, another, isHolder, coreIn, knownBy}
 use Rattle.decide.specs.Decide.{enters, planBy, planOf}
 use Rattle.decide.specs.PlanCode.{
   timeFallsIn,
@@ -56,6 +59,7 @@ use Rattle.decide.specs.PlanCode.{
   sourceClashIn,
   targetClashIn,
   noRoomIn,
+  neverActivatedIn,
   notNextIn,
   coreServes,
   coreBrokenIn,
@@ -78,15 +82,6 @@ unseen-opened zero = refl
 unseen-opened (suc n) = eqb·suc-zero n
 
 -- ---- the core rule: any core's state, and any class that takes it or not
-
--- the instance of a line that is not a semaphore's has the line's number
-pub own-number : (e : Event) → hasInstances (e .kind) ≡ true → (instanceOf e) .number ≡ e .targetInstance
-unfolding hasInstances isProcess
-own-number e i = by-test (eqb (e .kind) semaphore) refl
-  where
-    by-test : (b : Bool) → eqb (e .kind) semaphore ≡ b → cond b 0 (e .targetInstance) ≡ e .targetInstance
-    by-test true q = absurd (clash (hasInstances (e .kind)) i (rw (eqb-true (e .kind) semaphore q)))
-    by-test false q = refl
 
 -- an event on a core is a process's
 pub on-instances : (e : Event) → onCore e ≡ true → hasInstances (e .kind) ≡ true
@@ -137,13 +132,28 @@ module _ (nums ticks : List ℕ) (s : LookedUp) (e : Event) where
   unfolding noRoomIn noRoom knownBy
   room-in = refl
 
+  activated-in : neverActivatedIn nums s (e .kind) (e .word) (e .targetInstance) ≡ neverActivated (knownBy nums ticks s e) e
+  unfolding neverActivatedIn neverActivated knownBy
+  activated-in =
+      rw (unseen-opened (stateIn nums s (e .kind)))
+      (ap (λ (b : Bool). unseen (opened (stateIn nums s (e .kind))) && (hasInstances (e .kind) && (not (activates (e .kind) (e .word)) && b)))
+      (by-test (eqb (numberedIn nums (s .target)) 0)))
+    where
+      by-test : (b : Bool) →
+          not b && leb (firstNumberIn nums (s .target)) (e .targetInstance) ≡ reaches (cond b none (some (firstNumberIn nums (s .target)))) (e .targetInstance)
+      by-test true = refl
+      by-test false = refl
+
   number-in : notNextIn nums s (e .kind) (e .word) (e .targetInstance) ≡ notNext (knownBy nums ticks s e) e
   unfolding notNextIn notNext knownBy
   number-in = ap (λ (b : Bool). activates (e .kind) (e .word) && b) (by-test (eqb (numberedIn nums (s .target)) 0))
     where
+      above : Bool
+      above = aboveIn nums (s .target) (e .targetInstance)
+
       by-test : (b : Bool) →
-          not b && not (eqb (e .targetInstance) (numberIn nums (s .target) + 1))
-          ≡ not (isNext (cond b none (some (numberIn nums (s .target)))) (e .targetInstance))
+          not (cond b above (eqb (e .targetInstance) (numberIn nums (s .target) + 1)))
+          ≡ not (isNext (cond b none (some (numberIn nums (s .target)))) above (e .targetInstance))
       by-test true = refl
       by-test false = refl
 
@@ -213,18 +223,19 @@ module _ (nums ticks : List ℕ) (s : LookedUp) (e : Event) (c : s .class ≡ co
   known = knownBy nums ticks s e
 
   steps : stepsPlan nums s (e .kind) (e .word) (e .targetInstance) (e .count)
-      ≡ planFor s (enters nums s e) (cond (offChart known e) 11 (cond (notNext known e) 12 (cond (coreBroken known e) 13 (cond (countBroken known e) 14 0))))
-  unfolding stepsPlan moveBy enters offChart knownBy
+      ≡ planFor s (enters nums s e) (cond (notAllowed known e) 11 (cond (notNext known e) 12 (cond (coreBroken known e) 13 (cond (countBroken known e) 14 0))))
+  unfolding stepsPlan moveBy enters notAllowed offChart knownBy
   steps = by-test (allowed (chartOf (e .kind)) (e .word) (opened (stateIn nums s (e .kind))))
     where
       t : ℕ
       t = leadsTo (stepFor (chartOf (e .kind)) (e .word)) (stateIn nums s (e .kind))
 
       by-test : (b : Bool) → movePlan (moveIf b t) nums s (e .kind) (e .word) (e .targetInstance) (e .count)
-          ≡ planFor s t (cond (not b) 11 (cond (notNext known e) 12 (cond (coreBroken known e) 13 (cond (countBroken known e) 14 0))))
+          ≡ planFor s t (cond (not b || neverActivated known e) 11 (cond (notNext known e) 12 (cond (coreBroken known e) 13 (cond (countBroken known e) 14 0))))
       by-test true =
-          rw (number-in nums ticks s e, core-in nums ticks s e c, count-in nums ticks s e)
-          (tested s t (notNext known e) 11 _ _ (tested s t (coreBroken known e) 12 _ _ (tested s t (countBroken known e) 13 0 _ refl)))
+          rw (activated-in nums ticks s e, number-in nums ticks s e, core-in nums ticks s e c, count-in nums ticks s e)
+          (tested s t (neverActivated known e) 10 _ _
+          (tested s t (notNext known e) 11 _ _ (tested s t (coreBroken known e) 12 _ _ (tested s t (countBroken known e) 13 0 _ refl))))
       by-test false = refl
 
   pub tests-plan : testsPlan nums ticks s e ≡ planBy nums ticks s e

@@ -9,18 +9,18 @@ use Rattle.rules.specs.Event.{Event, Instance, instanceOf}
 use Rattle.rules.specs.Core.{Core, unknown, idle, held}
 use Rattle.rules.specs.Refusals.{Known}
 use Rattle.steps.specs.Rows.{opened}
-use Rattle.tables.specs.Entry.{Column, entryAt, kindColumn, standingColumn, numberColumn, numberedColumn, stateColumn, startedEntry, lastTime, nameCount, coreCount, instanceCount, idleCore, heldBy}
+use Rattle.tables.specs.Entry.{Column, entryAt, kindColumn, standingColumn, numberColumn, numberedColumn, firstNumberColumn, stateColumn, startedEntry, lastTime, nameCount, coreCount, instanceCount, idleCore, heldBy}
 use Rattle.lookup.specs.declared.find.Found.{Found}
 use Rattle.lookup.specs.declared.find.Found.the-variants.{At, Nothing}
 use Rattle.lookup.specs.declared.look.LookedUp.{LookedUp}
-use Rattle.lookup.specs.LookedUp.{newCore, newName, newInstance}
+use Rattle.lookup.specs.LookedUp.{newCore, newName, newInstance, aboveIn}
 
 -- an entry of a column, in the row found; 0 where there is none
 unfoldable pub entryOf : Column → List ℕ → Found → ℕ
 entryOf c nums Nothing = 0
 entryOf c nums (At i) = cond (ltb i (c .rows)) (entryAt c nums i) 0
 
--- the kind, the state, the last number and whether there is one, of the name in a row
+-- the kind, the state, the last number, whether there is one, and the first, of the name in a row
 abbrev pub kindIn : List ℕ → Found → ℕ
 kindIn = entryOf kindColumn
 
@@ -33,12 +33,16 @@ numberIn = entryOf numberColumn
 abbrev pub numberedIn : List ℕ → Found → ℕ
 numberedIn = entryOf numberedColumn
 
+abbrev pub firstNumberIn : List ℕ → Found → ℕ
+firstNumberIn = entryOf firstNumberColumn
+
 -- the state of an event line's semaphore or instance
 unfoldable pub stateIn : List ℕ → LookedUp → ℕ → ℕ
 stateIn nums s k = cond (eqb k semaphore) (standingIn nums (s .target)) (entryOf stateColumn nums (s .instance))
 
-abbrev pub numberKnown : List ℕ → Found → Option ℕ
-numberKnown nums f = cond (eqb (numberedIn nums f) 0) none (some (numberIn nums f))
+-- a number of the name in a row, where it has one
+abbrev pub numberKnown : Column → List ℕ → Found → Option ℕ
+numberKnown c nums f = cond (eqb (numberedIn nums f) 0) none (some (entryOf c nums f))
 
 -- the core as the tables have it: held by the event's own instance where its state and its number name that one, and otherwise by another
 abbrev pub another : Instance → Instance
@@ -61,7 +65,9 @@ knownBy nums ticks s e = record {
   cores = coreCount nums + newCore s;
   instances = instanceCount nums + newInstance s (e .kind);
   state = opened (stateIn nums s (e .kind));
-  number = numberKnown nums (s .target);
+  number = numberKnown numberColumn nums (s .target);
+  first = numberKnown firstNumberColumn nums (s .target);
+  above = aboveIn nums (s .target) (e .targetInstance);
   core = coreIn (standingIn nums (s .source)) (numberIn nums (s .source)) (s .target) (instanceOf e);
-  count = numberKnown nums (s .target);
+  count = numberKnown numberColumn nums (s .target);
 }

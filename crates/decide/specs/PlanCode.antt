@@ -11,17 +11,17 @@ use Rattle.rules.specs.Charts.{chartOf}
 use Rattle.rules.specs.Event.{Event}
 use Rattle.rules.specs.Limits.{nameLimit, coreLimit, instanceLimit}
 use Rattle.rules.specs.Core.{no-core, takes-core}
-use Rattle.rules.specs.History.{isTracked, activates}
+use Rattle.rules.specs.History.{hasInstances, isTracked, activates}
 use Rattle.rules.specs.Refusals.{countAllowed}
 use Rattle.steps.specs.Rows.{moveBy}
 use Rattle.steps.specs.declared.chart.Move.{Move}
 use Rattle.steps.specs.declared.chart.Move.the-variants.{To, Off}
 use Rattle.tables.specs.Entry.{startedEntry, lastTime, nameCount, coreCount, instanceCount, idleCore}
 use Rattle.lookup.specs.declared.look.LookedUp.{LookedUp}
-use Rattle.lookup.specs.LookedUp.{newCore, newName, newInstance}
+use Rattle.lookup.specs.LookedUp.{newCore, newName, newInstance, aboveIn}
 use Rattle.decide.specs.declared.plan.Plan.{Plan}
 use Rattle.decide.specs.declared.plan.Plan.the-variants.{Refuse, Take}
-use Rattle.decide.specs.Known.{kindIn, standingIn, numberIn, numberedIn, stateIn, isHolder}
+use Rattle.decide.specs.Known.{kindIn, standingIn, numberIn, numberedIn, firstNumberIn, stateIn, isHolder}
 
 -- ---- each refusal
 
@@ -42,8 +42,14 @@ noRoomIn nums s k =
     ltb nameLimit (nameCount nums + newCore s + newName s k)
     || (ltb coreLimit (coreCount nums + newCore s) || ltb instanceLimit (instanceCount nums + newInstance s k))
 
+unfoldable pub neverActivatedIn : List ℕ → LookedUp → ℕ → ℕ → ℕ → Bool
+neverActivatedIn nums s k a n =
+    eqb (stateIn nums s k) 0
+    && (hasInstances k && (not (activates k a) && (not (eqb (numberedIn nums (s .target)) 0) && leb (firstNumberIn nums (s .target)) n)))
+
 unfoldable pub notNextIn : List ℕ → LookedUp → ℕ → ℕ → ℕ → Bool
-notNextIn nums s k a n = activates k a && (not (eqb (numberedIn nums (s .target)) 0) && not (eqb n (numberIn nums (s .target) + 1)))
+notNextIn nums s k a n =
+    activates k a && not (cond (eqb (numberedIn nums (s .target)) 0) (aboveIn nums (s .target) n) (eqb n (numberIn nums (s .target) + 1)))
 
 -- whether a core serves an event of a class: `holder`, the event's instance holds it, and `first`, that instance is seen for the first time
 unfoldable pub coreServes : ℕ → ℕ → Bool → Bool → Bool
@@ -71,7 +77,8 @@ countBrokenIn nums s k a n =
 abbrev pub movePlan : Move → List ℕ → LookedUp → ℕ → ℕ → ℕ → ℕ → Plan
 movePlan Off nums s k a n c = Refuse 11
 movePlan (To t) nums s k a n c =
-    cond (notNextIn nums s k a n) (Refuse 12) (cond (coreBrokenIn nums s k n) (Refuse 13) (cond (countBrokenIn nums s k a c) (Refuse 14) (Take s t)))
+    cond (neverActivatedIn nums s k a n) (Refuse 11)
+    (cond (notNextIn nums s k a n) (Refuse 12) (cond (coreBrokenIn nums s k n) (Refuse 13) (cond (countBrokenIn nums s k a c) (Refuse 14) (Take s t))))
 
 unfoldable pub stepsPlan : List ℕ → LookedUp → ℕ → ℕ → ℕ → ℕ → Plan
 stepsPlan nums s k a n c = movePlan (moveBy (chartOf k) a (stateIn nums s k)) nums s k a n c

@@ -5,7 +5,7 @@ ghost use lib.Dec.{eqb};
 ghost use Prim.Native.Nat.{_+_, _≤_};
 ghost use lib.ListN.{length};
 ghost use Rattle.tables.specs.Entry.{numsSize, column, stateColumn};
-ghost use Rattle.decide.specs.Known.{entryOf, kindIn, standingIn, numberIn, numberedIn, stateIn};
+ghost use Rattle.decide.specs.Known.{entryOf, kindIn, standingIn, numberIn, numberedIn, firstNumberIn, stateIn};
 use lookup::find::Found;
 use lookup::look::LookedUp;
 use steps::numbers::SEMAPHORE;
@@ -75,4 +75,12 @@ pub(crate) fn number_in(nums: &[u32], f: Found) -> u32
     ensures { λ r. ⌜ r ≡ numberIn (now (nums .entry)) f ⌝ }
 {
     entry(nums, NUMBER, NAME_ROWS, f)
+}
+
+// The first number of the process or runnable in a row.
+pub(crate) fn first_number_in(nums: &[u32], f: Found) -> u32
+    requires { ⌜ length (now nums) ≡ numsSize ⌝ }
+    ensures { λ r. ⌜ r ≡ firstNumberIn (now (nums .entry)) f ⌝ }
+{
+    entry(nums, FIRST_NUMBER, NAME_ROWS, f)
 }

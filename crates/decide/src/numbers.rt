@@ -1,17 +1,42 @@
-// The refusals 12 and 14 of an event line: the number of its instance, and a semaphore's count.
+// The refusals of an event line for a number: 11 and 12 for that of its instance, and 14 for a semaphore's count.
 ghost use mathlib.Core.Path.{_≡_};
 ghost use lib.ListN.{length};
 ghost use Rattle.rules.specs.Refusals.{countAllowed};
 ghost use Rattle.tables.specs.Entry.{numsSize};
-ghost use Rattle.decide.specs.PlanCode.{notNextIn, countFollowsIn, leastCount, countBrokenIn};
+ghost use Rattle.decide.specs.PlanCode.{neverActivatedIn, notNextIn, countFollowsIn, leastCount, countBrokenIn};
+use crate::known::first_number_in;
 use crate::known::number_in;
 use crate::known::numbered_in;
+use crate::known::state_in;
 use lookup::look::LookedUp;
+use lookup::look::above_all;
 use steps::kind::numbers_instance;
+use steps::kind::with_instances;
 use steps::numbers::SEMAPHORE;
 use words::code::*;
 
-// 12: whether the instance number is not the next.
+// 11: whether this is the first event of an instance, numbered as the first activation or higher, and does not activate it.
+pub(crate) fn never_activated(nums: &[u32], s: LookedUp, kind: u32, word: u32, number: u32) -> bool
+    requires { ⌜ length (now nums) ≡ numsSize ⌝ }
+    ensures { λ r. ⌜ r ≡ neverActivatedIn (now (nums .entry)) s kind word number ⌝ }
+{
+    let row = s.target;
+    if state_in(nums, s, kind) != 0 {
+        return false;
+    }
+    if !with_instances(kind) {
+        return false;
+    }
+    if numbers_instance(kind, word) {
+        return false;
+    }
+    if !numbered_in(nums, row) {
+        return false;
+    }
+    first_number_in(nums, row) <= number
+}
+
+// 12: whether the instance number is not the next, and of the first activation whether it is not above all seen.
 pub(crate) fn not_next(nums: &[u32], s: LookedUp, kind: u32, word: u32, number: u32) -> bool
     requires { ⌜ length (now nums) ≡ numsSize ⌝ }
     ensures { λ r. ⌜ r ≡ notNextIn (now (nums .entry)) s kind word number ⌝ }
@@ -21,7 +46,7 @@ pub(crate) fn not_next(nums: &[u32], s: LookedUp, kind: u32, word: u32, number: 
         return false;
     }
     if !numbered_in(nums, row) {
-        return false;
+        return !above_all(nums, row, number);
     }
     number as u64 != number_in(nums, row) as u64 + 1
 }

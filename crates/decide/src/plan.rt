@@ -11,6 +11,7 @@ use crate::names::no_room;
 use crate::names::source_clash;
 use crate::names::target_clash;
 use crate::numbers::count_broken;
+use crate::numbers::never_activated;
 use crate::numbers::not_next;
 use line::event::Event;
 use lookup::look::LookedUp;
@@ -48,6 +49,9 @@ fn decide_steps(nums: &[u32], s: LookedUp, kind: u32, word: u32, number: u32, co
     let Move::To(state) = m else {
         return Plan::Refuse(11);
     };
+    if never_activated(nums, s, kind, word, number) {
+        return Plan::Refuse(11);
+    }
     if not_next(nums, s, kind, word, number) {
         return Plan::Refuse(12);
     }

@@ -18,7 +18,7 @@ use Rattle.tables.proofs.Means.{Means, means-le, means-lt, means-eq, means-and}
 use Rattle.tables.proofs.NameBytes.{lent-name, name-size}
 use Rattle.lookup.specs.declared.find.Found.{Found}
 use Rattle.lookup.specs.declared.find.Found.the-variants.{At, Nothing}
-use Rattle.lookup.specs.Find.{firstFrom, lastBelow, rowIs, findName, instanceIs, findInstance}
+use Rattle.lookup.specs.Find.{firstFrom, lastBelow, rowIs, findName, instanceIs, findInstance, reachesIn, findFrom}
 
 -- what a search says: the number found is the first that passes of n from i on, or none of them passes
 abbrev First : (ℕ → Bool) → ℕ → ℕ → Found → Type 0
@@ -108,7 +108,7 @@ module _ (f : ℕ → Bool) where
   pub last-none : (n : ℕ) → lastBelow f n ≡ Nothing → (k : ℕ) → k < n → f k ≡ false
   last-none n e = subst (Last f n) e (last n)
 
--- ---- the two look-ups, in tables of their sizes
+-- ---- the look-ups, in tables of their sizes
 
 pub name-found : (names nums name : List ℕ) → length names ≡ namesSize → length nums ≡ numsSize → findName names nums name ≡ firstFrom (rowIs names nums name) 0 (nameCount nums)
 unfolding findName
@@ -117,6 +117,10 @@ name-found names nums name h k = rw (eq-eqb (length names) namesSize h, eq-eqb (
 pub instance-found : (nums : List ℕ) (owner number : ℕ) → length nums ≡ numsSize → findInstance nums owner number ≡ lastBelow (instanceIs nums owner number) (instanceCount nums)
 unfolding findInstance
 instance-found nums owner number h = rw (eq-eqb (length nums) numsSize h)
+
+pub from-found : (nums : List ℕ) (owner number : ℕ) → length nums ≡ numsSize → findFrom nums owner number ≡ lastBelow (reachesIn nums owner number) (instanceCount nums)
+unfolding findFrom
+from-found nums owner number h = rw (eq-eqb (length nums) numsSize h)
 
 -- ---- what the tests of a row mean
 
@@ -152,6 +156,10 @@ name-row names nums name i s h k e = row-means names nums name i .shows (h, (sym
 pub instance-means : (nums : List ℕ) (owner number j : ℕ) → Means (instanceIs nums owner number j) ((j < instanceRows) × ((instanceAt nums j ≡ number) × (ownerAt nums j ≡ owner)))
 unfolding instanceIs
 instance-means nums owner number j = means-and (means-lt j instanceRows) (means-and (means-eq (instanceAt nums j) number) (means-eq (ownerAt nums j) owner))
+
+pub reaches-means : (nums : List ℕ) (owner number j : ℕ) → Means (reachesIn nums owner number j) ((j < instanceRows) × ((number ≤ instanceAt nums j) × (ownerAt nums j ≡ owner)))
+unfolding reachesIn
+reaches-means nums owner number j = means-and (means-lt j instanceRows) (means-and (means-le number (instanceAt nums j)) (means-eq (ownerAt nums j) owner))
 
 -- a row whose number or owner is another is not that instance
 pub other-instance : (nums : List ℕ) (owner number j : ℕ) → eqb (instanceAt nums j) number && eqb (ownerAt nums j) owner ≡ false → instanceIs nums owner number j ≡ false

@@ -13,7 +13,7 @@ use Rattle.lookup.specs.declared.find.Found.{Found}
 use Rattle.lookup.specs.declared.find.Found.the-variants.{At, Nothing}
 use Rattle.lookup.specs.Find.{findName, findInstance}
 use Rattle.lookup.specs.declared.look.LookedUp.{LookedUp}
-use Rattle.lookup.specs.LookedUp.{lookedUpFor, rowsAdded}
+use Rattle.lookup.specs.LookedUp.{lookedUpFor, rowsAdded, isNothing, aboveIn}
 
 -- ---- `find_name`, `find_instance`
 
@@ -32,10 +32,6 @@ look-unique names nums kind word number source = unique (lookedUpFor names nums 
 -- the tables are empty, and the event is the start of A on C by a kind
 abbrev looks : ℕ → LookedUp
 looks kind = lookedUpFor [] [] kind start 0 (bytes "C") (bytes "A")
-
-abbrev isNothing : Found → Bool
-isNothing (At i) = false
-isNothing Nothing = true
 
 -- a name that is not there has no row, and not the first
 pub look-not-the-first : ShutsOut looks (λ kind. record { class = looks kind .class; source = At 0; target = At 0; instance = At 0 })
@@ -63,3 +59,15 @@ rows-added-not-unneeded = shut-out (λ n. eqb n 0) (false, Nothing) refl refl
 -- nor one that is there
 pub rows-added-not-found : ShutsOut news (λ (needed, f). cond needed 1 0)
 rows-added-not-found = shut-out (λ n. eqb n 0) (true, At 0) refl refl
+
+-- ---- `above_all`
+
+pub above-all-unique : (nums : List ℕ) (target : Found) (number : ℕ) (x y : Bool) → x ≡ aboveIn nums target number → y ≡ aboveIn nums target number → x ≡ y
+above-all-unique nums target = unique (aboveIn nums target)
+
+abbrev above : List ℕ × Found × ℕ → Bool
+above (nums, target, number) = aboveIn nums target number
+
+-- where nothing was seen any number is above it
+pub above-all-not-never : ShutsOut above (λ given. false)
+above-all-not-never = shut-out (λ b. b) ([], Nothing, 0) refl refl

@@ -1,4 +1,4 @@
--- What a look-up finds: the first row of a name, the last row of an instance.
+-- What a look-up finds: the first row of a name, the last row of an instance, and of one that bears a number or a higher one.
 use mathlib.Core.Bool.{Bool, _&&_, cond}
 use mathlib.Core.List.{List}
 use Prim.Native.Nat.{ℕ, zero, suc}
@@ -33,3 +33,10 @@ instanceIs nums owner number j = ltb j instanceRows && (eqb (instanceAt nums j) 
 
 unfoldable pub findInstance : List ℕ → ℕ → ℕ → Found
 findInstance nums owner number = cond (eqb (length nums) numsSize) (lastBelow (instanceIs nums owner number) (instanceCount nums)) Nothing
+
+-- row j is an instance of an owner with a number or a higher one
+unfoldable pub reachesIn : List ℕ → ℕ → ℕ → ℕ → Bool
+reachesIn nums owner number j = ltb j instanceRows && (leb number (instanceAt nums j) && eqb (ownerAt nums j) owner)
+
+unfoldable pub findFrom : List ℕ → ℕ → ℕ → Found
+findFrom nums owner number = cond (eqb (length nums) numsSize) (lastBelow (reachesIn nums owner number) (instanceCount nums)) Nothing

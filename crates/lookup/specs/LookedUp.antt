@@ -9,7 +9,7 @@ use Rattle.rules.specs.History.{hasInstances, isTracked}
 use Rattle.tables.specs.Entry.{nameRows}
 use Rattle.lookup.specs.declared.find.Found.{Found}
 use Rattle.lookup.specs.declared.find.Found.the-variants.{At, Nothing}
-use Rattle.lookup.specs.Find.{findName, findInstance}
+use Rattle.lookup.specs.Find.{findName, findInstance, findFrom}
 use Rattle.lookup.specs.declared.look.LookedUp.{LookedUp}
 
 abbrev pub lookIf : Bool → Found → Found
@@ -51,3 +51,13 @@ newName s k = rowsAdded (isTracked k) (s .target)
 
 abbrev pub newInstance : LookedUp → ℕ → ℕ
 newInstance s k = rowsAdded (hasInstances k) (s .instance)
+
+-- ---- a number above all that the rows have of a name
+
+abbrev pub isNothing : Found → Bool
+isNothing (At i) = false
+isNothing Nothing = true
+
+abbrev pub aboveIn : List ℕ → Found → ℕ → Bool
+aboveIn nums Nothing n = true
+aboveIn nums (At i) n = cond (ltb i nameRows) (isNothing (findFrom nums i n)) true

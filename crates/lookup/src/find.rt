@@ -4,7 +4,7 @@ ghost use mathlib.Core.Bool.{false};
 ghost use Prim.Native.Nat.{_+_, _≤_};
 ghost use lib.ListN.{length};
 ghost use Rattle.tables.specs.Entry.{numsSize, instanceRows};
-ghost use Rattle.lookup.specs.Find.{instanceIs, findName, findInstance, lastBelow};
+ghost use Rattle.lookup.specs.Find.{instanceIs, reachesIn, findName, findInstance, findFrom, lastBelow};
 use crate::row::row_is;
 use tables::entry::*;
 
@@ -95,6 +95,37 @@ pub fn find_instance(nums: &[u32], owner: u32, number: u32) -> Found
     while 0 < j {
         j -= 1;
         if instance_is(nums, owner, number, j) {
+            return Found::At(j);
+        }
+    }
+    Found::Nothing
+}
+
+// Whether row j is an instance of an owner with a number or a higher one.
+fn reaches(nums: &[u32], owner: u32, number: u32, j: usize) -> bool
+    requires { ⌜ length (now nums) ≡ numsSize ⌝ }
+    ensures { λ r. ⌜ r ≡ reachesIn (now (nums .entry)) owner number j ⌝ }
+{
+    if INSTANCE_ROWS <= j {
+        return false;
+    }
+    if nums[INSTANCE + j] < number {
+        return false;
+    }
+    nums[OWNER + j] == owner
+}
+
+// The last row of an owner's instance with a number or a higher one.
+pub(crate) fn find_from(nums: &[u32], owner: u32, number: u32) -> Found
+    ensures { λ r. ⌜ r ≡ findFrom (now (nums .entry)) owner number ⌝ }
+{
+    if nums.len() != NUMS_SIZE {
+        return Found::Nothing;
+    }
+    let mut j = nums[INSTANCES] as usize;
+    while 0 < j {
+        j -= 1;
+        if reaches(nums, owner, number, j) {
             return Found::At(j);
         }
     }

@@ -1,8 +1,9 @@
 // What is looked up in the tables for an event line: the rows of its core, its target and its instance.
 ghost use mathlib.Core.Path.{_≡_};
 ghost use Rattle.lookup.specs.Find.{findName};
-ghost use Rattle.lookup.specs.LookedUp.{lookIf, instanceIn, lookedUpFor, rowsAdded};
+ghost use Rattle.lookup.specs.LookedUp.{lookIf, instanceIn, lookedUpFor, rowsAdded, aboveIn};
 use crate::find::Found;
+use crate::find::find_from;
 use crate::find::find_instance;
 use crate::find::find_name;
 use steps::kind::core_class;
@@ -80,5 +81,21 @@ pub fn rows_added(needed: bool, f: Found) -> u64
     match f {
         Found::At(_) => 0,
         Found::Nothing => 1,
+    }
+}
+
+// Whether a number is above those of all instances of the name in a row.
+pub fn above_all(nums: &[u32], target: Found, number: u32) -> bool
+    ensures { λ r. ⌜ r ≡ aboveIn (now (nums .entry)) target number ⌝ }
+{
+    let Found::At(i) = target else {
+        return true;
+    };
+    if NAME_ROWS <= i {
+        return true;
+    }
+    match find_from(nums, i as u32, number) {
+        Found::At(_) => false,
+        Found::Nothing => true,
     }
 }

@@ -15,12 +15,13 @@ use Rattle.rules.specs.Lists.{any, when, orElse}
 use Rattle.rules.specs.Words.{semaphore}
 use Rattle.rules.specs.Event.{Event}
 use Rattle.rules.specs.Core.{onCore}
-use Rattle.rules.specs.History.{isTracked, names, activates, lastNumber, lastCount}
+use Rattle.rules.specs.History.{isTracked, names, activates, numbers, lastNumber, lastCount}
 use Rattle.rules.proofs.Tests.{both, clash}
 use Rattle.rules.proofs.Tracked.{kind-named}
+use Rattle.rules.proofs.Activations.{activates-instances}
 use Rattle.promises.specs.Shown.{numberOf}
 use Rattle.promises.proofs.Choices.{same-choice}
-use Rattle.promises.proofs.KindTests.{instances-tracked, semaphore-tracked, activates-instances}
+use Rattle.promises.proofs.KindTests.{instances-tracked, semaphore-tracked}
 use Rattle.promises.proofs.Origins.{newSource, newTarget, NameFrom}
 use Rattle.promises.proofs.Origins.NameFrom.{before, as-source, as-target}
 use Rattle.promises.proofs.Untold.{no-number, no-count}
@@ -84,6 +85,16 @@ one-at-most true b x h = omega arith
 one-at-most false true x h = omega arith
 one-at-most false false x h = h
 
+-- a first number stays, and where there is none the one that is given is the first
+pub first-given : (b : Bool) (d w v : ℕ) → shownNumber (cond b 1 d) (cond b (cond (eqb d 0) v w) w) ≡ orElse (shownNumber d w) (when b v)
+first-given b d w v = by-test b (eqb d 0) refl
+  where
+    by-test : (b z : Bool) → eqb d 0 ≡ z → shownNumber (cond b 1 d) (cond b (cond z v w) w) ≡ orElse (cond z none (some w)) (when b v)
+    by-test true true q = refl
+    by-test true false q = refl
+    by-test false true q = rw q
+    by-test false false q = rw q
+
 -- a name that is not listed has none
 pub none-told : (h : List Event) (n : List ℕ) (k : ℕ) → any (sameBytes n) (names h) ≡ false → none ≡ numberOf h n k
 none-told h n k q = let z = kind-named h n q in rw (no-count n h z, no-number k n h z) (sym (same-choice (eqb k semaphore) none))
@@ -93,7 +104,7 @@ pub number-grows : (h : List Event) (e : Event) (n : List ℕ) (k : ℕ) → (is
     numberOf (e ∷ h) n k
     ≡ cond (eqb (e .kind) semaphore && sameBytes n (e .target)) (some (e .count))
     (cond (activates (e .kind) (e .word) && sameBytes n (e .target)) (some (e .targetInstance)) (numberOf h n k))
-unfolding lastNumber lastCount
+unfolding lastNumber numbers lastCount
 number-grows h e n k q =
     by-test (sameBytes n (e .target)) (eqb (e .kind) semaphore) (activates (e .kind) (e .word)) (eqb k semaphore) (eqb k (e .kind))
     (λ c x. rw (q (semaphore-tracked (e .kind) c) x) c)

@@ -8,7 +8,7 @@ use lib.ListN.{length, getD, take, drop}
 use Rattle.rules.specs.Event.{Event, Instance}
 use Rattle.steps.specs.Rows.{opened}
 use Rattle.tables.specs.Entry.{nameRoom, startedIndex, namesIndex, coresIndex, instancesIndex, instanceCount, ownerAt, instanceAt}
-use Rattle.tables.specs.Entry.{kindColumn, lengthColumn, standingColumn, numberColumn, numberedColumn, ownerColumn, instanceColumn, stateColumn}
+use Rattle.tables.specs.Entry.{kindColumn, lengthColumn, standingColumn, numberColumn, numberedColumn, firstNumberColumn, ownerColumn, instanceColumn, stateColumn}
 use Rattle.judge.specs.Feed.{tables}
 use Rattle.promises.specs.Shown.{SinglesShown, NameShown, InstanceShown, InstancesShown, Shown}
 
@@ -39,6 +39,7 @@ module _ (h : List Event) (names nums nums' ticks : List ℕ) (g : AgreeFrom sta
         holder = λ x q. g (numberColumn .base + i) (omega arith) ∙ s .holder x q;
         numbered = rw d (s .numbered);
         number = rw (d, g (numberColumn .base + i) (omega arith), k) (s .number);
+        first-number = rw (d, g (firstNumberColumn .base + i) (omega arith), k) (s .first-number);
       }
 
   count-later : instanceCount nums' ≡ instanceCount nums

@@ -15,7 +15,7 @@ use Rattle.rules.specs.Event.{Event}
 use Rattle.rules.specs.Core.{onCore}
 use Rattle.rules.specs.History.{isTracked, names, cores, instances, kindOf, lastTime as timeBefore}
 use Rattle.rules.specs.Refusals.{Known, look, less, differs, timeFalls, sourceClash, targetClash, secondKind}
-use Rattle.rules.specs.Refusals.{noRoom, offChart, notNext, coreBroken, countBroken, eventTests, answerTo}
+use Rattle.rules.specs.Refusals.{noRoom, notAllowed, notNext, coreBroken, countBroken, eventTests, answerTo}
 use Rattle.rules.specs.Verdict.{answer, Accepted}
 use Rattle.steps.specs.Rows.{opened}
 use Rattle.tables.specs.Entry.{startedEntry, nameCount, coreCount, instanceCount, lastTime}
@@ -29,7 +29,7 @@ use Rattle.promises.proofs.Listed.{AllMet}
 use Rattle.promises.proofs.Grown.{names-length, cores-length, instances-length}
 use Rattle.promises.proofs.Lookups.{looked-up-source, looked-up-target, looked-up-shown, new-core, new-name, new-instance}
 use Rattle.promises.proofs.Told.{kind-told}
-use Rattle.promises.proofs.Later.{source-asked, target-asked, chart-agrees, number-agrees, core-agrees, count-agrees}
+use Rattle.promises.proofs.Later.{source-asked, target-asked, chart-agrees, activated-agrees, number-agrees, core-agrees, count-agrees}
 
 -- the time of the event line before
 time-told : (h : List Event) (nums ticks : List ℕ) → startedEntry nums ≡ startedOf h → lastTime ticks ≡ lastOf h →
@@ -39,7 +39,7 @@ time-told (e ∷ h) nums ticks p q = rw (p, q)
 
 -- the rules after 9
 abbrev rest : Known → Event → ℕ
-rest k e = lowest (test 10 (noRoom k e) ∷ test 11 (offChart k e) ∷ test 12 (notNext k e) ∷ test 13 (coreBroken k e) ∷ test 14 (countBroken k e) ∷ [])
+rest k e = lowest (test 10 (noRoom k e) ∷ test 11 (notAllowed k e) ∷ test 12 (notNext k e) ∷ test 13 (coreBroken k e) ∷ test 14 (countBroken k e) ∷ [])
 
 module _ (h : List Event) (a : Accepted h) (met : AllMet h) (t : Tables) (s : Shown h t) (e : Event) where
   -- what the tables have for the event, by the rows that were looked up
@@ -92,9 +92,13 @@ module _ (h : List Event) (a : Accepted h) (met : AllMet h) (t : Tables) (s : Sh
         instances-more : instanceCount (t .nums) + newInstance (lookedUpIn h t e) (e .kind) ≡ length (instances (e ∷ h))
         instances-more = omega (arith, counted .instances-counted, new-instance h a met t s e f, instances-length h e)
 
+    allowed-agrees : notAllowed (known (lookedUpIn h t e)) e ≡ notAllowed (look h e) e
+    unfolding notAllowed
+    allowed-agrees = rw (chart-agrees h a met t s e f, activated-agrees h a met t s e f)
+
     rest-agrees : (v : LookedUp) → v ≡ lookedUpIn h t e → rest (known v) e ≡ rest (look h e) e
     rest-agrees v q =
-        rw (q, room-agrees, chart-agrees h a met t s e f, number-agrees h a met t s e f, core-agrees h a met t s e f, count-agrees h a met t s e f)
+        rw (q, room-agrees, allowed-agrees, number-agrees h a met t s e f, core-agrees h a met t s e f, count-agrees h a met t s e f)
 
   -- ---- the answer
 

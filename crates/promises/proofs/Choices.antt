@@ -1,6 +1,6 @@
 -- What is chosen by a test: laws of tests and of `cond`, whatever they test and choose.
 use mathlib.Core.Path.{_≡_, refl, sym}
-use mathlib.Core.Bool.{Bool, true, false, _&&_, _||_, cond}
+use mathlib.Core.Bool.{Bool, true, false, _&&_, _||_, cond, and-false}
 use Prim.Native.Nat.{ℕ}
 use lib.Dec.{eqb}
 use borrow.Author.Tests.{eq-eqb, eqb-true, eqb-false, ne-eqb}
@@ -14,6 +14,11 @@ either-true false b P f g q = g q
 pub where-true : (b x y : Bool) → (b ≡ true → x ≡ y) → b && x ≡ b && y
 where-true true x y f = f refl
 where-true false x y f = refl
+
+-- and what comes before one matters only where the other does not say it too
+pub implied-first : (b x : Bool) → (x ≡ true → b ≡ true) → b && x ≡ x
+implied-first b true f = rw (f refl)
+implied-first b false f = and-false b
 
 -- a choice between two that are the same
 pub same-choice : {A : Type 0} (b : Bool) (x : A) → cond b x x ≡ x

@@ -12,18 +12,18 @@ use Rattle.rules.specs.Words.{core, semaphore}
 use Rattle.rules.specs.Core.{no-core, gives-core}
 use Rattle.rules.specs.History.{hasInstances, activates}
 use Rattle.tables.specs.Entry.{idleCore, heldBy, nameRows, numsSize, linesIndex, startedIndex, namesIndex, coresIndex, instancesIndex}
-use Rattle.tables.specs.Entry.{kindColumn, standingColumn, numberColumn, numberedColumn, ownerColumn, stateColumn}
+use Rattle.tables.specs.Entry.{kindColumn, standingColumn, numberColumn, numberedColumn, firstNumberColumn, ownerColumn, stateColumn}
 use Rattle.tables.specs.Entry.{lineCount, nameCount, coreCount, instanceCount}
-use Rattle.tables.specs.Entry.{standingAt, numberAt}
+use Rattle.tables.specs.Entry.{standingAt, numberAt, numberedAt, firstNumberAt}
 use Rattle.tables.proofs.Stores.{other, single, Outside}
 use Rattle.lookup.specs.declared.look.LookedUp.{LookedUp}
 use Rattle.lookup.specs.LookedUp.{newCore, newName}
-use Rattle.store.specs.Store.{targetRow, storeRow, storeInstance, storeStanding, storeHolder, storeNumber, withRows, withTarget, withCore, withCounts}
+use Rattle.store.specs.Store.{targetRow, storeRow, storeInstance, storeStanding, storeHolder, storeNumber, storeActivation, withRows, withTarget, withCore, withCounts}
 use Rattle.store.proofs.Stores.{length-storeRow, length-storeStanding, length-storeInstance}
 use Rattle.promises.proofs.Choices.{same-choice}
 use Rattle.promises.proofs.KindTests.{no-instances, no-activation}
 use Rattle.promises.proofs.RowStores.{length-if, entry-if, kept-if, made, standing-standing, holder-standing, holder-number, row-beside, standing-beside}
-use Rattle.promises.proofs.RowStores.{holder-beside, number-beside, instance-beside}
+use Rattle.promises.proofs.RowStores.{holder-beside, number-beside, instance-beside, activation-beside, Counts, activation-counts, activation-first}
 
 -- ---- the rows of new names
 
@@ -53,7 +53,7 @@ module _ (nums : List ℕ) (z : length nums ≡ numsSize) (s : LookedUp) (kind n
       ∙ ap (cond (isNewTarget nums s kind r) (value kind m))
       (made (eqb (newCore s) 1) (eqb r (nameCount nums)) first nums (d + r) (value core n) (λ t. f nums z (nameCount nums) r h core n))
 
-  pub rows-beside : (j : ℕ) → Outside kindColumn numberedColumn j → getD (withRows nums s kind n m) j 0 ≡ getD nums j 0
+  pub rows-beside : (j : ℕ) → Outside kindColumn firstNumberColumn j → getD (withRows nums s kind n m) j 0 ≡ getD nums j 0
   unfolding withRows
   rows-beside j out =
       let one = cond (eqb (newCore s) 1) (storeRow nums (nameCount nums) core n) nums in
@@ -62,18 +62,13 @@ module _ (nums : List ℕ) (z : length nums ≡ numsSize) (s : LookedUp) (kind n
 
 -- ---- the state, number and instance of the target
 
--- what a new number leaves in the column from d on
-abbrev pub Counts : ℕ → (ℕ → ℕ) → Type 0
-Counts d value = (l : List ℕ) → length l ≡ numsSize → (i r : ℕ) → r < nameRows → (c : ℕ) →
-    getD (storeNumber l i c) (d + r) 0 ≡ cond (eqb r i) (value c) (getD l (d + r) 0)
-
 module _ (nums : List ℕ) (z : length nums ≡ numsSize) (i j t kind word n c : ℕ) where
   -- after the instance, and then the number, of a process or runnable
   abbrev one : List ℕ
   one = cond (hasInstances kind) (storeInstance nums j i n t) nums
 
   abbrev two : List ℕ
-  two = cond (activates kind word) (storeNumber one i n) one
+  two = cond (activates kind word) (storeActivation one i n) one
 
   one-size : length one ≡ numsSize
   one-size = length-if (hasInstances kind) _ nums (length-storeInstance nums j i n t) ∙ z
@@ -81,8 +76,8 @@ module _ (nums : List ℕ) (z : length nums ≡ numsSize) (i j t kind word n c :
   one-beside : (x : ℕ) → Outside ownerColumn stateColumn x → getD one x 0 ≡ getD nums x 0
   one-beside x out = kept-if (hasInstances kind) _ nums x (λ e. instance-beside nums j x i n t out)
 
-  two-beside : (x : ℕ) → Outside numberColumn numberedColumn x → getD two x 0 ≡ getD one x 0
-  two-beside x out = kept-if (activates kind word) _ one x (λ e. number-beside one i x n out)
+  two-beside : (x : ℕ) → Outside numberColumn firstNumberColumn x → getD two x 0 ≡ getD one x 0
+  two-beside x out = kept-if (activates kind word) _ one x (λ e. activation-beside one i x n out)
 
   pub target-beside : (x : ℕ) → Outside standingColumn stateColumn x → getD (withTarget nums i j t kind word n c) x 0 ≡ getD nums x 0
   unfolding withTarget
@@ -99,7 +94,7 @@ module _ (nums : List ℕ) (z : length nums ≡ numsSize) (i j t kind word n c :
       (λ e. rw e (number-beside (storeStanding nums i t) i (standingColumn .base + r) c (λ l u. omega arith) ∙ standing-standing nums z i r h t))
       (λ e. rw e (two-beside (standingColumn .base + r) (λ l u. omega arith) ∙ one-beside (standingColumn .base + r) (λ l u. omega arith)))
 
-  pub target-number : (d : ℕ) (value : ℕ → ℕ) → Counts d value → numberColumn .base ≤ d → d ≤ numberedColumn .base → (r : ℕ) → r < nameRows →
+  pub target-number : (d : ℕ) (value : ℕ → ℕ) → Counts storeNumber d value → numberColumn .base ≤ d → d ≤ numberedColumn .base → (r : ℕ) → r < nameRows →
       getD (withTarget nums i j t kind word n c) (d + r) 0
       ≡ cond (eqb kind semaphore && eqb r i) (value c) (cond (activates kind word && eqb r i) (value n) (getD nums (d + r) 0))
   unfolding withTarget
@@ -109,8 +104,19 @@ module _ (nums : List ℕ) (z : length nums ≡ numsSize) (i j t kind word n c :
       (f (storeStanding nums i t) (length-storeStanding nums i t ∙ z) i r h c
       ∙ ap (cond (eqb r i) (value c)) (standing-beside nums i (d + r) t (λ l u. omega arith))))
       (λ e. rw e
-      (made (activates kind word) (eqb r i) _ one (d + r) (value n) (λ y. f one one-size i r h n)
+      (made (activates kind word) (eqb r i) _ one (d + r) (value n) (λ y. activation-counts d value hi f one one-size i r h n)
       ∙ ap (cond (activates kind word && eqb r i) (value n)) (one-beside (d + r) (λ l u. omega arith))))
+
+  pub target-first : (r : ℕ) → r < nameRows → firstNumberAt (withTarget nums i j t kind word n c) r
+      ≡ cond (activates kind word && eqb r i) (cond (eqb (numberedAt nums r) 0) n (firstNumberAt nums r)) (firstNumberAt nums r)
+  unfolding withTarget
+  target-first r h =
+      entry-if (eqb kind semaphore) (storeNumber (storeStanding nums i t) i c) two (firstNumberColumn .base + r)
+      (λ e. rw (no-activation kind word e)
+      (number-beside (storeStanding nums i t) i (firstNumberColumn .base + r) c (λ l u. omega arith)
+      ∙ standing-beside nums i (firstNumberColumn .base + r) t (λ l u. omega arith)))
+      (λ e. made (activates kind word) (eqb r i) _ one (firstNumberColumn .base + r) _ (λ y. activation-first one one-size i r h n)
+      ∙ rw (one-beside (numberedColumn .base + r) (λ l u. omega arith), one-beside (firstNumberColumn .base + r) (λ l u. omega arith)))
 
   pub target-instance : (d q v : ℕ) → ownerColumn .base ≤ d →
       (hasInstances kind ≡ true → getD (storeInstance nums j i n t) (d + q) 0 ≡ cond (eqb q j) v (getD nums (d + q) 0)) →

@@ -14,17 +14,17 @@ use Rattle.rules.specs.History.{hasInstances, activates}
 use Rattle.tables.specs.Entry.{idleCore, heldBy, verdictIndex, verdictLineIndex, linesIndex, scaleIndex, creatorIndex}
 use Rattle.tables.specs.Entry.{dateIndex, startedIndex, namesIndex, coresIndex, instancesIndex}
 use Rattle.tables.specs.Entry.{nameRows, instanceRows, numsSize}
-use Rattle.tables.specs.Entry.{kindColumn, lengthColumn, standingColumn, numberColumn, numberedColumn, ownerColumn, instanceColumn, stateColumn}
+use Rattle.tables.specs.Entry.{kindColumn, lengthColumn, standingColumn, numberColumn, numberedColumn, firstNumberColumn, ownerColumn, instanceColumn, stateColumn}
 use Rattle.tables.specs.Entry.{verdictNumber, verdictLine, lineCount, scaleEntry, creatorEntry, dateEntry, startedEntry, nameCount, coreCount, instanceCount}
-use Rattle.tables.specs.Entry.{kindAt, lengthAt, standingAt, numberAt, numberedAt, ownerAt, instanceAt, stateAt}
+use Rattle.tables.specs.Entry.{kindAt, lengthAt, standingAt, numberAt, numberedAt, firstNumberAt, ownerAt, instanceAt, stateAt}
 use Rattle.tables.proofs.Stores.{Outside}
 use Rattle.lookup.specs.declared.look.LookedUp.{LookedUp}
 use Rattle.lookup.specs.LookedUp.{newCore, newName, newInstance}
-use Rattle.store.specs.Store.{coreRow, targetRow, instanceRow, storeInstance, withRows, withTarget, withCore, takenNums}
+use Rattle.store.specs.Store.{coreRow, targetRow, instanceRow, storeInstance, storeNumber, withRows, withTarget, withCore, takenNums}
 use Rattle.store.proofs.Stores.{length-withRows, length-withTarget, length-withCore}
-use Rattle.promises.proofs.RowStores.{row-kind, row-length, row-standing, row-number, row-numbered, number-number, number-numbered, instance-owner}
-use Rattle.promises.proofs.RowStores.{instance-number, instance-state}
-use Rattle.promises.proofs.Columns.{isNewCore, isNewTarget, Fills, Counts, rows-stored, rows-beside, target-beside, target-standing, target-number}
+use Rattle.promises.proofs.RowStores.{row-kind, row-length, row-standing, row-number, row-numbered, row-first, number-number, number-numbered, instance-owner}
+use Rattle.promises.proofs.RowStores.{instance-number, instance-state, Counts}
+use Rattle.promises.proofs.Columns.{isNewCore, isNewTarget, Fills, rows-stored, rows-beside, target-beside, target-standing, target-number, target-first}
 use Rattle.promises.proofs.Columns.{target-instance, core-beside, core-standing, core-number, counts-beside, counts-stored}
 
 -- ---- all the stores
@@ -103,7 +103,7 @@ module _ (nums : List ℕ) (z : length nums ≡ numsSize) (s : LookedUp) (t : �
       cond (eqb (e .kind) semaphore && eqb r (targetRow nums s)) count
       (cond (activates (e .kind) (e .word) && eqb r (targetRow nums s)) number (orNone nums s (e .kind) r old))
 
-  number-column : (d : ℕ) (value : ℕ → ℕ) → Fills d (λ k c. 0) → Counts d value → numberColumn .base ≤ d → d ≤ numberedColumn .base → (r : ℕ) → r < nameRows →
+  number-column : (d : ℕ) (value : ℕ → ℕ) → Fills d (λ k c. 0) → Counts storeNumber d value → numberColumn .base ≤ d → d ≤ numberedColumn .base → (r : ℕ) → r < nameRows →
       getD aimed (d + r) 0 ≡ given r (value (e .count)) (value (e .targetInstance)) (getD nums (d + r) 0)
   number-column d value f c lo hi r h =
       target-number filled filled-size (targetRow nums s) (instanceRow nums s) t (e .kind) (e .word) (e .targetInstance) (e .count) d value c lo hi r h
@@ -122,6 +122,19 @@ module _ (nums : List ℕ) (z : length nums ≡ numsSize) (s : LookedUp) (t : �
   numbered-taken r h =
       from-aimed (numberedColumn .base + r) (omega arith) (λ l u. omega arith)
       ∙ number-column (numberedColumn .base) (λ c. 1) row-numbered number-numbered (omega arith) (omega arith) r h
+
+  -- the first number that the target is given, where it has none
+  pub first-taken : (r : ℕ) → r < nameRows →
+      let old = orNone nums s (e .kind) r (firstNumberAt nums r) in
+      firstNumberAt (takenNums nums s t e) r
+      ≡ cond (activates (e .kind) (e .word) && eqb r (targetRow nums s)) (cond (eqb (orNone nums s (e .kind) r (numberedAt nums r)) 0) (e .targetInstance) old) old
+  first-taken r h =
+      from-aimed (firstNumberColumn .base + r) (omega arith) (λ l u. omega arith)
+      ∙ target-first filled filled-size (targetRow nums s) (instanceRow nums s) t (e .kind) (e .word) (e .targetInstance) (e .count) r h
+      ∙ rw (
+        rows-stored nums z s (e .kind) (length (e .source)) (length (e .target)) (numberedColumn .base) (λ k c. 0) row-numbered r h,
+        rows-stored nums z s (e .kind) (length (e .source)) (length (e .target)) (firstNumberColumn .base) (λ k c. 0) row-first r h,
+      )
 
   -- ---- by instance
 

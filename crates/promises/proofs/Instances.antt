@@ -16,11 +16,11 @@ use Rattle.rules.proofs.Tests.{both, clash, instance-true, instance-refl, and-t
 use Rattle.rules.proofs.Changes.{state-other}
 use Rattle.rules.proofs.Answers.{Passed}
 use Rattle.rules.proofs.Tracked.{target-kind, kind-stays, named-kind}
+use Rattle.rules.proofs.Seen.{own-number}
 use Rattle.steps.specs.Rows.{opened}
 use Rattle.tables.specs.Entry.{instanceRows, nameRows, instanceCount, ownerAt, instanceAt, stateAt}
 use Rattle.lookup.specs.declared.find.Found.{Found}
 use Rattle.lookup.specs.declared.find.Found.the-variants.{At, Nothing}
-use Rattle.decide.proofs.Plans.{own-number}
 use Rattle.store.specs.Store.{rowOr, targetRow, instanceRow, takenTables}
 use Rattle.judge.specs.Feed.{Tables}
 use Rattle.promises.specs.Places.{rowOf}

@@ -1,18 +1,16 @@
--- The tests on kinds, against each other and by the numbers of the kinds: which have instances and which are tracked, of which an activation and an event on
--- a core are, and what a semaphore is not.
-use mathlib.Core.Path.{_≡_, refl}
-use mathlib.Core.Bool.{Bool, true, false, _&&_, _||_, or-true}
-use mathlib.Core.List.{[], _∷_}
+-- The tests on kinds, against each other and by the numbers of the kinds: which have instances and which are tracked, of which an event on a core is, and
+-- what a semaphore is not.
+use mathlib.Core.Path.{_≡_}
+use mathlib.Core.Bool.{true, false, or-true}
 use Prim.Native.Nat.{ℕ, _≤_}
 use native.Mathlib.Omega.{arith}
 use lib.Dec.{eqb}
 use borrow.Author.Tests.{eqb-true, ne-eqb}
-use Rattle.rules.specs.Words.{task, interrupt, runnable, semaphore, activate, mtalimitexceeded, start}
+use Rattle.rules.specs.Words.{task, interrupt, runnable, semaphore}
 use Rattle.rules.specs.Charts.{isProcess}
 use Rattle.rules.specs.Event.{Event}
 use Rattle.rules.specs.Core.{onCore}
 use Rattle.rules.specs.History.{hasInstances, isTracked, activates}
-use Rattle.rules.specs.Lists.{member}
 use Rattle.rules.proofs.Tracked.{process-tracked}
 use Rattle.rules.proofs.CoreWords.{on-process}
 use Rattle.promises.proofs.Choices.{either-true}
@@ -49,15 +47,6 @@ unfolding isTracked
 semaphore-tracked k q = rw q (or-true (hasInstances k))
 
 -- ---- events that speak of tracked names
-
-pub activates-instances : (k a : ℕ) → activates k a ≡ true → hasInstances k ≡ true
-unfolding activates hasInstances
-activates-instances k a = by-test (isProcess k) (member a (activate ∷ mtalimitexceeded ∷ [])) (eqb k runnable) (eqb a start)
-  where
-    by-test : (p m r s : Bool) → (p && m) || (r && s) ≡ true → p || r ≡ true
-    by-test true m r s q = refl
-    by-test false m true s q = refl
-    by-test false m false s q = q
 
 -- an event on a core is a process's
 pub core-tracked : (e : Event) → onCore e ≡ true → isTracked (e .kind) ≡ true

@@ -13,27 +13,31 @@ use Rattle.rules.specs.Chart.{stepFor, stateAfter, allowed}
 use Rattle.rules.specs.Charts.{isProcess, chartOf}
 use Rattle.rules.specs.Event.{Event, Instance, instanceOf, wordsOf, stateOf}
 use Rattle.rules.specs.Core.{takes, onCore, coreAt}
-use Rattle.rules.specs.History.{hasInstances, isTracked, names, kindOf, activates, lastNumber, lastCount}
-use Rattle.rules.specs.Refusals.{look, secondKind, offChart, isNext, notNext, unseen, serves, coreBroken, countFollows, countAllowed, countBroken}
+use Rattle.rules.specs.History.{hasInstances, isTracked, names, kindOf, activates, lastNumber, firstNumber, aboveAll, lastCount}
+use Rattle.rules.specs.Refusals.{look, secondKind, offChart, unseen, reaches, neverActivated, isNext, notNext, serves, coreBroken, countFollows, countAllowed, countBroken}
 use Rattle.rules.specs.Verdict.{Accepted}
 use Rattle.rules.proofs.Tests.{neither}
 use Rattle.rules.proofs.Tracked.{target-is, source-is}
+use Rattle.rules.proofs.Activations.{activates-instances}
 use Rattle.steps.specs.Rows.{opened, leadsTo, moveBy}
 use Rattle.steps.proofs.CoreClasses.{class-on}
 use Rattle.steps.proofs.Steps.{step-state}
-use Rattle.tables.specs.Entry.{stateColumn}
+use Rattle.tables.specs.Entry.{numberColumn, firstNumberColumn, stateColumn}
 use Rattle.lookup.specs.declared.find.Found.{Found}
 use Rattle.lookup.specs.declared.find.Found.the-variants.{Nothing}
+use Rattle.lookup.specs.LookedUp.{aboveIn}
 use Rattle.decide.specs.Known.{standingIn, numberIn, entryOf, stateIn, numberKnown, coreIn, knownBy}
 use Rattle.decide.specs.Decide.{enters}
 use Rattle.judge.specs.Feed.{Tables}
 use Rattle.promises.specs.Places.{seek}
 use Rattle.promises.specs.Shown.{Shown, theSemaphore, numberOf}
 use Rattle.promises.specs.Taken.{lookedUpIn}
-use Rattle.promises.proofs.KindTests.{instances-tracked, semaphore-tracked, activates-instances, no-semaphore, core-tracked}
+use Rattle.promises.proofs.Choices.{where-true}
+use Rattle.promises.proofs.KindTests.{instances-tracked, semaphore-tracked, no-semaphore, core-tracked}
 use Rattle.promises.proofs.Listed.{AllMet}
 use Rattle.promises.proofs.Lookups.{looked-up-instance}
-use Rattle.promises.proofs.Told.{all-worded, Only, core-told, holder-told, semaphore-told, number-told, state-told}
+use Rattle.promises.proofs.Told.{all-worded, Only, core-told, holder-told, semaphore-told, number-told, first-told, state-told}
+use Rattle.promises.proofs.Above.{above-told}
 use Rattle.promises.proofs.Holders.{serves-shown}
 
 -- ---- kinds
@@ -94,22 +98,36 @@ module _ (h : List Event) (a : Accepted h) (met : AllMet h) (t : Tables) (s : Sh
       (leadsTo (stepFor (chartOf (e .kind)) (e .word)) (stateIn (t .nums) (lookedUpIn h t e) (e .kind))) state-shown
       (rw (state-shown, not-false (allowed (chartOf (e .kind)) (e .word) (stateOf (instanceOf e) h)) c))
 
+  first-number-shown : hasInstances (e .kind) ≡ true → numberKnown firstNumberColumn (t .nums) (lookedUpIn h t e .target) ≡ firstNumber (e .kind) (e .target) h
+  first-number-shown i =
+      let k = instances-tracked (e .kind) i in
+      ap (numberKnown firstNumberColumn (t .nums)) (target-asked h t e k)
+      ∙ first-told h a t s (e .target) (e .kind) (target-is h e f k) (no-semaphore (e .kind) i)
+
+  pub activated-agrees : neverActivated (knownBy (t .nums) (t .ticks) (lookedUpIn h t e) e) e ≡ neverActivated (look h e) e
+  unfolding neverActivated knownBy
+  activated-agrees =
+      rw state-shown
+      (ap (λ (b : Bool). unseen (stateOf (instanceOf e) h) && b)
+      (where-true (hasInstances (e .kind)) _ _ (λ i. ap (λ (o : Option ℕ). not (activates (e .kind) (e .word)) && reaches o (e .targetInstance)) (first-number-shown i))))
+
   -- ---- 12 and 14
 
-  number-shown : isTracked (e .kind) ≡ true → numberKnown (t .nums) (lookedUpIn h t e .target) ≡ numberOf h (e .target) (e .kind)
-  number-shown k = ap (numberKnown (t .nums)) (target-asked h t e k) ∙ number-told h a t s (e .target) (e .kind) (target-is h e f k)
+  number-shown : isTracked (e .kind) ≡ true → numberKnown numberColumn (t .nums) (lookedUpIn h t e .target) ≡ numberOf h (e .target) (e .kind)
+  number-shown k = ap (numberKnown numberColumn (t .nums)) (target-asked h t e k) ∙ number-told h a t s (e .target) (e .kind) (target-is h e f k)
 
   pub number-agrees : notNext (knownBy (t .nums) (t .ticks) (lookedUpIn h t e) e) e ≡ notNext (look h e) e
   unfolding notNext knownBy
   number-agrees = by-test (activates (e .kind) (e .word)) refl
     where
       by-test : (b : Bool) → activates (e .kind) (e .word) ≡ b →
-          b && not (isNext (numberKnown (t .nums) (lookedUpIn h t e .target)) (e .targetInstance))
-          ≡ b && not (isNext (lastNumber (e .kind) (e .target) h) (e .targetInstance))
+          b && not (isNext (numberKnown numberColumn (t .nums) (lookedUpIn h t e .target)) (aboveIn (t .nums) (lookedUpIn h t e .target) (e .targetInstance)) (e .targetInstance))
+          ≡ b && not (isNext (lastNumber (e .kind) (e .target) h) (aboveAll (e .kind) (e .target) (e .targetInstance) h) (e .targetInstance))
       by-test true q =
           let k = activates-instances (e .kind) (e .word) q in
           let r = number-shown (instances-tracked (e .kind) k) in
-          ap (λ (o : Option ℕ). not (isNext o (e .targetInstance))) (rw (no-semaphore (e .kind) k) at r)
+          let l : numberKnown numberColumn (t .nums) (lookedUpIn h t e .target) ≡ lastNumber (e .kind) (e .target) h = rw (no-semaphore (e .kind) k) at r in
+          rw (l, target-asked h t e (instances-tracked (e .kind) k), above-told h a t s (e .kind) (e .target) (e .targetInstance) (target-is h e f (instances-tracked (e .kind) k)))
       by-test false q = refl
 
   pub count-agrees : countBroken (knownBy (t .nums) (t .ticks) (lookedUpIn h t e) e) e ≡ countBroken (look h e) e
@@ -117,7 +135,7 @@ module _ (h : List Event) (a : Accepted h) (met : AllMet h) (t : Tables) (s : Sh
   count-agrees = by-test (eqb (e .kind) semaphore) refl
     where
       by-test : (b : Bool) → eqb (e .kind) semaphore ≡ b →
-          b && not (countFollows (numberKnown (t .nums) (lookedUpIn h t e .target)) (e .word) (e .count) && countAllowed (e .word) (e .count))
+          b && not (countFollows (numberKnown numberColumn (t .nums) (lookedUpIn h t e .target)) (e .word) (e .count) && countAllowed (e .word) (e .count))
           ≡ b && not (countFollows (lastCount (e .target) h) (e .word) (e .count) && countAllowed (e .word) (e .count))
       by-test true q =
           let r = number-shown (semaphore-tracked (e .kind) q) in

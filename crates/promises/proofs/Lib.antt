@@ -10,6 +10,7 @@ pub mod Lookups
 pub mod Untold
 pub mod Told
 pub mod Holders
+pub mod Above
 pub mod Later
 pub mod Answers
 pub mod Bounds

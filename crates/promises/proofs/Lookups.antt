@@ -20,6 +20,7 @@ use Rattle.rules.specs.Verdict.{Accepted}
 use Rattle.rules.proofs.Tests.{clash}
 use Rattle.rules.proofs.Answers.{all-fit}
 use Rattle.rules.proofs.Tracked.{named-kind, target-is}
+use Rattle.rules.proofs.Seen.{own-number}
 use Rattle.steps.proofs.CoreClasses.{class-on}
 use Rattle.tables.specs.Entry.{instanceRows, nameRows, nameCount, instanceCount, nameAt}
 use Rattle.lookup.specs.declared.find.Found.{Found}
@@ -27,7 +28,6 @@ use Rattle.lookup.specs.declared.find.Found.the-variants.{At, Nothing}
 use Rattle.lookup.specs.Find.{firstFrom, lastBelow, rowIs, findName, instanceIs, findInstance}
 use Rattle.lookup.proofs.Found.{first-at, first-none, last-at, last-none, name-found, instance-found, row-name, name-row, instance-means}
 use Rattle.lookup.specs.LookedUp.{lookIf, instanceIn, lookedUp, rowsAdded, newCore, newName, newInstance as newRow}
-use Rattle.decide.proofs.Plans.{own-number}
 use Rattle.store.specs.Store.{rowOr, coreRow, targetRow}
 use Rattle.judge.specs.Feed.{Tables}
 use Rattle.promises.specs.Places.{place, seek, rowOf}

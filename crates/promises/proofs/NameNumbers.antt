@@ -1,5 +1,5 @@
--- The number of a name in its row after a line that is taken: the last one that the longer history gives it, or none. A core has none, and the entry is free
--- for that of the instance that holds it.
+-- The numbers of a name in its row after a line that is taken: the last and the first one that the longer history gives it, or none. A core has none, and the
+-- entry of the last is free for that of the instance that holds it.
 use mathlib.Core.Path.{_≡_, refl, sym, ap, _∙_}
 use mathlib.Core.Bool.{Bool, true, false, _&&_, cond}
 use mathlib.Core.Option.{Option, some}
@@ -7,33 +7,37 @@ use mathlib.Core.List.{List, _∷_}
 use Prim.Native.Nat.{ℕ, _≤_}
 use native.Mathlib.Omega.{arith}
 use lib.Dec.{eqb}
+use borrow.Author.Tests.{eq-eqb}
 use Rattle.text.specs.Bytes.{sameBytes}
 use Rattle.text.proofs.Bools.{is-false}
 use Rattle.rules.specs.Lists.{any}
 use Rattle.rules.specs.Words.{core, semaphore}
 use Rattle.rules.specs.Event.{Event, Instance, instanceOf}
 use Rattle.rules.specs.Core.{idle, held, becomes, gives, onCore, on, coreAt}
-use Rattle.rules.specs.History.{isTracked, names, activates}
+use Rattle.rules.specs.History.{isTracked, names, activates, numbers, firstNumber}
 use Rattle.rules.specs.Verdict.{Accepted}
-use Rattle.rules.proofs.Tests.{both}
+use Rattle.rules.proofs.Tests.{both, clash}
 use Rattle.rules.proofs.Changes.{core-other}
 use Rattle.rules.proofs.Answers.{Passed}
-use Rattle.rules.proofs.Tracked.{two-names, kind-stays, named-kind}
-use Rattle.tables.specs.Entry.{kindAt, numberAt, numberedAt}
-use Rattle.decide.proofs.Plans.{own-number, on-instances}
+use Rattle.rules.proofs.Tracked.{two-names, kind-stays, named-kind, kind-named}
+use Rattle.rules.proofs.Seen.{own-number}
+use Rattle.rules.proofs.Activations.{activates-instances}
+use Rattle.tables.specs.Entry.{kindAt, numberAt, numberedAt, firstNumberAt}
+use Rattle.decide.proofs.Plans.{on-instances}
 use Rattle.store.specs.Store.{takenTables}
 use Rattle.judge.specs.Feed.{Tables}
 use Rattle.promises.specs.Places.{rowOf}
 use Rattle.promises.specs.Shown.{numberOf, Shown}
 use Rattle.promises.specs.Taken.{lookedUpIn}
-use Rattle.promises.proofs.KindTests.{instances-tracked, tracked-range, semaphore-tracked, activates-instances}
+use Rattle.promises.proofs.Choices.{where-true, implied-first}
+use Rattle.promises.proofs.KindTests.{instances-tracked, tracked-range, semaphore-tracked}
 use Rattle.promises.proofs.Origins.{name-from}
 use Rattle.promises.proofs.Grown.{row-stays}
 use Rattle.promises.proofs.CoreNames.{becomes-own, held-core}
-use Rattle.promises.proofs.Untold.{core-unnumbered}
-use Rattle.promises.proofs.Rows.{orOld, number-at, numbered-at, orGiven}
+use Rattle.promises.proofs.Untold.{core-unnumbered, no-first-number}
+use Rattle.promises.proofs.Rows.{orOld, number-at, numbered-at, first-at, orGiven}
 use Rattle.promises.proofs.Ages.{old-same, Age, age, shownNumber, given-shown, unnumbered-any, none-shown, one-at-most}
-use Rattle.promises.proofs.Ages.{none-told, number-grows}
+use Rattle.promises.proofs.Ages.{none-told, number-grows, first-given}
 use Rattle.promises.proofs.Ages.Age.{old, new}
 use Rattle.promises.proofs.NameKinds.{kind-next, kind-old, target-kinded, source-kinded}
 
@@ -112,6 +116,46 @@ module _ (h : List Event) (t : Tables) (s : Shown h t) (e : Event) (f : Passed h
       by-age : Age h e n → orOld h e n 0 0 (numberedAt (t .nums) row) ≤ 1
       by-age (old p) = rw (old-same h e n p 0 0 (numberedAt (t .nums) row), row-stays h e (f .kinds) n p) (s .each-name n p .numbered)
       by-age (new p z) = rw (z (numberedAt (t .nums) row)) (omega arith)
+
+  -- ---- the first number
+
+  pub first-next : eqb (kindAt (after .nums) row) semaphore ≡ false →
+      shownNumber (numberedAt (after .nums) row) (firstNumberAt (after .nums) row) ≡ firstNumber (kindAt (after .nums) row) n (e ∷ h)
+  unfolding firstNumber numbers
+  first-next k =
+      rw (numbered-at h t s e f state n q, first-at h t s e f state n q, no-count)
+      (first-given (activates (e .kind) (e .word) && sameBytes n (e .target)) was _ (e .targetInstance)
+      ∙ rw (by-age (age h e n (two-names h e (f .kinds)) (name-from h e n q)), own-kind))
+    where
+      was : ℕ
+      was = orOld h e n 0 0 (numberedAt (t .nums) row)
+
+      -- the line gives no count to a name that is not a semaphore's
+      no-count : eqb (e .kind) semaphore && sameBytes n (e .target) ≡ false
+      no-count =
+          is-false _ (λ y.
+          let p = both (eqb (e .kind) semaphore) (sameBytes n (e .target)) y in
+          let z = target-kinded h t s e f state n q (semaphore-tracked (e .kind) (p .0)) (p .1) in
+          clash _ (ap (λ (j : ℕ). eqb j semaphore) z ∙ p .0) k)
+
+      -- and a number to one of its own kind
+      own-kind : activates (e .kind) (e .word) && (eqb (kindAt (after .nums) row) (e .kind) && sameBytes n (e .target))
+          ≡ activates (e .kind) (e .word) && sameBytes n (e .target)
+      own-kind =
+          where-true (activates (e .kind) (e .word)) _ _ (λ a.
+          implied-first _ (sameBytes n (e .target)) (λ x.
+          eq-eqb _ (e .kind) (target-kinded h t s e f state n q (instances-tracked (e .kind) (activates-instances (e .kind) (e .word) a)) x)))
+
+      by-age : Age h e n → shownNumber was (orOld h e n 0 0 (firstNumberAt (t .nums) row)) ≡ firstNumber (kindAt (after .nums) row) n h
+      by-age (old p) =
+          rw (
+            kind-old h t s e f state n q p,
+            old-same h e n p 0 0 (numberedAt (t .nums) row),
+            old-same h e n p 0 0 (firstNumberAt (t .nums) row),
+            row-stays h e (f .kinds) n p,
+          )
+          (s .each-name n p .first-number (rw (kind-old h t s e f state n q p) at k))
+      by-age (new p z) = rw (z (numberedAt (t .nums) row)) (sym (no-first-number (kindAt (after .nums) row) n h (kind-named h n p)))
 
   -- ---- the number of the instance that holds a core
 

@@ -30,7 +30,7 @@ use Rattle.promises.proofs.NameEntries.{name-kept, name-of-core, name-o
 use Rattle.promises.proofs.Rows.{row-bound, at-new-core, at-new-target}
 use Rattle.promises.proofs.Ages.{not-new}
 use Rattle.promises.proofs.NameKinds.{kind-next}
-use Rattle.promises.proofs.NameNumbers.{number-next, numbered-next, holder-next}
+use Rattle.promises.proofs.NameNumbers.{number-next, numbered-next, first-next, holder-next}
 use Rattle.promises.proofs.Standings.{standing-next}
 
 module _ (h : List Event) (a : Accepted h) (m : AllMet h) (t : Tables) (s : Shown h t) (e : Event) (f : Passed h e) (o : Met e) (state : ℕ)
@@ -88,4 +88,5 @@ module _ (h : List Event) (a : Accepted h) (m : AllMet h) (t : Tables) (s : Show
           holder = holder-next h t s e f state n q a;
           numbered = numbered-next h t s e f state n q;
           number = number-next h t s e f state n q;
+          first-number = first-next h t s e f state n q;
         }

@@ -1,18 +1,19 @@
 -- One store to a row of nums, of a name or of an instance: the row has its values, and every other entry is as it was. And a store that is made or not.
-use mathlib.Core.Path.{_≡_, refl, sym, _∙_}
-use mathlib.Core.Bool.{Bool, true, false, _&&_, cond, and-true}
+use mathlib.Core.Path.{_≡_, refl, sym, ap, _∙_}
+use mathlib.Core.Bool.{Bool, true, false, _&&_, cond, and-true, and-false}
 use mathlib.Core.List.{List}
-use Prim.Native.Nat.{ℕ, _+_, _%_, _^_, _<_}
+use Prim.Native.Nat.{ℕ, _+_, _%_, _^_, _≤_, _<_}
 use native.Mathlib.Omega.{arith}
 use lib.Dec.{eqb, ltb}
 use lib.ListN.{length, getD, length-set}
-use borrow.Author.Tests.{ne-eqb, lt-ltb, ltb-true, ltb-false}
+use borrow.Author.Tests.{eqb-true, ne-eqb, lt-ltb, ltb-true, ltb-false}
 use Rattle.rules.proofs.Tests.{both}
 use Rattle.tables.specs.Entry.{heldBy, nameRows, instanceRows, numsSize}
-use Rattle.tables.specs.Entry.{kindColumn, lengthColumn, standingColumn, numberColumn, numberedColumn, ownerColumn, instanceColumn, stateColumn}
-use Rattle.tables.specs.Entry.{kindAt, lengthAt, standingAt, numberAt, numberedAt, ownerAt, instanceAt, stateAt}
-use Rattle.tables.proofs.Stores.{cell, Outside, beside}
-use Rattle.store.specs.Store.{storeRow, storeInstance, storeStanding, storeHolder, storeNumber}
+use Rattle.tables.specs.Entry.{kindColumn, lengthColumn, standingColumn, numberColumn, numberedColumn, firstNumberColumn, ownerColumn, instanceColumn, stateColumn}
+use Rattle.tables.specs.Entry.{kindAt, lengthAt, standingAt, numberAt, numberedAt, firstNumberAt, ownerAt, instanceAt, stateAt, storeAt}
+use Rattle.tables.proofs.Stores.{cell, Outside, outside, beside}
+use Rattle.store.specs.Store.{storeRow, storeInstance, storeStanding, storeHolder, storeNumber, storeActivation}
+use Rattle.store.proofs.Stores.{length-first}
 
 -- ---- a store that is made or not
 
@@ -65,6 +66,10 @@ module _ (nums : List ℕ) (z : length nums ≡ numsSize) (i r : ℕ) (h : r < n
   unfolding storeRow
   row-numbered kind n = row-if nameRows i (ltb i nameRows) refl _ nums (numberedColumn .base) r 0 h (λ k. simp (cell numsSize nameRows, length-set, z))
 
+  pub row-first : (kind n : ℕ) → firstNumberAt (storeRow nums i kind n) r ≡ cond (eqb r i) 0 (firstNumberAt nums r)
+  unfolding storeRow
+  row-first kind n = row-if nameRows i (ltb i nameRows) refl _ nums (firstNumberColumn .base) r 0 h (λ k. simp (cell numsSize nameRows, length-set, z))
+
   pub standing-standing : (v : ℕ) → standingAt (storeStanding nums i v) r ≡ cond (eqb r i) v (standingAt nums r)
   unfolding storeStanding
   standing-standing v = row-if nameRows i (ltb i nameRows) refl _ nums (standingColumn .base) r v h (λ k. simp (cell numsSize nameRows, z))
@@ -92,9 +97,9 @@ module _ (nums : List ℕ) (z : length nums ≡ numsSize) (i p n r : ℕ) (o : p
       (λ k. simp (cell numsSize nameRows, length-set, z))
 
 module _ (nums : List ℕ) (i j : ℕ) where
-  pub row-beside : (kind n : ℕ) → Outside kindColumn numberedColumn j → getD (storeRow nums i kind n) j 0 ≡ getD nums j 0
+  pub row-beside : (kind n : ℕ) → Outside kindColumn firstNumberColumn j → getD (storeRow nums i kind n) j 0 ≡ getD nums j 0
   unfolding storeRow
-  row-beside kind n out = kept-if (ltb i nameRows) _ nums j (λ t. let h = ltb-true i nameRows t in simp (beside kindColumn numberedColumn nameRows))
+  row-beside kind n out = kept-if (ltb i nameRows) _ nums j (λ t. let h = ltb-true i nameRows t in simp (beside kindColumn firstNumberColumn nameRows))
 
   pub standing-beside : (v : ℕ) → Outside standingColumn standingColumn j → getD (storeStanding nums i v) j 0 ≡ getD nums j 0
   unfolding storeStanding
@@ -115,6 +120,44 @@ module _ (nums : List ℕ) (i j : ℕ) where
   instance-beside owner number state out =
       kept-if (ltb i instanceRows && ltb owner nameRows) _ nums j
       (λ t. let h = ltb-true i instanceRows (both (ltb i instanceRows) _ t .0) in simp (beside ownerColumn stateColumn instanceRows))
+
+-- ---- the number of an activation or start
+
+pub activation-beside : (nums : List ℕ) (i j v : ℕ) → Outside numberColumn firstNumberColumn j → getD (storeActivation nums i v) j 0 ≡ getD nums j 0
+unfolding storeActivation
+activation-beside nums i j v out =
+    kept-if (ltb i nameRows) _ nums j (λ t.
+    let h = ltb-true i nameRows t in
+    number-beside (cond (eqb (numberedAt nums i) 0) (storeAt firstNumberColumn nums i v) nums) i j v (λ l u. out (omega arith) (omega arith))
+    ∙ kept-if (eqb (numberedAt nums i) 0) _ nums j (λ e. outside firstNumberColumn nums i v h j (λ l u. out (omega arith) (omega arith))))
+
+-- what a store of a number leaves in the column from d on
+abbrev pub Counts : (List ℕ → ℕ → ℕ → List ℕ) → ℕ → (ℕ → ℕ) → Type 0
+Counts store d value = (l : List ℕ) → length l ≡ numsSize → (i r : ℕ) → r < nameRows → (c : ℕ) →
+    getD (store l i c) (d + r) 0 ≡ cond (eqb r i) (value c) (getD l (d + r) 0)
+
+-- it stores the last number and that there is one, as any number's store does
+pub activation-counts : (d : ℕ) (value : ℕ → ℕ) → d ≤ numberedColumn .base → Counts storeNumber d value → Counts storeActivation d value
+unfolding storeActivation
+activation-counts d value hi f l z i r h c =
+    row-if nameRows i (ltb i nameRows) refl _ l d r (value c) h (λ k.
+    f (cond (eqb (numberedAt l i) 0) (storeAt firstNumberColumn l i c) l) (length-first l i c ∙ z) i r h c
+    ∙ ap (cond (eqb r i) (value c)) (kept-if (eqb (numberedAt l i) 0) _ l (d + r) (λ e. outside firstNumberColumn l i c k (d + r) (λ l u. omega arith))))
+
+-- and the first, where there was none
+pub activation-first : (l : List ℕ) → length l ≡ numsSize → (i r : ℕ) → r < nameRows → (c : ℕ) →
+    firstNumberAt (storeActivation l i c) r ≡ cond (eqb r i) (cond (eqb (numberedAt l r) 0) c (firstNumberAt l r)) (firstNumberAt l r)
+unfolding storeActivation
+activation-first l z i r h c =
+    row-if nameRows i (ltb i nameRows) refl _ l (firstNumberColumn .base) r _ h (λ k.
+    number-beside (cond (eqb (numberedAt l i) 0) (storeAt firstNumberColumn l i c) l) i (firstNumberColumn .base + r) c (λ l u. omega arith)
+    ∙ made (eqb (numberedAt l i) 0) (eqb r i) (storeAt firstNumberColumn l i c) l (firstNumberColumn .base + r) c (λ e. simp (cell numsSize nameRows, z))
+    ∙ by-row (eqb r i) refl)
+  where
+    by-row : (b : Bool) → eqb r i ≡ b →
+        cond (eqb (numberedAt l i) 0 && b) c (firstNumberAt l r) ≡ cond b (cond (eqb (numberedAt l r) 0) c (firstNumberAt l r)) (firstNumberAt l r)
+    by-row true q = rw (eqb-true r i q, and-true (eqb (numberedAt l i) 0))
+    by-row false q = rw (and-false (eqb (numberedAt l i) 0))
 
 -- ---- the stores to a row of an instance
 

@@ -18,8 +18,9 @@ use Rattle.rules.specs.Lawful.{Fits}
 use Rattle.rules.proofs.Tests.{both, clash}
 use Rattle.rules.proofs.Answers.{Passed, room-fits}
 use Rattle.rules.proofs.CoreWords.{gives-only}
+use Rattle.rules.proofs.Activations.{activates-instances}
 use Rattle.steps.proofs.CoreClasses.{class-on}
-use Rattle.tables.specs.Entry.{idleCore, heldBy, nameRows, kindAt, standingAt, numberAt, numberedAt}
+use Rattle.tables.specs.Entry.{idleCore, heldBy, nameRows, kindAt, standingAt, numberAt, numberedAt, firstNumberAt}
 use Rattle.store.specs.Store.{coreRow, targetRow, takenNums}
 use Rattle.judge.specs.Feed.{Tables}
 use Rattle.promises.specs.Places.{rowOf}
@@ -27,12 +28,12 @@ use Rattle.promises.specs.Shown.{Shown}
 use Rattle.promises.specs.Taken.{lookedUpIn}
 use Rattle.promises.proofs.Choices.{where-true, first-choice}
 use Rattle.promises.proofs.Places.{place-bound, one-row}
-use Rattle.promises.proofs.KindTests.{core-tracked, instances-tracked, semaphore-tracked, activates-instances}
+use Rattle.promises.proofs.KindTests.{core-tracked, instances-tracked, semaphore-tracked}
 use Rattle.promises.proofs.Origins.{newSource, newTarget, source-named, target-named}
 use Rattle.promises.proofs.Grown.{source-row-new}
 use Rattle.promises.proofs.Lookups.{new-core, new-name, core-row, target-row}
 use Rattle.promises.proofs.Columns.{isNewCore, isNewTarget}
-use Rattle.promises.proofs.Entries.{orNone, kind-taken, standing-taken, number-taken, numbered-taken}
+use Rattle.promises.proofs.Entries.{orNone, kind-taken, standing-taken, number-taken, numbered-taken, first-taken}
 
 -- ---- the lists of the longer history fit
 
@@ -153,6 +154,18 @@ module _ (h : List Event) (t : Tables) (s : Shown h t) (e : Event) (f : Passed h
         number-taken (t .nums) (s .sized .nums-size) (lookedUpIn h t e) state e (holder-bound h t s e f) row bound
         ∙ rw (at-core h t s e f n q, given-or-old (e .count) (e .targetInstance) (numberAt (t .nums) row))
         (first-choice (on n e) _ _ _ (λ o. rw (class-gives e (both (onCore e) _ o .0))))
+
+    pub first-at :
+        let old = orOld h e n 0 0 (firstNumberAt (t .nums) row) in
+        firstNumberAt next row
+        ≡ cond (activates (e .kind) (e .word) && sameBytes n (e .target)) (cond (eqb (orOld h e n 0 0 (numberedAt (t .nums) row)) 0) (e .targetInstance) old) old
+    first-at =
+        first-taken (t .nums) (s .sized .nums-size) (lookedUpIn h t e) state e row bound
+        ∙ rw (
+          at-target h t s e f n q (activates (e .kind) (e .word)) (λ a. instances-tracked (e .kind) (activates-instances (e .kind) (e .word) a)),
+          new-or-old 0 0 (numberedAt (t .nums) row),
+          new-or-old 0 0 (firstNumberAt (t .nums) row),
+        )
 
     pub numbered-at : numberedAt next row ≡ orGiven e n 1 1 (orOld h e n 0 0 (numberedAt (t .nums) row))
     numbered-at =

@@ -15,7 +15,7 @@ use Rattle.rules.specs.Words.{core}
 use Rattle.rules.specs.Event.{Event}
 use Rattle.rules.specs.Core.{onCore, coreClass, on, no-core, gives-core}
 use Rattle.rules.specs.History.{isTracked, names, kindOf}
-use Rattle.rules.specs.Refusals.{eventTests, answerTo}
+use Rattle.rules.specs.Refusals.{notAllowed, eventTests, answerTo}
 use Rattle.rules.specs.Verdict.{Accepted}
 use Rattle.rules.proofs.Tests.{both, and-true, clash}
 use Rattle.rules.proofs.Answers.{Passed}
@@ -55,8 +55,8 @@ giving-on-core e q = sym (class-on e) ∙ rw (eqb-true (coreClass (e .kind) (e .
 
 -- an event that breaks no rule is answered 0
 pub accepted-next : (h : List Event) → Accepted h → (e : Event) → Passed h e → Accepted (e ∷ h)
-unfolding answerTo eventTests
-accepted-next h a e f = (rw (f .time, f .kinds, f .room, f .chart, f .number, f .core, f .count), a)
+unfolding answerTo eventTests notAllowed
+accepted-next h a e f = (rw (f .time, f .kinds, f .room, f .chart, f .activated, f .number, f .core, f .count), a)
 
 module _ (h : List Event) (t : Tables) (s : Shown h t) (e : Event) (f : Passed h e) where
   pub last-next : lastTime (ticksAfter h t e) ≡ e .time

@@ -1,4 +1,4 @@
--- What the tables that show a history say of a name or an instance that they are asked for: its kind, its state, its last number or count. Where
+-- What the tables that show a history say of a name or an instance that they are asked for: its kind, its state, its last number or count, its first number. Where
 -- there is no row of it, the history tells nothing of it either.
 use mathlib.Core.Path.{_≡_, refl, sym, ap, _∙_}
 use mathlib.Core.Bool.{Bool, true, false, not, cond}
@@ -14,7 +14,7 @@ use Rattle.rules.specs.Lists.{any}
 use Rattle.rules.specs.Words.{core, semaphore}
 use Rattle.rules.specs.Event.{Event, Instance, stateOf}
 use Rattle.rules.specs.Core.{held, coreAt}
-use Rattle.rules.specs.History.{hasInstances, names, kindOf, lastNumber, lastCount}
+use Rattle.rules.specs.History.{hasInstances, names, kindOf, lastNumber, firstNumber, lastCount}
 use Rattle.rules.specs.Verdict.{Accepted}
 use Rattle.rules.proofs.Answers.{all-fit}
 use Rattle.rules.proofs.CoreRuns.{unseen-none}
@@ -22,7 +22,7 @@ use Rattle.rules.proofs.Seen.{Worded, first-seen}
 use Rattle.rules.proofs.Tests.{clash}
 use Rattle.rules.proofs.Tracked.{kind-named, named-kind}
 use Rattle.steps.specs.Rows.{opened}
-use Rattle.tables.specs.Entry.{Column, column, entryAt, nameRows, instanceRows, kindColumn, standingColumn, numberColumn, numberedColumn, stateColumn, kindAt}
+use Rattle.tables.specs.Entry.{Column, column, entryAt, nameRows, instanceRows, kindColumn, standingColumn, numberColumn, numberedColumn, firstNumberColumn, stateColumn, kindAt}
 use Rattle.lookup.specs.declared.find.Found.{Found}
 use Rattle.lookup.specs.declared.find.Found.the-variants.{At, Nothing}
 use Rattle.decide.specs.Known.{entryOf, kindIn, standingIn, numberIn, numberKnown}
@@ -34,7 +34,7 @@ use Rattle.promises.proofs.Places.{place-bound}
 use Rattle.promises.proofs.KindTests.{semaphore-tracked}
 use Rattle.promises.proofs.Listed.{AllMet, name-kind}
 use Rattle.promises.proofs.CoreNames.{core-unknown, held-core}
-use Rattle.promises.proofs.Untold.{no-number, no-count, no-state}
+use Rattle.promises.proofs.Untold.{no-number, no-first-number, no-count, no-state}
 
 -- ---- an entry of the row that was found
 
@@ -106,16 +106,27 @@ module _ (h : List Event) (a : Accepted h) (t : Tables) (s : Shown h t) where
         by-test true q = ap opened (in-row (standingColumn .base) q) ∙ s .each-name n q .standing .of-semaphore (eq-eqb _ semaphore (kind-there semaphore d q))
         by-test false q = ap opened (in-none standingColumn q) ∙ sym (no-state (theSemaphore n) (semaphore-tracked semaphore refl) h (kind-named h n q))
 
-    pub number-told : (k : ℕ) → Only (kindOf n h) k → numberKnown (t .nums) (seek (sameBytes n) (names h)) ≡ numberOf h n k
+    pub number-told : (k : ℕ) → Only (kindOf n h) k → numberKnown numberColumn (t .nums) (seek (sameBytes n) (names h)) ≡ numberOf h n k
     number-told k d = by-test (any (sameBytes n) (names h)) refl
       where
         no-entry : kindOf n h ≡ none → (b : Bool) → cond b (lastCount n h) (lastNumber k n h) ≡ none
         no-entry q true = no-count n h q
         no-entry q false = no-number k n h q
 
-        by-test : (b : Bool) → any (sameBytes n) (names h) ≡ b → numberKnown (t .nums) (seek (sameBytes n) (names h)) ≡ numberOf h n k
+        by-test : (b : Bool) → any (sameBytes n) (names h) ≡ b → numberKnown numberColumn (t .nums) (seek (sameBytes n) (names h)) ≡ numberOf h n k
         by-test true q = rw (in-row (numberedColumn .base) q, in-row (numberColumn .base) q) (s .each-name n q .number ∙ ap (numberOf h n) (kind-there k d q))
         by-test false q = rw (in-none numberedColumn q) (sym (no-entry (kind-named h n q) (eqb k semaphore)))
+
+    pub first-told : (k : ℕ) → Only (kindOf n h) k → eqb k semaphore ≡ false →
+        numberKnown firstNumberColumn (t .nums) (seek (sameBytes n) (names h)) ≡ firstNumber k n h
+    first-told k d z = by-test (any (sameBytes n) (names h)) refl
+      where
+        by-test : (b : Bool) → any (sameBytes n) (names h) ≡ b → numberKnown firstNumberColumn (t .nums) (seek (sameBytes n) (names h)) ≡ firstNumber k n h
+        by-test true q =
+            let c = kind-there k d q in
+            rw (in-row (numberedColumn .base) q, in-row (firstNumberColumn .base) q)
+            (s .each-name n q .first-number (ap (λ (j : ℕ). eqb j semaphore) c ∙ z) ∙ ap (λ (j : ℕ). firstNumber j n h) c)
+        by-test false q = rw (in-none numberedColumn q) (sym (no-first-number k n h (kind-named h n q)))
 
   -- ---- instances
 

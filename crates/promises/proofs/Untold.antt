@@ -14,10 +14,11 @@ use Rattle.rules.specs.Lists.{when, orElse, latest}
 use Rattle.rules.specs.Words.{core, semaphore}
 use Rattle.rules.specs.Event.{Event, Instance, sameInstance, instanceOf, stateOf}
 use Rattle.rules.specs.Core.{on}
-use Rattle.rules.specs.History.{isTracked, kindIn, kindOf, activates, lastNumber, lastCount}
+use Rattle.rules.specs.History.{isTracked, kindIn, kindOf, activates, numbers, lastNumber, firstNumber, lastCount}
 use Rattle.rules.proofs.Tests.{both, and-true, clash, instance-true}
 use Rattle.rules.proofs.Changes.{state-other}
-use Rattle.promises.proofs.KindTests.{instances-range, instances-tracked, semaphore-tracked, activates-instances}
+use Rattle.rules.proofs.Activations.{activates-instances, none-earlier}
+use Rattle.promises.proofs.KindTests.{instances-range, instances-tracked, semaphore-tracked}
 
 -- ---- nothing was told
 
@@ -51,22 +52,25 @@ unless true b x f q = absurd (clash b (f refl) q)
 unless false b x f q = refl
 
 pub no-number : (k : ℕ) (n : List ℕ) (h : List Event) → kindOf n h ≡ none → lastNumber k n h ≡ none
-unfolding lastNumber
-no-number k n =
-    untold n _ (λ e. unless (activates (e .kind) (e .word) && (eqb k (e .kind) && sameBytes n (e .target))) (of n e) (e .targetInstance) (own e))
+unfolding lastNumber numbers
+no-number k n = untold n _ (λ e. unless (numbers k n e) (of n e) (e .targetInstance) (own e))
   where
-    own : (e : Event) → implied (activates (e .kind) (e .word) && (eqb k (e .kind) && sameBytes n (e .target))) (of n e)
+    own : (e : Event) → implied (numbers k n e) (of n e)
     own e q =
         let p = both (activates (e .kind) (e .word)) (eqb k (e .kind) && sameBytes n (e .target)) q in
         and-true _ _ (instances-tracked (e .kind) (activates-instances (e .kind) (e .word) (p .0))) (both (eqb k (e .kind)) (sameBytes n (e .target)) (p .1) .1)
 
+pub no-first-number : (k : ℕ) (n : List ℕ) (h : List Event) → kindOf n h ≡ none → firstNumber k n h ≡ none
+unfolding lastNumber firstNumber
+no-first-number k n h q = none-earlier (λ e. when (numbers k n e) (e .targetInstance)) h (no-number k n h q)
+
 -- a core is given none
 pub core-unnumbered : (n : List ℕ) (h : List Event) → lastNumber core n h ≡ none
-unfolding lastNumber
+unfolding lastNumber numbers
 core-unnumbered n [] = refl
 core-unnumbered n (e ∷ h) = rw (never e) (core-unnumbered n h)
   where
-    never : (d : Event) → activates (d .kind) (d .word) && (eqb core (d .kind) && sameBytes n (d .target)) ≡ false
+    never : (d : Event) → numbers core n d ≡ false
     never d =
         is-false _ (λ q.
         let p = both (activates (d .kind) (d .word)) (eqb core (d .kind) && sameBytes n (d .target)) q in

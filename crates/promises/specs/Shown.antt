@@ -11,14 +11,14 @@ use Rattle.rules.specs.Words.{core, semaphore}
 use Rattle.rules.specs.Lists.{any, sumOver}
 use Rattle.rules.specs.Event.{Event, Instance, sameInstance, stateOf}
 use Rattle.rules.specs.Core.{Core, unknown, idle, held, coreAt}
-use Rattle.rules.specs.History.{names, cores, instances, kindOf, lastNumber, lastCount}
+use Rattle.rules.specs.History.{names, cores, instances, kindOf, lastNumber, firstNumber, lastCount}
 use Rattle.rules.specs.Sheet.{firstTime as firstEventTime, isHeld, isIdle, isHeldBy, heldTicks, idleTicks, unknownTicks, charge}
 use Rattle.rules.specs.Lines.{eventsOf}
 use Rattle.rules.specs.Trace.{placeOf}
 use Rattle.steps.specs.Rows.{opened}
 use Rattle.tables.specs.Sized.{Sized}
 use Rattle.tables.specs.Entry.{idleCore, heldBy, creatorEntry, dateEntry, startedEntry, nameCount, coreCount, instanceCount}
-use Rattle.tables.specs.Entry.{kindAt, lengthAt, standingAt, numberAt, numberedAt, ownerAt, instanceAt}
+use Rattle.tables.specs.Entry.{kindAt, lengthAt, standingAt, numberAt, numberedAt, firstNumberAt, ownerAt, instanceAt}
 use Rattle.tables.specs.Entry.{stateAt, firstTime, lastTime, heldAt, idleAt, unknownAt, sinceAt, nameAt}
 use Rattle.judge.specs.Feed.{Tables, placeIn}
 use Rattle.promises.specs.Places.{rowOf}
@@ -75,6 +75,9 @@ pub record NameShown (h : List Event) (names nums : List ℕ) (i : ℕ) (n : Lis
   pub holder : (x : Instance) → coreAt n h ≡ held x → numberAt nums i ≡ x .number
   pub numbered : numberedAt nums i ≤ 1
   pub number : cond (eqb (numberedAt nums i) 0) none (some (numberAt nums i)) ≡ numberOf h n (kindAt nums i)
+  -- and of the first activation or start; a semaphore has none
+  pub first-number : eqb (kindAt nums i) semaphore ≡ false →
+      cond (eqb (numberedAt nums i) 0) none (some (firstNumberAt nums i)) ≡ firstNumber (kindAt nums i) n h
 
 -- ---- the row j of the instance x
 

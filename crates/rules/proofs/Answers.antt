@@ -13,7 +13,7 @@ use Rattle.line.specs.Answer.{holds, IsLowest}
 use Rattle.line.proofs.Lowest.{lowest-exactly, lowest-none}
 use Rattle.rules.specs.Event.{Event}
 use Rattle.rules.specs.History.{names, cores, instances}
-use Rattle.rules.specs.Refusals.{Known, look, timeFalls, secondKind, noRoom, offChart, notNext, coreBroken, countBroken, eventTests, answerTo}
+use Rattle.rules.specs.Refusals.{Known, look, timeFalls, secondKind, noRoom, offChart, neverActivated, notAllowed, notNext, coreBroken, countBroken, eventTests, answerTo}
 use Rattle.rules.specs.Verdict.{answer, Accepted, Never}
 use Rattle.rules.specs.Lawful.{Fits}
 use Rattle.rules.proofs.Tests.{neither}
@@ -53,15 +53,36 @@ pub record Passed (h : List Event) (e : Event) : Type 0 where
   pub kinds : secondKind (look h e) e ≡ false
   pub room : noRoom (look h e) e ≡ false
   pub chart : offChart (look h e) e ≡ false
+  pub activated : neverActivated (look h e) e ≡ false
   pub number : notNext (look h e) e ≡ false
   pub core : coreBroken (look h e) e ≡ false
   pub count : countBroken (look h e) e ≡ false
 
 pub passed : (h : List Event) (e : Event) → answer h e ≡ 0 → Passed h e
-unfolding eventTests
+unfolding eventTests notAllowed
 passed h e a =
     let f = answer-zero (look h e) e .0 a in
-    record { time = f 8; kinds = f 9; room = f 10; chart = f 11; number = f 12; core = f 13; count = f 14 }
+    let c = neither (offChart (look h e) e) (neverActivated (look h e) e) (f 11) in
+    record { time = f 8; kinds = f 9; room = f 10; chart = c .0; activated = c .1; number = f 12; core = f 13; count = f 14 }
+
+-- ---- a rule of two halves: it is never broken exactly if neither half is
+
+pub never-halves : (b f g : Known → Event → Bool) → ((k : Known) (e : Event) → (b k e ≡ false) ↔ ((f k e ≡ false) × (g k e ≡ false))) →
+    (h : List Event) → Never b h ↔ (Never f h × Never g h)
+never-halves b f g s h = (apart h, λ n. together h (n .0) (n .1))
+  where
+    apart : (h : List Event) → Never b h → Never f h × Never g h
+    apart [] n = (tt, tt)
+    apart (e ∷ h) n = let p = s (look h e) e .0 (n .0) in let r = apart h (n .1) in ((p .0, r .0), (p .1, r .1))
+
+    together : (h : List Event) → Never f h → Never g h → Never b h
+    together [] n m = tt
+    together (e ∷ h) n m = (s (look h e) e .1 (n .0, m .0), together h (n .1) (m .1))
+
+-- 11 is off the chart, or never activated
+pub allowed-exactly : (h : List Event) → Never notAllowed h ↔ (Never offChart h × Never neverActivated h)
+unfolding notAllowed
+allowed-exactly = never-halves notAllowed offChart neverActivated (λ k e. (neither (offChart k e) (neverActivated k e), λ p. rw (p .0, p .1)))
 
 -- ---- time never falls
 

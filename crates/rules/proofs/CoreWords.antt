@@ -15,11 +15,11 @@ use Rattle.rules.proofs.Tests.{both}
 
 -- ---- a test that every element passes
 
-every : {A : Type 0} → (A → Bool) → List A → Bool
+unfoldable pub every : {A : Type 0} → (A → Bool) → List A → Bool
 every f [] = true
 every f (x ∷ xs) = f x && every f xs
 
-of-member : (f : ℕ → Bool) (a : ℕ) (xs : List ℕ) → every f xs ≡ true → member a xs ≡ true → f a ≡ true
+pub of-member : (f : ℕ → Bool) (a : ℕ) (xs : List ℕ) → every f xs ≡ true → member a xs ≡ true → f a ≡ true
 unfolding every
 of-member f a [] t m = cc
 of-member f a (x ∷ xs) t m =

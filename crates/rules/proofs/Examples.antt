@@ -1,5 +1,5 @@
 -- Document 01's examples that speak of events, and one on each side of its finer readings, as one statement over one list: the checker computes each
--- verdict and sheet from the definitions, and after hundreds of names by the laws of `ManyNames` too.
+-- verdict and sheet from the definitions, and after hundreds of names or instances by the laws of `ManyNames` and `ManyInstances` too.
 use mathlib.Core.Path.{_≡_}
 use mathlib.Core.Bool.{Bool, true, false, _&&_}
 use mathlib.Core.List.{List, [], _∷_}
@@ -11,17 +11,18 @@ use Rattle.text.specs.Literal.{bytes}
 use Rattle.text.specs.Bytes.{sameBytes}
 use Rattle.bill.specs.Rows.{Row, Sheet}
 use Rattle.rules.specs.Words.{task, interrupt, runnable, semaphore}
-use Rattle.rules.specs.Words.{activate, start, preempt, resume, wait, release, terminate, poll, run, park, poll-parking, release-parking, mtalimitexceeded, suspend}
+use Rattle.rules.specs.Words.{activate, start, preempt, resume, wait, release, terminate, poll, run, park, poll-parking, release-parking, mtalimitexceeded, interrupt-suspended, suspend}
 use Rattle.rules.specs.Words.{requestsemaphore, queued, assigned, waiting, released, increment, decrement, free, unlock, lock, lock-used, full, overfull, unlock-full, used}
 use Rattle.rules.specs.Charts.{chartOf, processChart, runnableChart, semaphoreChart, isProcess}
 use Rattle.rules.specs.Event.{Event}
 use Rattle.rules.specs.Core.{takes, gives, keeps, onCore}
-use Rattle.rules.specs.History.{hasInstances, isTracked, named, kindIn, activates, lastNumber, lastCount, names, instances}
-use Rattle.rules.specs.Refusals.{timeFalls, secondKind, sourceClash, targetClash, noRoom, offChart, notNext, coreBroken, countFollows, countAllowed, countBroken, eventTests, answerTo}
+use Rattle.rules.specs.History.{hasInstances, isTracked, named, kindIn, activates, numbers, lastNumber, firstNumber, isFrom, aboveAll, lastCount, names, instances}
+use Rattle.rules.specs.Refusals.{timeFalls, secondKind, sourceClash, targetClash, noRoom, offChart, neverActivated, notAllowed, notNext, coreBroken, countFollows, countAllowed, countBroken, eventTests, answerTo}
 use Rattle.rules.specs.First.{takenOf, firstRefusal}
 use Rattle.rules.specs.Verdict.{answer, taken, verdict}
 use Rattle.rules.specs.Sheet.{ticks, sheet}
 use Rattle.rules.proofs.ManyNames.{line, trigger, many, newName, newCore, name-after, trigger-after, core-after}
+use Rattle.rules.proofs.ManyInstances.{newInstance, resumed, resumed-after}
 
 -- of a semaphore: time, source, target, event, note
 abbrev pub sem : ℕ → List ℕ → List ℕ → ℕ → ℕ → Event
@@ -90,7 +91,7 @@ crane =
     ∷ sem 60 (bytes "Bus") (bytes "Bus") unlock 0
     ∷ []
 
--- one line after another of the same source: Core_1 and Core_2 with Task_A and Task_B, a stimulus with them, a semaphore
+-- one line after another of the same source: Core_1 and Core_2 with Task_A and Task_B, a stimulus with them, a runnable, an interrupt routine, a semaphore
 abbrev pub A : ℕ → ℕ → ℕ → Event
 A t j a = line task t (bytes "Core_1") 0 (bytes "Task_A") j a
 
@@ -102,6 +103,12 @@ A2 t j a = line task t (bytes "Core_2") 0 (bytes "Task_A") j a
 
 abbrev pub S : ℕ → ℕ → ℕ → Event
 S t j a = line task t (bytes "Stimulus") 0 (bytes "Task_A") j a
+
+abbrev pub R : ℕ → ℕ → Event
+R j a = line runnable 0 (bytes "P") 0 (bytes "r") j a
+
+abbrev pub I : ℕ → ℕ → Event
+I j a = line interrupt 0 (bytes "Core_1") 0 (bytes "Isr") j a
 
 abbrev pub Q : ℕ → ℕ → Event
 Q a n = sem 0 (bytes "P") (bytes "Sem1") a n
@@ -140,13 +147,27 @@ computed =
     ∷ answers (many newName 255) (line task 0 (bytes "Task_A") 0 (bytes "Task_A") 0 start) 9
     ∷ answers (many newCore 64) (line task 0 (bytes "Task_A") 0 (bytes "Task_B") 0 start) 9
     ∷ answers (many newCore 64) (line task 0 (bytes "Core_65") 0 (bytes "Task_A") 64 release) 0
-    -- 11: mtalimitexceeded is in the chart; terminated instances are kept; an instance starts in any state
+    -- 11: mtalimitexceeded is in the chart; terminated instances are kept; an instance starts in any state, also one below the first activation
     ∷ says (S 0 0 mtalimitexceeded ∷ A 0 0 start ∷ []) 11 2
     ∷ says (A 0 0 terminate ∷ A 0 0 preempt ∷ []) 11 2
-    ∷ says (S 0 3 activate ∷ A 0 4 resume ∷ []) 0 0
+    ∷ says (S 0 4 activate ∷ A 0 3 resume ∷ []) 0 0
     ∷ says (A 0 0 poll ∷ A 0 0 park ∷ A 0 0 poll-parking ∷ A 0 0 run ∷ A 0 0 wait ∷ S 0 0 release ∷ A 0 0 resume ∷ A 0 0 terminate ∷ []) 0 0
-    ∷ says (line runnable 0 (bytes "P") 0 (bytes "r") 0 start ∷ line runnable 0 (bytes "P") 0 (bytes "r") 0 suspend ∷ line runnable 0 (bytes "P") 0 (bytes "r") 0 terminate ∷ []) 11 3
+    ∷ says (R 0 start ∷ R 0 suspend ∷ R 0 terminate ∷ []) 11 3
     ∷ says (Q queued 1 ∷ Q full 1 ∷ Q unlock-full 1 ∷ Q used 1 ∷ Q used 1 ∷ Q full 1 ∷ []) 11 6
+    -- document 02, No. 5: "A trace activated instance 4 of a task and then resumed instance 9"; after mtalimitexceeded too, and whatever was activated since
+    ∷ says (S 0 4 activate ∷ A 0 9 resume ∷ []) 11 2
+    ∷ says (S 0 4 mtalimitexceeded ∷ A 0 5 preempt ∷ []) 11 2
+    ∷ says (S 0 3 activate ∷ S 0 4 activate ∷ A 0 5 start ∷ []) 11 3
+    -- 13 would apply too; where the instance was activated, start is taken
+    ∷ says (S 0 3 activate ∷ B 0 0 start ∷ A 0 4 resume ∷ []) 11 3
+    ∷ says (S 0 3 activate ∷ S 0 4 activate ∷ A 0 4 start ∷ []) 0 0
+    -- "Runnables the same, with start"; what is activated of one name binds no other
+    ∷ says (R 4 start ∷ R 5 resume ∷ []) 11 2
+    ∷ says (R 4 start ∷ R 3 resume ∷ []) 0 0
+    ∷ says (S 0 4 activate ∷ B 0 9 resume ∷ R 9 suspend ∷ []) 0 0
+    -- a process's start and interrupt_suspended do not activate: they set no first number, and are such events as it shuts out
+    ∷ says (A 0 3 start ∷ A2 0 4 start ∷ I 3 interrupt-suspended ∷ I 4 interrupt-suspended ∷ []) 0 0
+    ∷ says (I 3 activate ∷ I 4 interrupt-suspended ∷ []) 11 2
     -- overfull comes from FULL and from OVERFULL, first of all too, and from no other state; it leads to OVERFULL
     ∷ shows crane 60 [] []
     ∷ says (Q full 2 ∷ Q overfull 2 ∷ Q full 2 ∷ []) 0 0
@@ -159,7 +180,18 @@ computed =
     ∷ says (A 0 3 start ∷ S 0 9 activate ∷ S 0 10 mtalimitexceeded ∷ []) 0 0
     ∷ says (S 0 3 activate ∷ S 0 3 activate ∷ []) 11 2
     ∷ says (S 0 4294967295 activate ∷ S 0 0 activate ∷ []) 12 2
-    ∷ says (line runnable 0 (bytes "P") 0 (bytes "r") 0 start ∷ line runnable 0 (bytes "P") 0 (bytes "r") 2 start ∷ []) 12 2
+    ∷ says (R 0 start ∷ R 2 start ∷ []) 12 2
+    -- document 02, No. 5: "above all seen of that process, else 12"; one that was seen and lives is 11, and a later one is asked for the next number alone
+    ∷ says (A 0 9 resume ∷ S 0 4 activate ∷ []) 12 2
+    ∷ says (A 0 9 resume ∷ S 0 10 activate ∷ S 0 11 activate ∷ []) 0 0
+    ∷ says (A 0 9 terminate ∷ S 0 9 activate ∷ []) 12 2
+    ∷ says (A 0 9 terminate ∷ S 0 9 mtalimitexceeded ∷ []) 12 2
+    ∷ says (A 0 9 terminate ∷ A 0 2 resume ∷ S 0 3 mtalimitexceeded ∷ []) 12 3
+    ∷ says (A 0 9 resume ∷ S 0 9 activate ∷ []) 11 2
+    ∷ says (S 0 4 activate ∷ A 0 3 resume ∷ S 0 5 activate ∷ []) 0 0
+    ∷ says (R 9 terminate ∷ R 9 start ∷ []) 12 2
+    ∷ says (R 9 terminate ∷ R 10 start ∷ []) 0 0
+    ∷ says (B 0 9 preempt ∷ R 9 suspend ∷ S 0 4 activate ∷ []) 0 0
     -- 13: poll keeps the core held; a given core is idle; preempt of an instance seen for the first time serves an unknown core, and of one seen before not
     ∷ shows (A 0 0 poll ∷ trigger 5 ∷ []) 5 (row (bytes "Core_1") (5 ∷ 0 ∷ 0 ∷ []) ∷ []) (row (bytes "Task_A") (5 ∷ []) ∷ [])
     ∷ says (A 0 0 start ∷ A 1 0 poll ∷ B 2 0 start ∷ []) 13 3
@@ -186,10 +218,12 @@ computed =
     ∷ says (Q overfull 2 ∷ Q decrement 1 ∷ Q overfull 1 ∷ []) 14 3
     ∷ []
 
--- 10: "256 names taken, a 257th: 10"
+-- 10: "256 names taken, a 257th: 10"; and with 1,024 instances it comes before the 11 of an instance that was never activated
 abbrev pub examples : List Example
 examples =
-    answers (many newName 255) (newName 255) 0
+    answers (many newInstance 1023) (resumed 1023) 11
+    ∷ answers (many newInstance 1024) (resumed 1024) 10
+    ∷ answers (many newName 255) (newName 255) 0
     ∷ answers (many newName 256) (newName 256) 10
     ∷ answers (many newName 256) (trigger 0) 0
     ∷ answers (many newName 255) (newCore 0) 10
@@ -217,13 +251,17 @@ right [] = true
 right (x ∷ xs) = isRight x && right xs
 
 computed-right : T (right computed)
-unfolding right isRight sameVerdict sameSheet sameRows sameBytes firstRefusal takenOf sheet ticks answerTo eventTests timeFalls secondKind sourceClash targetClash noRoom offChart notNext coreBroken countBroken names instances chartOf processChart runnableChart semaphoreChart isProcess takes gives keeps onCore hasInstances isTracked named kindIn activates lastNumber lastCount countAllowed countFollows
+unfolding right isRight sameVerdict sameSheet sameRows sameBytes firstRefusal takenOf sheet ticks answerTo eventTests timeFalls secondKind sourceClash targetClash noRoom offChart neverActivated notAllowed notNext coreBroken countBroken names instances chartOf processChart runnableChart semaphoreChart isProcess takes gives keeps onCore hasInstances isTracked named kindIn activates numbers lastNumber firstNumber isFrom aboveAll lastCount countAllowed countFollows
 computed-right = tt
 
--- after many names the laws say whether there is room, and the rest is computed
+-- after many names or instances the laws say whether there is room, and the rest is computed
 by-law : (answer (many newName 255) (newName 255) ≡ 0) × (answer (many newName 256) (newName 256) ≡ 10) × (answer (many newName 256) (trigger 0) ≡ 0) × (answer (many newName 255) (newCore 0) ≡ 10)
-unfolding sameBytes timeFalls secondKind sourceClash targetClash offChart notNext coreBroken countBroken chartOf processChart runnableChart semaphoreChart isProcess takes gives keeps onCore hasInstances isTracked kindIn activates lastNumber lastCount countAllowed countFollows
+unfolding sameBytes timeFalls secondKind sourceClash targetClash offChart neverActivated notAllowed notNext coreBroken countBroken chartOf processChart runnableChart semaphoreChart isProcess takes gives keeps onCore hasInstances isTracked kindIn activates numbers lastNumber firstNumber isFrom aboveAll lastCount countAllowed countFollows
 by-law = (name-after 255 (omega arith), name-after 256 (omega arith), trigger-after 256 (omega arith), core-after 255 (omega arith))
+
+instances-by-law : (answer (many newInstance 1023) (resumed 1023) ≡ 11) × (answer (many newInstance 1024) (resumed 1024) ≡ 10)
+unfolding sameBytes timeFalls secondKind sourceClash targetClash offChart neverActivated notAllowed notNext coreBroken countBroken chartOf processChart runnableChart semaphoreChart isProcess takes gives keeps onCore hasInstances isTracked kindIn activates numbers lastNumber firstNumber isFrom aboveAll lastCount countAllowed countFollows
+instances-by-law = (resumed-after 1022, resumed-after 1023)
 
 answered : (h : List Event) (e : Event) (n : ℕ) (xs : List Example) → answer h e ≡ n → T (right xs) → T (right (answers h e n ∷ xs))
 unfolding right isRight
@@ -231,7 +269,9 @@ answered h e n xs q r = rw (eq-eqb _ _ q) r
 
 pub examples-right : T (right examples)
 examples-right =
-    answered _ _ _ _ (by-law .0)
+    answered _ _ _ _ (instances-by-law .0)
+    (answered _ _ _ _ (instances-by-law .1)
+    (answered _ _ _ _ (by-law .0)
     (answered _ _ _ _ (by-law .1)
     (answered _ _ _ _ (by-law .2)
-    (answered _ _ _ _ (by-law .3) computed-right)))
+    (answered _ _ _ _ (by-law .3) computed-right)))))

@@ -13,17 +13,18 @@ use Rattle.text.proofs.Words.{same-eq, same-refl}
 use Rattle.rules.specs.Lists.{only}
 use Rattle.rules.specs.Words.{semaphore}
 use Rattle.rules.specs.Event.{Event}
-use Rattle.rules.specs.History.{activates, lastNumber, lastCount}
-use Rattle.rules.specs.Refusals.{Known, look, timeFalls, secondKind, noRoom, offChart, isNext, notNext, coreBroken, countFollows, countAllowed, countBroken, eventTests}
+use Rattle.rules.specs.History.{activates, numbers, lastNumber, lastCount}
+use Rattle.rules.specs.Refusals.{Known, look, timeFalls, secondKind, noRoom, notAllowed, offChart, unseen, isNext, notNext, coreBroken, countFollows, countAllowed, countBroken, eventTests}
 use Rattle.rules.specs.Verdict.{Accepted, Never}
 use Rattle.rules.specs.Lines.{eventsOf}
 use Rattle.rules.specs.Trace.{Sound}
-use Rattle.rules.specs.Lawful.{Chain, Each, numbers, NumberAfter, counts, CountAfter, FixedCount, Orderly, SoFar, Lawful}
+use Rattle.rules.specs.Lawful.{Chain, Each, NumberAfter, Begun, counts, CountAfter, FixedCount, Orderly, SoFar, Lawful}
 use Rattle.rules.proofs.Tests.{both, and-true, clash}
-use Rattle.rules.proofs.Answers.{accepted-exactly}
+use Rattle.rules.proofs.Answers.{accepted-exactly, never-halves, allowed-exactly}
 use Rattle.rules.proofs.ChartFact.{chart-runs}
 use Rattle.rules.proofs.CoreRuns.{core-runs}
 use Rattle.rules.proofs.Chains.{After, Asked, linked-exactly}
+use Rattle.rules.proofs.Begun.{startsLow, begun-exactly}
 use Rattle.rules.proofs.OneKind.{one-kind}
 use Rattle.rules.proofs.Room.{all-along}
 use Rattle.rules.proofs.Traces.{Kept}
@@ -46,16 +47,30 @@ NextTo m e = e .targetInstance ≡ m + 1
 abbrev NumberAsked : List Event → Event → Type 0
 NumberAsked = Asked (λ d. d .targetInstance) NextTo (λ (p : ℕ × List ℕ). numbers (p .0) (p .1)) (λ d. (d .kind, d .target))
 
-next-after : (o : Option ℕ) (e : Event) → (isNext o (e .targetInstance) ≡ true) ↔ After (λ d. d .targetInstance) NextTo o e
+-- the half of the rule that asks for the number before; the other asks the first
+outOfStep : Known → Event → Bool
+outOfStep k e = activates (e .kind) (e .word) && not (isNext (k .number) true (e .targetInstance))
+
+number-halves : (k : Known) (e : Event) → (notNext k e ≡ false) ↔ ((outOfStep k e ≡ false) × (startsLow k e ≡ false))
+unfolding notNext outOfStep
+number-halves k e = by-test (activates (e .kind) (e .word)) (k .number) (k .above)
+  where
+    by-test : (b : Bool) (o : Option ℕ) (above : Bool) → (b && not (isNext o above (e .targetInstance)) ≡ false)
+        ↔ ((b && not (isNext o true (e .targetInstance)) ≡ false) × (b && (unseen o && not above) ≡ false))
+    by-test false o above = (λ q. (refl, refl), λ p. refl)
+    by-test true none above = (λ q. (refl, q), λ p. p .1)
+    by-test true (some m) above = (λ q. (q, refl), λ p. p .0)
+
+next-after : (o : Option ℕ) (e : Event) → (isNext o true (e .targetInstance) ≡ true) ↔ After (λ d. d .targetInstance) NextTo o e
 next-after none e = (λ q. tt, λ a. refl)
 next-after (some m) e = (eqb-true (e .targetInstance) (m + 1), eq-eqb (e .targetInstance) (m + 1))
 
-number-asks : (h : List Event) (e : Event) → (notNext (look h e) e ≡ false) ↔ NumberAsked h e
-unfolding notNext numbers lastNumber
+number-asks : (h : List Event) (e : Event) → (outOfStep (look h e) e ≡ false) ↔ NumberAsked h e
+unfolding outOfStep numbers lastNumber
 number-asks h e = rw (eq-eqb (e .kind) (e .kind) refl, same-refl (e .target)) (by-test (activates (e .kind) (e .word)) (lastNumber (e .kind) (e .target) h))
   where
     by-test : (b : Bool) (o : Option ℕ) →
-        (b && not (isNext o (e .targetInstance)) ≡ false) ↔ (b && true ≡ true → After (λ d. d .targetInstance) NextTo o e)
+        (b && not (isNext o true (e .targetInstance)) ≡ false) ↔ (b && true ≡ true → After (λ d. d .targetInstance) NextTo o e)
     by-test true o = (λ q z. next-after o e .0 (not-false _ q), λ f. ap not (next-after o e .1 (f refl)))
     by-test false o = (λ q z. absurd (clash false z refl), λ f. refl)
 
@@ -65,10 +80,30 @@ number-own p e q =
     let r = both (eqb (p .0) (e .kind)) _ (both (activates (e .kind) (e .word)) _ q .1) in
     λ i. (eqb-true (p .0) (e .kind) (r .0) i, same-eq (p .1) (e .target) (r .1) i)
 
-pub numbers-follow : (h : List Event) → Never notNext h ↔ ((k : ℕ) (n : List ℕ) → Chain NumberAfter (only (numbers k n) h))
+numbers-follow : (h : List Event) → Never outOfStep h ↔ ((k : ℕ) (n : List ℕ) → Chain NumberAfter (only (numbers k n) h))
 numbers-follow h =
-    let r = linked-exactly (λ d. d .targetInstance) NextTo (λ (p : ℕ × List ℕ). numbers (p .0) (p .1)) (λ d. (d .kind, d .target)) number-own notNext number-asks h in
+    let r = linked-exactly (λ d. d .targetInstance) NextTo (λ (p : ℕ × List ℕ). numbers (p .0) (p .1)) (λ d. (d .kind, d .target)) number-own outOfStep number-asks h in
     (λ c k n. r .0 c (k, n), λ f. r .1 (λ p. f (p .0) (p .1)))
+
+-- ---- 11 and 12 together: the second half of each is told of one clause
+
+-- the charts are run through, the numbers follow, and each instance from the first number on begins with an activation
+pub record Lives (h : List Event) : Type 0 where
+  pub charts : Never offChart h
+  pub numbered : (k : ℕ) (n : List ℕ) → Chain NumberAfter (only (numbers k n) h)
+  pub begun : Begun h
+
+pub lives-exactly : (h : List Event) → (Never notAllowed h × Never notNext h) ↔ Lives h
+lives-exactly h =
+    let numbered = never-halves notNext outOfStep startsLow number-halves h in (
+      λ n.
+          let c = allowed-exactly h .0 (n .0) in
+          let d = numbered .0 (n .1) in
+          record { charts = c .0; numbered = numbers-follow h .0 (d .0); begun = begun-exactly h .0 (c .1, d .1) },
+      λ l.
+          let b = begun-exactly h .1 (l .begun) in
+          (allowed-exactly h .1 (l .charts, b .0), numbered .1 (numbers-follow h .1 (l .numbered), b .1)),
+    )
 
 -- ---- 14: counts, by name
 
@@ -132,13 +167,15 @@ in-order : (h : List Event) → Accepted h → Orderly h
 unfolding eventTests
 in-order h a =
     let never = accepted-exactly h .0 a in
+    let lives = lives-exactly h .0 (never 11, never 12) in
     let counts = counts-kept h .0 (never 14) in
     record {
       time = time-kept h .0 (never 8);
       kinds = one-kind h .0 (never 9);
       room = all-along h (never 9) .0 (never 10);
-      charts = chart-runs h .0 (never 11);
-      numbered = numbers-follow h .0 (never 12);
+      charts = chart-runs h .0 (lives .charts);
+      numbered = lives .numbered;
+      begun = lives .begun;
       on-cores = core-runs h .0 (never 13);
       counted = counts .0;
       fixed-counts = counts .1;
@@ -160,13 +197,16 @@ order-kept h o = accepted-exactly h .1 (λ n.
     either-never (eqb 8 n) timeFalls _ h (time-kept h .1 (o .time))
     (either-never (eqb 9 n) secondKind _ h kinds
     (either-never (eqb 10 n) noRoom _ h (all-along h kinds .1 (o .room))
-    (either-never (eqb 11 n) offChart _ h (chart-runs h .1 (o .charts))
-    (either-never (eqb 12 n) notNext _ h (numbers-follow h .1 (o .numbered))
+    (either-never (eqb 11 n) notAllowed _ h (lives .0)
+    (either-never (eqb 12 n) notNext _ h (lives .1)
     (either-never (eqb 13 n) coreBroken _ h (core-runs h .1 (o .on-cores))
     (either-never (eqb 14 n) countBroken _ h (counts-kept h .1 (o .counted, o .fixed-counts)) (no-rule h))))))))
   where
     kinds : Never secondKind h
     kinds = one-kind h .1 (o .kinds)
+
+    lives : Never notAllowed h × Never notNext h
+    lives = lives-exactly h .1 (record { charts = chart-runs h .1 (o .charts); numbered = o .numbered; begun = o .begun })
 
 -- A history is accepted exactly if it is in order.
 pub accepted-orderly : (h : List Event) → Accepted h ↔ Orderly h

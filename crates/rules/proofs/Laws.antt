@@ -12,7 +12,7 @@ use Rattle.rules.specs.Refusals.{eventTests}
 use Rattle.rules.specs.Verdict.{Accepted, taken}
 use Rattle.rules.specs.Lawful.{Fits}
 use Rattle.rules.specs.Sheet.{heldTicks, idleTicks, unknownTicks, charge, chargeOn, span}
-use Rattle.rules.proofs.Answers.{accepted-exactly, all-fit}
+use Rattle.rules.proofs.Answers.{accepted-exactly, allowed-exactly, all-fit}
 use Rattle.rules.proofs.Verdicts.{taken-accepted}
 use Rattle.rules.proofs.ChartFact.{chart-runs}
 use Rattle.rules.proofs.CoreRuns.{kept-run}
@@ -43,7 +43,7 @@ pub record Holds (h : List Event) : Type 0 where
 pub accepted-holds : (h : List Event) → Accepted h → Holds h
 unfolding eventTests
 accepted-holds h a = record {
-  each-chart = chart-runs h .0 (accepted-exactly h .0 a 11);
+  each-chart = chart-runs h .0 (allowed-exactly h .0 (accepted-exactly h .0 a 11) .0);
   each-run = kept-run h (accepted-exactly h .0 a 13);
   room = all-fit h a;
   each-core = core-total h a;

@@ -1,6 +1,7 @@
 -- The laws of the rules. `Laws` has what holds after any events taken; `Examples` what the definitions compute.
 pub mod Examples
 pub mod ManyNames
+pub mod ManyInstances
 pub mod Tests
 pub mod Sums
 pub mod ChartFact
@@ -13,6 +14,8 @@ pub mod CoreWords
 pub mod CoreRuns
 pub mod Chains
 pub mod Seen
+pub mod Activations
+pub mod Begun
 pub mod Totals
 pub mod Tracked
 pub mod OneKind

@@ -18,10 +18,10 @@ use Rattle.rules.specs.Words.{core, task, runnable, start}
 use Rattle.rules.specs.Charts.{isProcess}
 use Rattle.rules.specs.Event.{Event, Instance, sameInstance, instanceOf}
 use Rattle.rules.specs.Core.{takes, onCore}
-use Rattle.rules.specs.History.{hasInstances, isTracked, named, names, kindIn, kindOf, isKind, cores, instances}
-use Rattle.rules.specs.Refusals.{look, timeFalls, secondKind, noRoom, offChart, notNext, coreBroken, countBroken, eventTests, answerTo}
+use Rattle.rules.specs.History.{hasInstances, isTracked, named, names, kindIn, kindOf, isKind, cores, instances, activates, numbers, lastNumber, isFrom, aboveAll}
+use Rattle.rules.specs.Refusals.{look, timeFalls, secondKind, noRoom, notAllowed, notNext, coreBroken, countBroken, eventTests, answerTo}
 use Rattle.rules.specs.Verdict.{answer}
-use Rattle.rules.proofs.Sums.{any-new}
+use Rattle.rules.proofs.Sums.{any-new, none-one-more}
 use Rattle.rules.specs.Limits.{instanceLimit, coreLimit, nameLimit}
 
 -- an event line of each type: time, source and its instance, target and its instance, event
@@ -60,9 +60,13 @@ absent (suc n) x q =
     any-new sameBytes same-eq same-refl (names (many newName n)) (n ∷ []) x
     ∙ rw (absent n x (λ i h. q i (omega (arith, h))), q n (omega arith))
 
-next-absent : (n : ℕ) → any (sameBytes (n ∷ [])) (names (many newName n)) ≡ false
+-- nor is the next
+next-differs : (n i : ℕ) → i < n → sameBytes (n ∷ []) (i ∷ []) ≡ false
 unfolding sameBytes
-next-absent n = absent n (n ∷ []) (λ i h. rw (ne-eqb n i (λ q. omega (arith, h, q))))
+next-differs n i h = rw (ne-eqb n i (λ q. omega (arith, h, q)))
+
+next-absent : (n : ℕ) → any (sameBytes (n ∷ [])) (names (many newName n)) ≡ false
+next-absent n = absent n (n ∷ []) (next-differs n)
 
 names-many : (n : ℕ) → length (names (many newName n)) ≡ n
 unfolding names named hasInstances isTracked isProcess onCore
@@ -93,19 +97,40 @@ only-none f q (x ∷ xs) = rw (q x) (only-none f q xs)
 cores-many : (n : ℕ) → cores (many newName n) ≡ []
 cores-many n = only-none (λ x. isKind (eqb core) (kindOf x (many newName n))) (no-core n) (names (many newName n))
 
--- ---- the answer, given whether there is room
+-- ---- the number of one more
 
-abbrev pub answerIf : Bool → List Event → Event → ℕ
-answerIf full h e =
+module _ (x : List ℕ) where
+  -- one that is none of them has no number and was not seen
+  unnumbered : (n : ℕ) → ((i : ℕ) → i < n → sameBytes x (i ∷ []) ≡ false) → lastNumber runnable x (many newName n) ≡ none
+  unfolding lastNumber numbers activates isProcess
+  unnumbered zero q = refl
+  unnumbered (suc n) q = rw (q n (omega arith)) (unnumbered n (λ i h. q i (omega (arith, h))))
+
+  not-seen : (n : ℕ) → ((i : ℕ) → i < n → sameBytes x (i ∷ []) ≡ false) → any (isFrom runnable x 0) (instances (many newName n)) ≡ false
+  unfolding instances hasInstances isProcess isFrom
+  not-seen zero q = refl
+  not-seen (suc n) q =
+      let y : Instance = instanceOf (newName n) in
+      none-one-more (isFrom runnable x 0) (any (sameInstance y) (instances (many newName n))) (instances (many newName n)) y
+      (not-seen n (λ i h. q i (omega (arith, h)))) (rw (q n (omega arith)))
+
+first-of-many : (n : ℕ) → notNext (look (many newName n) (newName n)) (newName n) ≡ false
+unfolding notNext aboveAll activates isProcess
+first-of-many n = rw (unnumbered (n ∷ []) n (next-differs n), not-seen (n ∷ []) n (next-differs n)) refl
+
+-- ---- the answer, given whether there is room and whether the number is the next
+
+abbrev pub answerIf : Bool → Bool → List Event → Event → ℕ
+answerIf full wrong h e =
     let k = look h e in
     cond (timeFalls k e) 8
     (cond (secondKind k e) 9
     (cond full 10
-    (lowest (test 11 (offChart k e) ∷ test 12 (notNext k e) ∷ test 13 (coreBroken k e) ∷ test 14 (countBroken k e) ∷ []))))
+    (lowest (test 11 (notAllowed k e) ∷ test 12 wrong ∷ test 13 (coreBroken k e) ∷ test 14 (countBroken k e) ∷ []))))
 
-answer-if : (h : List Event) (e : Event) (full : Bool) → noRoom (look h e) e ≡ full → answer h e ≡ answerIf full h e
+pub answer-if : (h : List Event) (e : Event) (full wrong : Bool) → noRoom (look h e) e ≡ full → notNext (look h e) e ≡ wrong → answer h e ≡ answerIf full wrong h e
 unfolding answerTo eventTests
-answer-if h e full q = ap (λ b. answerIf b h e) q
+answer-if h e full wrong q r = λ i. answerIf (q i) (r i) h e
 
 -- without cores, and with few instances, the names decide
 names-decide : (n c i : ℕ) → c ≡ 0 → i ≤ instanceLimit → ltb nameLimit n || (ltb coreLimit c || ltb instanceLimit i) ≡ ltb nameLimit n
@@ -116,22 +141,24 @@ names-decide n c i q r = rw (le-ltb coreLimit c (omega (arith, q)), le-ltb insta
     or-false false = refl
 
 -- after n names: one more; an event that tracks none; a core and its process, both new
-pub name-after : (n : ℕ) → n < instanceLimit → answer (many newName n) (newName n) ≡ answerIf (ltb nameLimit (n + 1)) (many newName n) (newName n)
+pub name-after : (n : ℕ) → n < instanceLimit → answer (many newName n) (newName n) ≡ answerIf (ltb nameLimit (n + 1)) false (many newName n) (newName n)
 unfolding noRoom
 name-after n h =
     let few : length (instances (many newName (suc n))) ≤ instanceLimit = omega (arith, instances-many (suc n), h) in
     let all : length (names (many newName (suc n))) ≡ n + 1 = omega (arith, names-many (suc n)) in
-    answer-if (many newName n) (newName n) (ltb nameLimit (n + 1)) (names-decide (length (names (many newName (suc n)))) _ _ (ap length (cores-many (suc n))) few ∙ ap (ltb nameLimit) all)
+    answer-if (many newName n) (newName n) (ltb nameLimit (n + 1)) false
+    (names-decide (length (names (many newName (suc n)))) _ _ (ap length (cores-many (suc n))) few ∙ ap (ltb nameLimit) all) (first-of-many n)
 
-pub trigger-after : (n : ℕ) → n ≤ instanceLimit → answer (many newName n) (trigger 0) ≡ answerIf (ltb nameLimit n) (many newName n) (trigger 0)
-unfolding noRoom names named instances kindIn hasInstances isTracked isProcess onCore
+pub trigger-after : (n : ℕ) → n ≤ instanceLimit → answer (many newName n) (trigger 0) ≡ answerIf (ltb nameLimit n) false (many newName n) (trigger 0)
+unfolding noRoom notNext activates names named instances kindIn hasInstances isTracked isProcess onCore
 trigger-after n h =
     let few : length (instances (many newName n)) ≤ instanceLimit = omega (arith, instances-many n, h) in
-    answer-if (many newName n) (trigger 0) (ltb nameLimit n) (names-decide (length (names (many newName n))) _ _ (ap length (cores-many n)) few ∙ ap (ltb nameLimit) (names-many n))
+    answer-if (many newName n) (trigger 0) (ltb nameLimit n) false
+    (names-decide (length (names (many newName n))) _ _ (ap length (cores-many n)) few ∙ ap (ltb nameLimit) (names-many n)) refl
 
-pub core-after : (n : ℕ) → 255 ≤ n → answer (many newName n) (newCore 0) ≡ answerIf true (many newName n) (newCore 0)
-unfolding noRoom names named hasInstances isTracked isProcess onCore takes
-core-after n h = answer-if (many newName n) (newCore 0) true (rw (lt-ltb nameLimit _ more))
+pub core-after : (n : ℕ) → 255 ≤ n → answer (many newName n) (newCore 0) ≡ answerIf true false (many newName n) (newCore 0)
+unfolding noRoom notNext activates names named hasInstances isTracked isProcess onCore takes
+core-after n h = answer-if (many newName n) (newCore 0) true false (rw (lt-ltb nameLimit _ more)) refl
   where
     the-core : List ℕ
     the-core = newCore 0 .source

@@ -1,7 +1,7 @@
 -- Where lines and rules meet: a line that reads as an event becomes an event whose word is one of its type for these rules, and whose numbers are
 -- within their sizes. So the rules see no word that its chart lacks, but for the requests of a semaphore.
 use mathlib.Core.Path.{_≡_, refl, subst}
-use mathlib.Core.Bool.{Bool, true, false, not, _&&_, _||_, cond}
+use mathlib.Core.Bool.{Bool, true, false, not, _&&_, _||_, cond, and-false}
 use mathlib.Core.List.{List, [], _∷_}
 use Prim.Native.Nat.{ℕ, zero, suc, _≤_}
 use native.Mathlib.Omega.{arith}
@@ -35,7 +35,7 @@ use Rattle.rules.specs.Words.{semaphore}
 use Rattle.rules.specs.Event.{Event, Instance, sameInstance, stateOf}
 use Rattle.rules.specs.Core.{onCore}
 use Rattle.rules.specs.History.{hasInstances, isTracked, named, names, kindIn, cores, instances, activates, lastTime}
-use Rattle.rules.specs.Refusals.{less, timeFalls, sourceClash, targetClash, secondKind, noRoom, offChart, notNext, coreBroken, countBroken, eventTests, answerTo, unseen}
+use Rattle.rules.specs.Refusals.{less, timeFalls, sourceClash, targetClash, secondKind, noRoom, offChart, neverActivated, notAllowed, notNext, coreBroken, countBroken, eventTests, answerTo, unseen}
 use Rattle.rules.specs.First.{takenOf}
 use Rattle.rules.specs.Verdict.{answer, Accepted, taken}
 use Rattle.rules.specs.Lines.{kindNumber, eventFrom, eventIn, eventOfLine, withEvent, eventsOf, requests}
@@ -164,10 +164,10 @@ unjudged-zero Semaphore q = cc
 -- "STI, SCHED, EVENT and SIG lines are read and their fields checked, but only move the time"
 pub only-time : (h : List Event) → Accepted h → (e : ReadEvent) (source target : List ℕ) (count : ℕ) → judged (e .kind) ≡ false →
     answer h (eventFrom e source target count) ≡ cond (less (e .time) (lastTime h)) 8 0
-unfolding answerTo eventTests timeFalls secondKind sourceClash targetClash noRoom offChart notNext coreBroken countBroken names named kindIn instances onCore hasInstances isTracked isProcess activates chartOf
+unfolding answerTo eventTests timeFalls secondKind sourceClash targetClash noRoom offChart neverActivated notAllowed notNext coreBroken countBroken names named kindIn instances onCore hasInstances isTracked isProcess activates chartOf
 only-time h a e source target count j =
     let f = all-fit h a in
-    rw (unjudged-zero (e .kind) j, le-ltb nameLimit (length (names h)) (f .names-fit), le-ltb coreLimit (length (cores h)) (f .cores-fit), le-ltb instanceLimit (length (instances h)) (f .instances-fit))
+    rw (unjudged-zero (e .kind) j, le-ltb nameLimit (length (names h)) (f .names-fit), le-ltb coreLimit (length (cores h)) (f .cores-fit), le-ltb instanceLimit (length (instances h)) (f .instances-fit), and-false)
 
 -- ---- any lines
 

@@ -6,6 +6,7 @@ use Prim.Native.Nat.{ℕ, _+_, _*_, _≤_}
 use native.Mathlib.Nat.{suc-mul}
 use native.Mathlib.Omega.{arith}
 use lib.ListN.{length}
+use Rattle.text.proofs.Bools.{clash}
 use Rattle.rules.specs.Lists.{any, only, keep, sumOver, oneIf, addUnless, addNew, addAll}
 
 module _ {A : Type 0} where
@@ -37,6 +38,11 @@ module _ {A : Type 0} where
   pub any-one-more : (p : A → Bool) (b : Bool) (xs : List A) (y : A) → any p xs ≡ true → any p (addUnless b xs y) ≡ true
   any-one-more p true xs y q = q
   any-one-more p false xs y q = rw (any-append, q)
+
+  -- and what is not in it and is not added is not in it
+  pub none-one-more : (p : A → Bool) (b : Bool) (xs : List A) (y : A) → any p xs ≡ false → p y ≡ false → any p (addUnless b xs y) ≡ false
+  none-one-more p true xs y q r = q
+  none-one-more p false xs y q r = rw (any-append, q, r)
 
   pub any-more : (eq : A → A → Bool) (p : A → Bool) (xs ys : List A) → any p xs ≡ true → any p (addAll eq xs ys) ≡ true
   any-more eq p xs [] q = q
@@ -73,6 +79,29 @@ module _ {A : Type 0} (eq : A → A → Bool) (eq-true : (x y : A) → eq x y �
           any-more eq (eq m) (addNew eq xs y) ys
           (subst (λ (z : A). any (eq z) (addNew eq xs y) ≡ true) (sym (eq-true m y t)) (added (any (eq y) xs) xs y refl))
       by-test false t q f = f q
+
+  -- where some element passes a test there is one that is in the list and passes it, and back
+  pub any-some : (f : A → Bool) (xs : List A) → any f xs ≡ true → (x : A) × (f x ≡ true) × (any (eq x) xs ≡ true)
+  any-some f [] q = absurd (clash false q refl)
+  any-some f (y ∷ ys) q = by-test (f y) refl q (any-some f ys)
+    where
+      or-later : (b c : Bool) → c ≡ true → b || c ≡ true
+      or-later true c p = refl
+      or-later false c p = p
+
+      by-test : (b : Bool) → f y ≡ b → b || any f ys ≡ true → (any f ys ≡ true → (x : A) × (f x ≡ true) × (any (eq x) ys ≡ true)) →
+          (x : A) × (f x ≡ true) × (any (eq x) (y ∷ ys) ≡ true)
+      by-test true g q i = (y, g, rw (eq-refl y))
+      by-test false g q i = let r = i q in (r .0, r .1, or-later (eq (r .0) y) _ (r .2))
+
+  pub some-any : (f : A → Bool) (xs : List A) (x : A) → f x ≡ true → any (eq x) xs ≡ true → any f xs ≡ true
+  some-any f [] x g q = q
+  some-any f (y ∷ ys) x g q = by-test (eq x y) refl q (f y) refl (some-any f ys x g)
+    where
+      by-test : (b : Bool) → eq x y ≡ b → b || any (eq x) ys ≡ true → (c : Bool) → f y ≡ c → (any (eq x) ys ≡ true → any f ys ≡ true) → c || any f ys ≡ true
+      by-test b s q true c i = refl
+      by-test true s q false c i = absurd (clash (f y) (subst (λ (z : A). f z ≡ true) (eq-true x y s) g) c)
+      by-test false s q false c i = i q
 
   -- what is in the list with y is in the list, or y
   pub any-new : (xs : List A) (y m : A) → any (eq m) (addNew eq xs y) ≡ any (eq m) xs || eq m y

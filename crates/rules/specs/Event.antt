@@ -1,11 +1,11 @@
 -- Event lines as they were read, and the instances of which they speak. A history is a list of events, THE NEWEST FIRST.
 use mathlib.Core.Bool.{Bool, _&&_, cond}
-use mathlib.Core.Option.{Option}
+use mathlib.Core.Option.{Option, some}
 use mathlib.Core.List.{List, [], _∷_}
 use Prim.Native.Nat.{ℕ}
 use lib.Dec.{eqb}
 use Rattle.text.specs.Bytes.{sameBytes}
-use Rattle.rules.specs.Lists.{keep}
+use Rattle.rules.specs.Lists.{keep, earliest}
 use Rattle.rules.specs.Chart.{stateAfter}
 use Rattle.rules.specs.Charts.{chartOf}
 use Rattle.rules.specs.Words.{semaphore}
@@ -37,6 +37,10 @@ instanceOf e = record { kind = e .kind; name = e .target; number = cond (eqb (e 
 abbrev pub wordsOf : Instance → List Event → List ℕ
 wordsOf x [] = []
 wordsOf x (e ∷ h) = keep (sameInstance x (instanceOf e)) (e .word) (wordsOf x h)
+
+-- the word of its first event; none before that
+abbrev pub firstWord : Instance → List Event → Option ℕ
+firstWord x h = earliest some (wordsOf x h)
 
 -- the state of an instance or semaphore; none before its first chart event
 abbrev pub stateOf : Instance → List Event → Option ℕ

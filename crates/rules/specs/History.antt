@@ -1,11 +1,11 @@
 -- What a history says of names, instances, numbers and counts.
-use mathlib.Core.Bool.{Bool, false, _&&_, _||_}
+use mathlib.Core.Bool.{Bool, false, not, _&&_, _||_}
 use mathlib.Core.Option.{Option, none, some}
 use mathlib.Core.List.{List, [], _∷_}
 use Prim.Native.Nat.{ℕ}
-use lib.Dec.{eqb}
+use lib.Dec.{eqb, leb}
 use Rattle.text.specs.Bytes.{sameBytes}
-use Rattle.rules.specs.Lists.{member, only, keep, when, orElse, latest, addAll}
+use Rattle.rules.specs.Lists.{any, member, only, keep, when, orElse, latest, earliest, addAll}
 use Rattle.rules.specs.Words.{core, runnable, semaphore, activate, mtalimitexceeded, start}
 use Rattle.rules.specs.Charts.{isProcess}
 use Rattle.rules.specs.Event.{Event, Instance, sameInstance, instanceOf}
@@ -53,7 +53,7 @@ unfoldable pub instances : List Event → List Instance
 instances [] = []
 instances (e ∷ h) = addAll sameInstance (instances h) (keep (hasInstances (e .kind)) (instanceOf e) [])
 
--- ---- the last time, number and count
+-- ---- the last time, numbers and count
 
 abbrev pub lastTime : List Event → Option ℕ
 lastTime [] = none
@@ -63,9 +63,24 @@ lastTime (e ∷ h) = some (e .time)
 unfoldable pub activates : ℕ → ℕ → Bool
 activates k a = (isProcess k && member a (activate ∷ mtalimitexceeded ∷ [])) || (eqb k runnable && eqb a start)
 
--- the number of the latest such event of a process or runnable
+-- such an event of the one of kind k that is named n
+unfoldable pub numbers : ℕ → List ℕ → Event → Bool
+numbers k n e = activates (e .kind) (e .word) && (eqb k (e .kind) && sameBytes n (e .target))
+
+-- the number of the latest of them, and of the first
 unfoldable pub lastNumber : ℕ → List ℕ → List Event → Option ℕ
-lastNumber k n = latest (λ e. when (activates (e .kind) (e .word) && (eqb k (e .kind) && sameBytes n (e .target))) (e .targetInstance))
+lastNumber k n = latest (λ e. when (numbers k n e) (e .targetInstance))
+
+unfoldable pub firstNumber : ℕ → List ℕ → List Event → Option ℕ
+firstNumber k n = earliest (λ e. when (numbers k n e) (e .targetInstance))
+
+-- an instance of the process or runnable of kind k that is named n, numbered i or more
+unfoldable pub isFrom : ℕ → List ℕ → ℕ → Instance → Bool
+isFrom k n i x = eqb k (x .kind) && (sameBytes n (x .name) && leb i (x .number))
+
+-- "a number above all seen of that process" (02, No. 5)
+unfoldable pub aboveAll : ℕ → List ℕ → ℕ → List Event → Bool
+aboveAll k n i h = not (any (isFrom k n i) (instances h))
 
 -- "c is the note of the semaphore's last line"
 unfoldable pub lastCount : List ℕ → List Event → Option ℕ

@@ -13,9 +13,9 @@ use Rattle.rules.specs.Words.{core, semaphore}
 use Rattle.rules.specs.Limits.{nameLimit, coreLimit, instanceLimit}
 use Rattle.rules.specs.Chart.{Run}
 use Rattle.rules.specs.Charts.{chartOf}
-use Rattle.rules.specs.Event.{Event, Instance, wordsOf}
+use Rattle.rules.specs.Event.{Event, Instance, wordsOf, firstWord}
 use Rattle.rules.specs.Core.{Core, on, CoreRun}
-use Rattle.rules.specs.History.{isTracked, names, cores, instances, activates}
+use Rattle.rules.specs.History.{isTracked, names, cores, instances, activates, numbers, firstNumber}
 use Rattle.rules.specs.Refusals.{countFollows, countAllowed}
 use Rattle.rules.specs.Lines.{eventsOf}
 use Rattle.rules.specs.Trace.{placeOf, InPlace}
@@ -49,13 +49,15 @@ pub record Fits (es : List Event) : Type 0 where
   pub cores-fit : length (cores es) ≤ coreLimit
   pub instances-fit : length (instances es) ≤ instanceLimit
 
--- "activate or mtalimitexceeded of one process, or start of one runnable": of the one of kind k that is named n
-unfoldable pub numbers : ℕ → List ℕ → Event → Bool
-numbers k n e = activates (e .kind) (e .word) && (eqb k (e .kind) && sameBytes n (e .target))
-
--- "bears the number of the one before plus 1. The first may bear any number."
+-- "a second or later activate or mtalimitexceeded of one process, or start of one runnable, bears the number of the one before plus 1"
 abbrev pub NumberAfter : Event → Event → Type 0
 NumberAfter d e = e .targetInstance ≡ d .targetInstance + 1
+
+-- "Once a process has had an activate or mtalimitexceeded numbered f, a non-activating first event of an instance numbered f or more is 11. The first activate or
+-- mtalimitexceeded must bear a number above all seen of that process, else 12. Runnables the same, with start." (02, No. 5) Both in one: where f is the first
+-- such number of a process or runnable, each of its instances numbered f or more begins with such an event. One that was seen before did not, so f is above it.
+abbrev pub Begun : List Event → Type 0
+Begun es = (x : Instance) (f a : ℕ) → firstNumber (x .kind) (x .name) es ≡ some f → f ≤ x .number → firstWord x es ≡ some a → activates (x .kind) a ≡ true
 
 -- the lines of the semaphore n
 unfoldable pub counts : List ℕ → Event → Bool
@@ -83,6 +85,8 @@ pub record Orderly (es : List Event) : Type 0 where
   pub charts : (x : Instance) → (s : ℕ) × (n : ℕ) × Run (chartOf (x .kind)) s (wordsOf x es) n
   -- "Instance numbers": of each process and runnable
   pub numbered : (k : ℕ) (n : List ℕ) → Chain NumberAfter (only (numbers k n) es)
+  -- and each instance from the first activation on begins with its own (02, No. 5)
+  pub begun : Begun es
   -- ".. and core": its events run from unknown by the core rule ("Cores (house: one process instance at a time)")
   pub on-cores : (c : List ℕ) → (k : Core) × CoreRun c es k
   -- "Counts": of each semaphore, from line to line

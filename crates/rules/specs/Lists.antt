@@ -58,3 +58,8 @@ module _ {A B : Type 0} where
   abbrev pub latest : (A → Option B) → List A → Option B
   latest f [] = none
   latest f (x ∷ xs) = orElse (f x) (latest f xs)
+
+  -- that of the last element that has one: of a history the earliest
+  abbrev pub earliest : (A → Option B) → List A → Option B
+  earliest f [] = none
+  earliest f (x ∷ xs) = orElse (earliest f xs) (f x)

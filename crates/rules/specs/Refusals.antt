@@ -14,7 +14,7 @@ use Rattle.rules.specs.Words.{core, semaphore, increment, decrement, fre
 use Rattle.rules.specs.Limits.{nameLimit, coreLimit, instanceLimit}
 use Rattle.rules.specs.Event.{Event, Instance, sameInstance, instanceOf, stateOf}
 use Rattle.rules.specs.Core.{Core, unknown, idle, held, takes, onCore, coreAt}
-use Rattle.rules.specs.History.{isTracked, activates, kindOf, names, cores, instances, lastTime, lastNumber, lastCount}
+use Rattle.rules.specs.History.{hasInstances, isTracked, activates, kindOf, names, cores, instances, lastTime, lastNumber, firstNumber, aboveAll, lastCount}
 
 -- ---- what is known when an event line comes
 
@@ -27,6 +27,8 @@ pub record Known : Type 0 where
   pub instances : ℕ
   pub state : Option ℕ  -- of the line's instance or semaphore
   pub number : Option ℕ  -- of the last activation of its process, or start of its runnable
+  pub first : Option ℕ  -- and of the first
+  pub above : Bool  -- whether the line's own number is above all seen of that process or runnable
   pub core : Core  -- what the line's source is as a core
   pub count : Option ℕ  -- of its semaphore
 
@@ -40,6 +42,8 @@ look h e = record {
   instances = length (instances (e ∷ h));
   state = stateOf (instanceOf e) h;
   number = lastNumber (e .kind) (e .target) h;
+  first = firstNumber (e .kind) (e .target) h;
+  above = aboveAll (e .kind) (e .target) (e .targetInstance) h;
   core = coreAt (e .source) h;
   count = lastCount (e .target) h;
 }
@@ -77,23 +81,37 @@ noRoom k e = ltb nameLimit (k .names) || (ltb coreLimit (k .cores) || ltb instan
 unfoldable pub offChart : Known → Event → Bool
 offChart k e = not (allowed (chartOf (e .kind)) (e .word) (k .state))
 
--- ---- 12: "instance number not the next"
--- "bears the number of the one before plus 1. The first may bear any number."
-
-abbrev pub isNext : Option ℕ → ℕ → Bool
-isNext none i = true
-isNext (some m) i = eqb i (m + 1)
-
-unfoldable pub notNext : Known → Event → Bool
-notNext k e = activates (e .kind) (e .word) && not (isNext (k .number) (e .targetInstance))
-
--- ---- 13: "core rule broken"
--- "start, resume and poll_parking need it unknown or idle"; the other six "need it held by this instance", and "for these six, an unknown core also
--- serves if the instance is seen for the first time". Every T and I event is a step of the chart, so an instance has a state once it was seen.
-
+-- Every T, I and R event is a step of its chart, so an instance has a state once it was seen.
 abbrev pub unseen : Option ℕ → Bool
 unseen none = true
 unseen (some s) = false
+
+-- "Once a process has had an activate or mtalimitexceeded numbered f, a non-activating first event of an instance numbered f or more is 11. .. Runnables the
+-- same, with start." (02, No. 5)
+abbrev pub reaches : Option ℕ → ℕ → Bool
+reaches none i = false
+reaches (some f) i = leb f i
+
+unfoldable pub neverActivated : Known → Event → Bool
+neverActivated k e = unseen (k .state) && (hasInstances (e .kind) && (not (activates (e .kind) (e .word)) && reaches (k .first) (e .targetInstance)))
+
+unfoldable pub notAllowed : Known → Event → Bool
+notAllowed k e = offChart k e || neverActivated k e
+
+-- ---- 12: "instance number not the next"
+-- "a second or later activate or mtalimitexceeded of one process, or start of one runnable, bears the number of the one before plus 1." And "The first activate or
+-- mtalimitexceeded must bear a number above all seen of that process, else 12." (02, No. 5)
+
+abbrev pub isNext : Option ℕ → Bool → ℕ → Bool
+isNext none above i = above
+isNext (some m) above i = eqb i (m + 1)
+
+unfoldable pub notNext : Known → Event → Bool
+notNext k e = activates (e .kind) (e .word) && not (isNext (k .number) (k .above) (e .targetInstance))
+
+-- ---- 13: "core rule broken"
+-- "start, resume and poll_parking need it unknown or idle"; the other six "need it held by this instance", and "for these six, an unknown core also
+-- serves if the instance is seen for the first time".
 
 abbrev pub serves : Core → Bool → Bool → Instance → Bool
 serves unknown taking new x = taking || new
@@ -130,7 +148,7 @@ eventTests k e =
     test 8 (timeFalls k e)
     ∷ test 9 (secondKind k e)
     ∷ test 10 (noRoom k e)
-    ∷ test 11 (offChart k e)
+    ∷ test 11 (notAllowed k e)
     ∷ test 12 (notNext k e)
     ∷ test 13 (coreBroken k e)
     ∷ test 14 (countBroken k e)

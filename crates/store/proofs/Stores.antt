@@ -13,14 +13,14 @@ use Rattle.rules.specs.Words.{core, semaphore}
 use Rattle.rules.specs.Core.{no-core, takes-core, gives-core}
 use Rattle.rules.specs.Event.{Event}
 use Rattle.rules.specs.History.{hasInstances, activates}
-use Rattle.tables.specs.Entry.{idleCore, Tables, tables, nameRows, instanceRows, nameRoom, linesIndex, startedIndex, namesIndex, coresIndex, instancesIndex}
+use Rattle.tables.specs.Entry.{idleCore, Tables, tables, storeAt, firstNumberColumn, numberedAt, nameRows, instanceRows, nameRoom, linesIndex, startedIndex, namesIndex, coresIndex, instancesIndex}
 use Rattle.tables.specs.Entry.{lineCount, startedEntry, nameCount, coreCount, instanceCount, firstTime}
 use Rattle.tables.specs.Sized.{Sized}
 use Rattle.tables.proofs.Stores.{other}
 use Rattle.tables.proofs.Sizes.{sizes-mean}
 use Rattle.lookup.specs.declared.look.LookedUp.{LookedUp}
 use Rattle.lookup.specs.LookedUp.{newCore, newName, newInstance}
-use Rattle.store.specs.Store.{coreRow, targetRow, instanceRow, storeName, storeRow, storeSums, storeInstance, storeStanding, storeHolder, storeNumber}
+use Rattle.store.specs.Store.{coreRow, targetRow, instanceRow, storeName, storeRow, storeSums, storeInstance, storeStanding, storeHolder, storeNumber, storeActivation}
 use Rattle.store.specs.Store.{takenNames, withRows, withTarget, withCore, withCounts, takenNums, settled, withTimes, withSums, takenTicks}
 use Rattle.store.specs.Store.{takenTables, stored}
 
@@ -132,6 +132,14 @@ pub length-storeNumber : (nums : List ℕ) (i n : ℕ) → length (storeNumber n
 unfolding storeNumber
 length-storeNumber nums i n = length-cond (ltb i nameRows) _ nums (simp length-set) refl
 
+-- with the first number, where there is none yet
+pub length-first : (nums : List ℕ) (i n : ℕ) → length (cond (eqb (numberedAt nums i) 0) (storeAt firstNumberColumn nums i n) nums) ≡ length nums
+length-first nums i n = length-cond (eqb (numberedAt nums i) 0) (storeAt firstNumberColumn nums i n) nums (length-set nums _ n) refl
+
+pub length-storeActivation : (nums : List ℕ) (i n : ℕ) → length (storeActivation nums i n) ≡ length nums
+unfolding storeActivation
+length-storeActivation nums i n = length-cond (ltb i nameRows) _ nums (length-storeNumber _ i n ∙ length-first nums i n) refl
+
 pub length-takenNames : (names nums : List ℕ) (s : LookedUp) (kind : ℕ) (source target : List ℕ)
     → length (takenNames names nums s kind source target) ≡ length names
 unfolding takenNames
@@ -159,8 +167,8 @@ unfolding withTarget
 length-withTarget nums i j t kind word n c =
     length-cond (eqb kind semaphore) (storeNumber (storeStanding nums i t) i c) _
     (length-storeNumber (storeStanding nums i t) i c ∙ length-storeStanding nums i t)
-    (length-two (hasInstances kind) (activates kind word) (λ m. storeNumber m i n) _ nums
-    (λ m. length-storeNumber m i n)
+    (length-two (hasInstances kind) (activates kind word) (λ m. storeActivation m i n) _ nums
+    (λ m. length-storeActivation m i n)
     (length-storeInstance nums j i n t))
 
 pub length-withCore : (nums : List ℕ) (class i p n : ℕ) → length (withCore nums class i p n) ≡ length nums

@@ -11,8 +11,8 @@ use Rattle.rules.specs.Core.{no-core, takes-core, gives-core}
 use Rattle.rules.specs.Event.{Event}
 use Rattle.rules.specs.History.{hasInstances, activates}
 use Rattle.tables.specs.Entry.{Tables, tables, storeAt, nameRows, instanceRows, nameRoom, linesIndex, startedIndex, namesIndex, coresIndex, instancesIndex, firstIndex, lastIndex}
-use Rattle.tables.specs.Entry.{kindColumn, lengthColumn, standingColumn, numberColumn, numberedColumn, ownerColumn, instanceColumn, stateColumn, heldColumn, idleColumn, unknownColumn, sinceColumn}
-use Rattle.tables.specs.Entry.{idleCore, heldBy, lineCount, startedEntry, nameCount, coreCount, instanceCount, firstTime, heldAt, idleAt, sinceAt}
+use Rattle.tables.specs.Entry.{kindColumn, lengthColumn, standingColumn, numberColumn, numberedColumn, firstNumberColumn, ownerColumn, instanceColumn, stateColumn, heldColumn, idleColumn, unknownColumn, sinceColumn}
+use Rattle.tables.specs.Entry.{idleCore, heldBy, lineCount, startedEntry, nameCount, coreCount, instanceCount, numberedAt, firstTime, heldAt, idleAt, sinceAt}
 use Rattle.tables.specs.Sized.{isSized}
 use Rattle.lookup.specs.declared.find.Found.{Found}
 use Rattle.lookup.specs.declared.find.Found.the-variants.{At, Nothing}
@@ -36,7 +36,7 @@ instanceRow nums s = rowOr (s .instance) (instanceCount nums)
 
 -- ---- single stores
 
--- a new name: its bytes, its kind and length, no state, no number
+-- a new name: its bytes, its kind and length, no state, no numbers
 unfoldable pub storeName : List ℕ → ℕ → List ℕ → List ℕ
 storeName names i name = cond (ltb i nameRows) (put names (nameRoom * i) name .output) names
 
@@ -44,7 +44,7 @@ unfoldable pub storeRow : List ℕ → ℕ → ℕ → ℕ → List ℕ
 storeRow nums i kind n =
     cond (ltb i nameRows)
     (let one = storeAt lengthColumn (storeAt kindColumn nums i kind) i (n % 2 ^ 32) in
-    storeAt numberedColumn (storeAt numberColumn (storeAt standingColumn one i 0) i 0) i 0)
+    storeAt firstNumberColumn (storeAt numberedColumn (storeAt numberColumn (storeAt standingColumn one i 0) i 0) i 0) i 0)
     nums
 
 -- a new name's ticks: none held or idle, and for a core those before it was tracked unknown
@@ -69,6 +69,11 @@ storeHolder nums i p n = cond (ltb i nameRows && ltb p nameRows) (storeAt number
 unfoldable pub storeNumber : List ℕ → ℕ → ℕ → List ℕ
 storeNumber nums i n = cond (ltb i nameRows) (storeAt numberedColumn (storeAt numberColumn nums i n) i 1) nums
 
+-- the number of an activation or start: the last one, and where there was none the first
+unfoldable pub storeActivation : List ℕ → ℕ → ℕ → List ℕ
+storeActivation nums i n =
+    cond (ltb i nameRows) (storeNumber (cond (eqb (numberedAt nums i) 0) (storeAt firstNumberColumn nums i n) nums) i n) nums
+
 -- ---- the three tables after an event line
 
 unfoldable pub takenNames : List ℕ → List ℕ → LookedUp → ℕ → List ℕ → List ℕ → List ℕ
@@ -87,7 +92,7 @@ unfoldable pub withTarget : List ℕ → ℕ → ℕ → ℕ → ℕ → ℕ →
 withTarget nums i j t kind word n c =
     cond (eqb kind semaphore) (storeNumber (storeStanding nums i t) i c)
     (let one = cond (hasInstances kind) (storeInstance nums j i n t) nums in
-    cond (activates kind word) (storeNumber one i n) one)
+    cond (activates kind word) (storeActivation one i n) one)
 
 -- "make it held" by the instance n of the process in row p, "make it idle": an idle core's number stays as it was, and nothing looks at it
 unfoldable pub withCore : List ℕ → ℕ → ℕ → ℕ → ℕ → List ℕ

@@ -2,7 +2,7 @@
 ghost use mathlib.Core.Path.{_≡_};
 ghost use lib.ListN.{length};
 ghost use Rattle.tables.specs.Entry.{namesSize, numsSize, ticksSize};
-ghost use Rattle.store.specs.Store.{storeName, storeRow, storeSums, storeInstance, storeStanding, storeHolder, storeNumber};
+ghost use Rattle.store.specs.Store.{storeName, storeRow, storeSums, storeInstance, storeStanding, storeHolder, storeNumber, storeActivation};
 use tables::entry::*;
 use text::put::put_bytes;
 
@@ -30,6 +30,7 @@ pub(crate) fn store_row(nums: &mut [u32], i: usize, kind: u32, n: usize)
     nums[STANDING + i] = 0;
     nums[NUMBER + i] = 0;
     nums[NUMBERED + i] = 0;
+    nums[FIRST_NUMBER + i] = 0;
 }
 
 // The ticks of a new name.
@@ -98,4 +99,18 @@ pub(crate) fn store_number(nums: &mut [u32], i: usize, n: u32)
     }
     nums[NUMBER + i] = n;
     nums[NUMBERED + i] = 1;
+}
+
+// The number of an activation or start, the first one too.
+pub(crate) fn store_activation(nums: &mut [u32], i: usize, n: u32)
+    requires { ⌜ length (now nums) ≡ numsSize ⌝ }
+    ensures { λ _. ⌜ now (nums .exit) ≡ storeActivation (now (nums .entry)) i n ⌝ }
+{
+    if NAME_ROWS <= i {
+        return;
+    }
+    if nums[NUMBERED + i] == 0 {
+        nums[FIRST_NUMBER + i] = n;
+    }
+    store_number(nums, i, n);
 }

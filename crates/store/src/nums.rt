@@ -4,6 +4,7 @@ ghost use lib.ListN.{length};
 ghost use Rattle.rules.specs.Lines.{eventFrom};
 ghost use Rattle.tables.specs.Entry.{numsSize};
 ghost use Rattle.store.specs.Store.{withRows, withTarget, withCore, withCounts, takenNums};
+use crate::entries::store_activation;
 use crate::entries::store_holder;
 use crate::entries::store_instance;
 use crate::entries::store_number;
@@ -58,7 +59,7 @@ fn store_target(
         store_instance(nums, j, i, number, state);
     }
     if numbers_instance(kind, word) {
-        store_number(nums, i, number);
+        store_activation(nums, i, number);
     }
 }
 

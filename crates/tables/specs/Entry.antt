@@ -80,7 +80,7 @@ abbrev pub instancesIndex : ℕ
 instancesIndex = 9
 
 -- by name: its kind, its length, its state (a core's or a semaphore's), its last number or count (of a core the number of the instance that holds it),
--- and whether it has a last one
+-- whether it has a last one, and its first number
 abbrev pub kindColumn : Column
 kindColumn = column 10 nameRows
 
@@ -96,6 +96,9 @@ numberColumn = column (past standingColumn) nameRows
 abbrev pub numberedColumn : Column
 numberedColumn = column (past numberColumn) nameRows
 
+abbrev pub firstNumberColumn : Column
+firstNumberColumn = column (past numberedColumn) nameRows
+
 -- what a core's state says: idle, or held by an instance of the name in row p; 0 is unknown, the state of none yet
 abbrev pub idleCore : ℕ
 idleCore = 1
@@ -108,7 +111,7 @@ heldBy p = p + heldFrom
 
 -- by instance: the row of its name, its number, its state
 abbrev pub ownerColumn : Column
-ownerColumn = column (past numberedColumn) instanceRows
+ownerColumn = column (past firstNumberColumn) instanceRows
 
 abbrev pub instanceColumn : Column
 instanceColumn = column (past ownerColumn) instanceRows
@@ -183,7 +186,8 @@ coreCount nums = getD nums coresIndex 0
 abbrev pub instanceCount : List ℕ → ℕ
 instanceCount nums = getD nums instancesIndex 0
 
--- ---- columns of nums by name: its kind, its length, its state (a core's or a semaphore's), its last number or count, and whether it has one
+-- ---- columns of nums by name: its kind, its length, its state (a core's or a semaphore's), its last number or count, whether it has one, and its first
+-- number
 
 abbrev pub kindAt : List ℕ → ℕ → ℕ
 kindAt = entryAt kindColumn
@@ -199,6 +203,9 @@ numberAt = entryAt numberColumn
 
 abbrev pub numberedAt : List ℕ → ℕ → ℕ
 numberedAt = entryAt numberedColumn
+
+abbrev pub firstNumberAt : List ℕ → ℕ → ℕ
+firstNumberAt = entryAt firstNumberColumn
 
 -- ---- columns of nums by instance: the row of its name, its number, its state
 

@@ -43,13 +43,15 @@ pub const NUMBER: usize = STANDING + NAME_ROWS;
 
 pub const NUMBERED: usize = NUMBER + NAME_ROWS;
 
+pub const FIRST_NUMBER: usize = NUMBERED + NAME_ROWS;
+
 // a core's state: idle, or the row of its holder's name and so many more; 0 is unknown
 pub const IDLE_CORE: u32 = 1;
 
 pub const HELD_FROM: u32 = 2;
 
 // columns of nums with an entry for each of 1,024 instances
-pub const OWNER: usize = NUMBERED + NAME_ROWS;
+pub const OWNER: usize = FIRST_NUMBER + NAME_ROWS;
 
 pub const INSTANCE: usize = OWNER + INSTANCE_ROWS;
 

@@ -29,49 +29,71 @@ off-chart c =
     let k = c .before .before in
     rw (← (k .before .state-in .ensures), ← (k .chart-step .ensures), c .enum-told .given .1)
 
-number-refused : tie.Need-returns-2
+activation-refused : tie.Need-returns-2
+unfolding stepsPlan
+activation-refused c =
+    let v = c .before in
+    rw (step-is (v .before .before), ← (v .never-activated .ensures), c .if1 .taken)
+
+number-refused : tie.Need-returns-3
 unfolding stepsPlan
 number-refused c =
     let n = c .before in
-    rw (step-is (n .before .before), ← (n .not-next .ensures), c .if1 .taken)
+    let v = n .before .before in
+    rw (step-is (v .before .before), ← (v .never-activated .ensures), n .before .if1 .left, ← (n .not-next .ensures), c .if2 .taken)
 
-core-refused : tie.Need-returns-3
+core-refused : tie.Need-returns-4
 unfolding stepsPlan
 core-refused c =
     let d = c .before .before in
     let n = d .before in
-    rw (step-is (n .before .before), ← (n .not-next .ensures), d .if1 .left, ← (c .before .core-broken .ensures), c .if2 .taken)
+    let v = n .before .before in
+    rw (
+      step-is (v .before .before),
+      ← (v .never-activated .ensures),
+      n .before .if1 .left,
+      ← (n .not-next .ensures),
+      d .if2 .left,
+      ← (c .before .core-broken .ensures),
+      c .if3 .taken,
+    )
 
-count-refused : tie.Need-returns-4
+count-refused : tie.Need-returns-5
 unfolding stepsPlan
 count-refused c =
     let e = c .before .before in
     let d = e .before .before in
     let n = d .before in
+    let v = n .before .before in
     rw (
-      step-is (n .before .before),
+      step-is (v .before .before),
+      ← (v .never-activated .ensures),
+      n .before .if1 .left,
       ← (n .not-next .ensures),
-      d .if1 .left,
+      d .if2 .left,
       ← (e .before .core-broken .ensures),
-      e .if2 .left,
+      e .if3 .left,
       ← (c .before .count-broken .ensures),
-      c .if3 .taken,
+      c .if4 .taken,
     )
 
-taken : tie.Need-returns-5
+taken : tie.Need-returns-6
 unfolding stepsPlan
 taken c =
     let e = c .before .before in
     let d = e .before .before in
     let n = d .before in
+    let v = n .before .before in
     rw (
-      step-is (n .before .before),
+      step-is (v .before .before),
+      ← (v .never-activated .ensures),
+      n .before .if1 .left,
       ← (n .not-next .ensures),
-      d .if1 .left,
+      d .if2 .left,
       ← (e .before .core-broken .ensures),
-      e .if2 .left,
+      e .if3 .left,
       ← (c .before .count-broken .ensures),
-      c .if3 .left,
+      c .if4 .left,
     )
 
 pub decide-steps-spec : {M : Type 1} → statement M
@@ -83,6 +105,8 @@ decide-steps-spec =
     (λ c. search needs)
     (λ c. search needs)
     off-chart
+    (λ c κs. search needs)
+    activation-refused
     (λ c κs. search needs)
     number-refused
     (λ c κs. search needs)

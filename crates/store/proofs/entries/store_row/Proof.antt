@@ -1,4 +1,4 @@
--- `store::entries::store_row` meets its contract: five stores where the row is one of a name.
+-- `store::entries::store_row` meets its contract: six stores where the row is one of a name.
 use native.Mathlib.Omega.{arith}
 use lib.ListN.{length-set}
 use borrow.Author.Tests.{le-ltb, lt-ltb}
@@ -23,6 +23,9 @@ number-inside c = simp length-set (omega arith)
 
 numbered-inside : tie.Need-slice-write-nums-5
 numbered-inside c = simp length-set (omega arith)
+
+first-inside : tie.Need-slice-write-nums-6
+first-inside c = simp length-set (omega arith)
 
 a-row : tie.Need-returns-2
 unfolding storeRow
@@ -49,5 +52,8 @@ store-row-spec =
     (λ c. search needs)
     (λ c. search needs)
     numbered-inside
+    (λ c. search needs)
+    (λ c. search needs)
+    first-inside
     (λ c. search needs)
     a-row)

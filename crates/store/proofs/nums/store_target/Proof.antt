@@ -47,7 +47,7 @@ counted c =
     let s = stood n in
     rw (eq-eqb _ semaphore (s .before .before .if1 .taken)) (rw (s .store-standing .ensures) at (n .store-number .ensures))
 
-still-sized : tie.Need-store-number-requires-2
+still-sized : tie.Need-store-activation-requires
 still-sized c κs = let j = c .before .before .before in as-long j ∙ start j .pre
 
 numbered : tie.Need-returns-2
@@ -57,7 +57,7 @@ numbered c =
     let t = s .before .before in
     let n = t .before in
     rw (ne-eqb _ semaphore (other (n .before) .if1 .left), sym (n .numbers-instance .ensures) ∙ t .if3 .taken)
-    (rw (first (n .before)) at (s .store-number2 .ensures))
+    (rw (first (n .before)) at (s .store-activation .ensures))
 
 numbered-kept : tie.Need-same-length-2
 numbered-kept c = ap length (numbered c) ∙ length-withTarget _ _ _ _ _ _ _ _
