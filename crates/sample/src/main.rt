@@ -3,7 +3,7 @@ use bundle::container::say_all;
 use libc::STDIN_FILENO;
 
 fn main() {
-    let mut input = [0u8; 131072];
+    let mut input = [0u8; 262144];
     let n = io::read_full(STDIN_FILENO, &mut input);
     say_all(&input[..n]);
 }

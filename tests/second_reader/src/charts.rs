@@ -79,6 +79,7 @@ pub fn is_chart_event(target_type: TargetType, event: &str) -> bool {
 ///
 /// "An entity starts in any state (000): its first chart event is taken from
 /// the state or states that event leaves." So no known state allows each event.
+/// Which first events document 02, No. 5, takes back is told in `refusals.rs`.
 pub fn next_state(target_type: TargetType, known: Option<State>, event: &str) -> Option<State> {
     chart_of(target_type)
         .iter()

@@ -39,6 +39,8 @@ pub struct History {
     /// The number of the last activate, mtalimitexceeded or runnable start of
     /// the name at this place.
     pub series: BTreeMap<usize, u32>,
+    /// The number of the first of them, which never changes.
+    pub first_activations: BTreeMap<usize, u32>,
     /// Missing until the semaphore's first chart event.
     pub semaphore_states: BTreeMap<usize, State>,
     /// "c is the note of the semaphore's last line."
@@ -78,7 +80,8 @@ pub fn has_instance(line: &EventLine) -> bool {
 }
 
 /// "a second or later activate or mtalimitexceeded of one process, or start of
-/// one runnable": the lines that count instance numbers up.
+/// one runnable": the lines that count instance numbers up. They activate their
+/// instance; "interrupt_suspended and a process's start don't activate".
 pub fn is_in_series(line: &EventLine) -> bool {
     if is_process(line.target_type) {
         line.event == "activate" || line.event == "mtalimitexceeded"
@@ -141,6 +144,19 @@ impl History {
         self.series.get(&self.place_of(&line.target)?).copied()
     }
 
+    /// The f of document 02, No. 5: "an activate or mtalimitexceeded numbered
+    /// f", or a start of a runnable, the first one of the line's target.
+    pub fn first_activation(&self, line: &EventLine) -> Option<u32> {
+        self.first_activations.get(&self.place_of(&line.target)?).copied()
+    }
+
+    /// The instances of the line's target that have been seen. "Seen": target
+    /// of a T or I line (R line, for a runnable), whatever became of it.
+    pub fn numbers_seen(&self, line: &EventLine) -> Vec<u32> {
+        let Some(place) = self.place_of(&line.target) else { return Vec::new() };
+        self.instances.keys().filter(|id| id.name_place == place).map(|id| id.number).collect()
+    }
+
     pub fn last_count(&self, line: &EventLine) -> Option<u32> {
         self.semaphore_counts.get(&self.place_of(&line.target)?).copied()
     }
@@ -196,6 +212,7 @@ impl History {
     fn count_up_series(&mut self, line: &EventLine) {
         if let (true, Some(place)) = (is_in_series(line), self.place_of(&line.target)) {
             self.series.insert(place, line.target_instance);
+            self.first_activations.entry(place).or_insert(line.target_instance);
         }
     }
 

@@ -119,10 +119,11 @@ impl Judge {
             return Err(4);
         }
         let line = read_event_line(line)?;
-        if let Some(number) = lowest_refusal(&self.history, &line) {
+        let refused = lowest_refusal(&self.history, &line);
+        self.ways.note(&self.history, &line, refused);
+        if let Some(number) = refused {
             return Err(number);
         }
-        self.ways.note(&self.history, &line);
         self.history.take(&line);
         Ok(())
     }

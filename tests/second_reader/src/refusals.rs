@@ -63,15 +63,25 @@ pub fn line_does_not_fit(history: &History, line: &EventLine) -> bool {
         || history.instances.len() + added_instances > MOST_INSTANCES
 }
 
-/// Answer 11: "chart step not allowed".
+/// Answer 11: "chart step not allowed". An instance that was never activated
+/// has no state that a first event could be taken from.
 pub fn chart_step_is_not_allowed(history: &History, line: &EventLine) -> bool {
-    is_chart_event(line.target_type, line.event)
-        && next_state(line.target_type, history.state_of(line), line.event).is_none()
+    let step_is_missing = is_chart_event(line.target_type, line.event)
+        && next_state(line.target_type, history.state_of(line), line.event).is_none();
+    step_is_missing || was_never_activated(history, line)
+}
+
+/// Document 02, No. 5: "Once a process has had an activate or mtalimitexceeded
+/// numbered f, a non-activating first event of an instance numbered f or more
+/// is 11." And: "Runnables the same, with start."
+pub fn was_never_activated(history: &History, line: &EventLine) -> bool {
+    let is_first_event = history.instance_is_new(line) && !is_in_series(line);
+    is_first_event && history.first_activation(line).is_some_and(|first| line.target_instance >= first)
 }
 
 /// Answer 12: "instance number not the next". "a second or later activate or
 /// mtalimitexceeded of one process, or start of one runnable, bears the number
-/// of the one before plus 1. The first may bear any number."
+/// of the one before plus 1."
 pub fn instance_number_is_not_the_next(history: &History, line: &EventLine) -> bool {
     if !is_in_series(line) {
         return false;
@@ -79,8 +89,15 @@ pub fn instance_number_is_not_the_next(history: &History, line: &EventLine) -> b
     match history.last_in_series(line) {
         // Wider numbers: after 4,294,967,295 there is no next one.
         Some(last) => u64::from(line.target_instance) != u64::from(last) + 1,
-        None => false,
+        None => is_not_above_all_seen(history, line),
     }
+}
+
+/// Of a first activation. Document 01: "The first may bear any number"; now
+/// document 02, No. 5: "The first activate or mtalimitexceeded must bear a
+/// number above all seen of that process, else 12."
+pub fn is_not_above_all_seen(history: &History, line: &EventLine) -> bool {
+    history.numbers_seen(line).into_iter().any(|seen| line.target_instance <= seen)
 }
 
 /// Answer 13: "core rule broken".

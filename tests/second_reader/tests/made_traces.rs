@@ -42,8 +42,8 @@ fn every_way_comes_often() {
 
 #[test]
 fn a_trace_can_be_made_again() {
-    for index in 0..48 {
+    for index in 0..50 {
         assert_eq!(make_trace(9, index).bytes, make_trace(9, index).bytes);
-        assert_ne!(make_trace(9, index).bytes, make_trace(9, index + 24).bytes);
+        assert_ne!(make_trace(9, index).bytes, make_trace(9, index + 25).bytes);
     }
 }

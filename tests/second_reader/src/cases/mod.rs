@@ -2,6 +2,7 @@
 //! the documents, never copied from a run.
 
 mod listings;
+mod old_instances;
 mod readings;
 mod requests;
 mod scope;

@@ -1,5 +1,5 @@
 //! The doubtful points of document 01, as they were settled: every row of the
-//! table of readings.
+//! table of readings but the one that fell with a request of document 02.
 
 use super::{accepted, after_prelude, refused, Case, EMPTY_SHEET, PRELUDE};
 
@@ -191,12 +191,6 @@ fn processes() -> Vec<Case> {
             &["cores 1", "C 0 0 0", "processes 1", "A 0"],
         ),
         two("reading-activate-3-twice", "0,S,0,T,A,3,activate", "0,S,0,T,A,3,activate", 11),
-        accepted(
-            "reading-each-instance-starts-anywhere",
-            after_prelude(&["0,S,0,T,A,3,activate", "0,C,0,T,A,4,resume"]),
-            0,
-            &["cores 1", "C 0 0 0", "processes 1", "A 0"],
-        ),
     ]
 }
 

@@ -1,9 +1,11 @@
 //! Document 02: the requests that have landed, and what was settled about them.
 
-use super::{accepted, after_prelude, refused, Case, EMPTY_SHEET};
+use super::{accepted, after_prelude, old_instances, refused, Case, EMPTY_SHEET};
 
 pub fn cases() -> Vec<Case> {
-    third_waiter()
+    let mut cases = third_waiter();
+    cases.extend(old_instances::cases());
+    cases
 }
 
 /// No. 1: "The chart row in 01 becomes: overfull FULL or OVERFULL→OVERFULL."

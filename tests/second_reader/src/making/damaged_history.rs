@@ -3,6 +3,7 @@
 
 use super::draft::EventText;
 use super::entity::Entity;
+use super::old_instances;
 use super::random::Random;
 use super::steps::{
     all_process_steps, all_runnable_steps, all_semaphore_steps, count_is_right, needs_own_core,
@@ -87,8 +88,12 @@ fn line_of_other_kind(random: &mut Random, time: u64, name: &str, kind: &str) ->
     }
 }
 
-/// Aim 11: a step that the chart doesn't have from the known state.
+/// Aim 11: a step that the chart doesn't have from the known state, or a first
+/// event of an instance that was never activated.
 pub fn wrong_step(random: &mut Random) -> Vec<u8> {
+    if random.chance(45) {
+        return old_instances::never_activated(random);
+    }
     let mut story = Story::some_events(random);
     let line = match random.below(4) {
         0 => {
@@ -152,8 +157,12 @@ fn wrong_semaphore_step(random: &mut Random, world: &World) -> EventText {
     EventText::new(world.time, name, ("SEM", event), name).with_note(&count.to_string())
 }
 
-/// Aim 12: an instance number that isn't the next one of its series.
+/// Aim 12: an instance number that isn't the next one of its series, or that
+/// begins the series too low.
 pub fn wrong_number(random: &mut Random) -> Vec<u8> {
+    if random.chance(45) {
+        return old_instances::low_activation(random);
+    }
     let mut story = Story::some_events(random);
     let runnables = random.chance(35);
     let entities = |world: &World| if runnables { world.runnables.clone() } else { world.processes.clone() };
@@ -192,12 +201,12 @@ pub fn wrong_core(random: &mut Random) -> Vec<u8> {
     let mut story = Story::some_events(random);
     story.until(random, |world| world.cores.iter().any(|core| core.holder.is_some()));
     let world = &story.world;
-    let line = match random.below(4) {
-        0 => new_instance_on_wrong_core(random, world),
-        1 => known_instance_takes_held_core(random, world)
-            .unwrap_or_else(|| new_instance_on_wrong_core(random, world)),
-        _ => known_instance_on_other_core(random, world),
+    let drawn = match random.below(4) {
+        0 | 1 => new_instance_on_wrong_core(random, world),
+        2 => known_instance_takes_held_core(random, world),
+        _ => None,
     };
+    let line = drawn.unwrap_or_else(|| known_instance_on_other_core(random, world));
     story.finish_with_damage(random, line.line())
 }
 
@@ -207,19 +216,16 @@ fn held_core(random: &mut Random, world: &World) -> String {
     random.pick(&held).to_string()
 }
 
-/// A first event on a held core, or one of the six on any tracked core.
-fn new_instance_on_wrong_core(random: &mut Random, world: &World) -> EventText {
+/// A first event of an old instance on a held core, or one of the six on any
+/// tracked core.
+fn new_instance_on_wrong_core(random: &mut Random, world: &World) -> Option<EventText> {
     let entity = &world.processes[random.below(world.processes.len())];
-    let number = loop {
-        if let Some(number) = entity.unused_number(random) {
-            break number;
-        }
-    };
+    let number = entity.old_number(random)?;
     let event = random.pick(&["start", "resume", "poll_parking", "preempt", "wait", "park", "terminate", "poll", "run"]);
     let tracked: Vec<&str> =
         world.cores.iter().filter(|core| core.tracked).map(|core| core.name.as_str()).collect();
     let core = if takes_core(event) { held_core(random, world) } else { random.pick(&tracked).to_string() };
-    EventText::new(world.time, (&core, 0), (entity.type_word, event), (&entity.name, number))
+    Some(EventText::new(world.time, (&core, 0), (entity.type_word, event), (&entity.name, number)))
 }
 
 /// ACTIVE, READY or PARKING instances want a core that another one holds.

@@ -9,6 +9,9 @@ pub const NAMES: usize = 256;
 pub const CORES: usize = 64;
 pub const INSTANCES: usize = 1_024;
 
+/// The number that processes are activated with.
+pub const ACTIVATED: u32 = 1_000;
+
 pub const CORE_EVENTS: [&str; 9] =
     ["start", "resume", "poll_parking", "preempt", "wait", "park", "terminate", "poll", "run"];
 
@@ -122,8 +125,9 @@ impl Filling {
         self.names += 1;
         self.instances += 1;
         self.pass_time(random);
-        let event = random.pick(&["activate", "release", "release_parking"]);
-        self.add(&EventText::new(self.time, ("S", 0), (type_word, event), (&name, 0)));
+        // The activated one is newer than those that get a core of their own.
+        let (event, number) = *random.pick(&[&("activate", ACTIVATED), &("release", 0), &("release_parking", 0)]);
+        self.add(&EventText::new(self.time, ("S", 0), (type_word, event), (&name, number)));
         self.processes.push((name, type_word));
     }
 

@@ -2,7 +2,7 @@
 //! or one past it.
 
 use super::draft::EventText;
-use super::filling::{Filling, CORES, CORE_EVENTS, INSTANCES, NAMES};
+use super::filling::{Filling, ACTIVATED, CORES, CORE_EVENTS, INSTANCES, NAMES};
 use super::names::name_of_length;
 use super::random::Random;
 use super::Made;
@@ -176,14 +176,15 @@ fn new_core_and_process(random: &mut Random, filling: &mut Filling) -> EventText
     EventText::new(filling.time, (&core, 0), what, (&process, 0))
 }
 
-/// A new instance of a known or new process or runnable. Its number may be out
-/// of series, or its core held.
+/// A new instance of a known or new process or runnable. It may never have been
+/// activated, its number may be out of series, or its core held.
 fn one_instance_too_many(random: &mut Random, filling: &mut Filling) -> EventText {
     let time = filling.time;
     let core = filling.any_core(random).unwrap_or_else(|| "C".to_string());
     if let Some((name, type_word)) = filling.any_process(random).filter(|_| random.chance(60)) {
         let event = random.pick(&["release", "activate", "start", "preempt", "run"]);
-        return EventText::new(time, (&core, 0), (type_word, event), (&name, 77));
+        let number = *random.pick(&[&77, &(ACTIVATED + 1)]);
+        return EventText::new(time, (&core, 0), (type_word, event), (&name, number));
     }
     let name = filling.new_name(random);
     let what = *random.pick(&[&("R", "start"), &("R", "resume"), &("T", "activate"), &("I", "start"), &("I", "poll")]);

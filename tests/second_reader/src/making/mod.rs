@@ -12,6 +12,7 @@ mod entity;
 mod filling;
 mod full_tables;
 mod names;
+mod old_instances;
 mod prelude;
 mod queues;
 pub mod random;
@@ -45,7 +46,7 @@ impl Made {
 
 /// The kinds of traces take turns instead of being drawn, so that each number
 /// comes often in a short run too.
-const TURNS: u64 = 24;
+const TURNS: u64 = 25;
 
 pub fn make_trace(seed: u64, index: u64) -> Made {
     let random = &mut Random::new(seed, index);
@@ -53,10 +54,11 @@ pub fn make_trace(seed: u64, index: u64) -> Made {
         number @ 1..=14 => damaged(random, number as u8),
         15..=17 | 0 => Made::aimed(0, valid(random)),
         18 => queues::make(random),
-        19 => at_limits::make(random),
-        20 => full_tables::make(random),
-        21 => boundaries::make(random),
-        22 => wild::make_mixed(random),
+        19 => old_instances::make(random),
+        20 => at_limits::make(random),
+        21 => full_tables::make(random),
+        22 => boundaries::make(random),
+        23 => wild::make_mixed(random),
         _ => wild::make_blind(random),
     }
 }

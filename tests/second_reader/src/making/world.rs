@@ -72,7 +72,7 @@ impl World {
         }
     }
 
-    fn let_time_pass(&mut self, random: &mut Random) {
+    pub fn let_time_pass(&mut self, random: &mut Random) {
         let most = *random.pick(&[&0, &0, &1, &100, &100, &100, &1_000_000, &(1 << 40), &(1 << 50)]);
         let step = random.between(0, most);
         self.time = (self.time + step).min(LATEST);

@@ -33,7 +33,7 @@ impl World {
     }
 
     /// What may happen to the instances that have been seen.
-    fn next_choices(&self, process: usize) -> Vec<Choice> {
+    pub fn next_choices(&self, process: usize) -> Vec<Choice> {
         let entity = &self.processes[process];
         let mut choices = Vec::new();
         for &(number, state) in &entity.instances {
@@ -49,12 +49,13 @@ impl World {
     }
 
     /// What may happen to an instance that is seen for the first time: every
-    /// event, since it may have been in any state.
-    fn first_choices(&self, process: usize, number: u32) -> Vec<Choice> {
+    /// event if it is old, since it may have been in any state; else only its
+    /// activation.
+    pub fn first_choices(&self, process: usize, number: u32) -> Vec<Choice> {
         let entity = &self.processes[process];
         all_process_steps(entity.type_word)
             .into_iter()
-            .filter(|step| !counts_up(step.0) || entity.may_be_next(number))
+            .filter(|step| entity.may_be_new(number, counts_up(step.0)))
             .flat_map(|step| self.on_cores(process, number, step, |core| !core.tracked))
             .collect()
     }
@@ -84,7 +85,7 @@ impl World {
         let entity = &mut self.processes[choice.process];
         entity.set_state(choice.number, state);
         if counts_up(event) {
-            entity.last = Some(choice.number);
+            entity.count_up(choice.number);
         }
         let (target, kind) = (entity.name.clone(), entity.type_word);
         if let Some(place) = choice.core {
@@ -116,10 +117,13 @@ impl World {
         Some(self.tell_process_event(random, &choice))
     }
 
-    /// A new instance, started on a core that nobody holds.
+    /// An instance that was activated, or else an old one, started on a core
+    /// that nobody holds.
     pub fn start(&mut self, random: &mut Random) -> Option<EventText> {
         let process = random.below(self.processes.len());
-        let number = self.processes[process].unused_number(random)?;
+        let entity = &self.processes[process];
+        let active = entity.instances.iter().find(|(_, state)| *state == "ACTIVE");
+        let number = active.map(|(number, _)| *number).or_else(|| entity.old_number(random))?;
         let core = (0..self.cores.len()).find(|&core| self.cores[core].holder.is_none());
         core?;
         let choice = Choice { process, number, step: ("start", "RUNNING"), core };

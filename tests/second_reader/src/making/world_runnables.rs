@@ -33,7 +33,7 @@ impl World {
         let entity = &mut self.runnables[runnable];
         entity.set_state(number, state);
         if event == "start" {
-            entity.last = Some(number);
+            entity.count_up(number);
         }
         let target = entity.name.clone();
         let source = self.any_name(random);
@@ -42,23 +42,20 @@ impl World {
     }
 }
 
-fn is_free_to_come(entity: &Entity, number: u32, step: Step) -> bool {
-    step.0 != "start" || entity.may_be_next(number)
-}
-
-fn next_choices(entity: &Entity) -> Vec<(u32, Step)> {
+pub fn next_choices(entity: &Entity) -> Vec<(u32, Step)> {
     let mut choices = Vec::new();
     for &(number, state) in &entity.instances {
         let steps = runnable_steps(state).into_iter();
-        choices.extend(steps.filter(|&step| is_free_to_come(entity, number, step)).map(|step| (number, step)));
+        let free = steps.filter(|step| step.0 != "start" || entity.may_be_next(number));
+        choices.extend(free.map(|step| (number, step)));
     }
     choices
 }
 
-fn first_choices(entity: &Entity, number: u32) -> Vec<(u32, Step)> {
+pub fn first_choices(entity: &Entity, number: u32) -> Vec<(u32, Step)> {
     all_runnable_steps()
         .into_iter()
-        .filter(|&step| is_free_to_come(entity, number, step))
+        .filter(|step| entity.may_be_new(number, step.0 == "start"))
         .map(|step| (number, step))
         .collect()
 }
