@@ -15,6 +15,14 @@ fn verdict(lines: &str) -> (u64, u64) {
     verdict_on(&format!("{PRELUDE}{lines}"))
 }
 
+/// The verdict if the number is given to the last of the lines.
+fn on_the_last(lines: &str, number: u64) -> (u64, u64) {
+    match number {
+        0 => (0, 0),
+        _ => (number, 3 + lines.matches('\n').count() as u64),
+    }
+}
+
 fn verdict_on(trace: &str) -> (u64, u64) {
     let text = answer(trace.as_bytes());
     let words: Vec<&str> = text.split_whitespace().collect();
@@ -82,8 +90,7 @@ fn single_lines() {
         ("#creator", 3),
         ("#version 2.2.0", 2),
     ] {
-        let wanted = if number == 0 { (0, 0) } else { (number, 3) };
-        assert_eq!(verdict(line), wanted, "{line:?}");
+        assert_eq!(verdict(line), on_the_last(line, number), "{line:?}");
     }
 }
 
@@ -97,7 +104,6 @@ fn two_lines() {
         ("0,S,0,T,A,3,activate\n0,S,0,T,A,3,activate", 11),
         ("0,S,0,T,A,3,activate\n0,S,0,T,A,9,mtalimitexceeded", 12),
         ("0,S,0,T,A,4294967295,activate\n0,S,0,T,A,0,activate", 12),
-        ("0,S,0,T,A,3,activate\n0,C,0,T,A,4,resume", 0),
         ("0,S,0,T,A,0,mtalimitexceeded\n0,C,0,T,A,0,start", 11),
         ("0,C,0,T,A,0,terminate\n0,C,0,T,A,0,preempt", 11),
         ("0,S,0,T,A,0,activate\n0,S,0,I,A,0,activate", 9),
@@ -111,8 +117,60 @@ fn two_lines() {
         ("0,A,0,SEM,A,0,used,2\n0,A,0,SEM,A,0,overfull,2", 11),
         ("0,S,0,STI,S,0,trigger\n#creator late", 3),
     ] {
-        let wanted = if number == 0 { (0, 0) } else { (number, 4) };
-        assert_eq!(verdict(lines), wanted, "{lines:?}");
+        assert_eq!(verdict(lines), on_the_last(lines, number), "{lines:?}");
+    }
+}
+
+/// Document 02, No. 5: the last line is refused, or none.
+#[test]
+fn instances_that_were_never_activated() {
+    for (lines, number) in [
+        ("0,S,0,T,A,4,activate\n0,C,0,T,A,9,resume", 11),
+        ("0,S,0,T,A,3,activate\n0,C,0,T,A,4,resume", 11),
+        ("0,S,0,T,A,4,activate\n0,C,0,T,A,3,resume", 0),
+        ("0,S,0,T,A,4,activate\n0,S,0,T,A,5,activate\n0,C,0,T,A,3,resume", 0),
+        ("0,S,0,T,A,4,activate\n0,S,0,T,A,5,activate\n0,C,0,T,A,6,resume", 11),
+        ("0,S,0,T,A,4,mtalimitexceeded\n0,C,0,T,A,9,release", 11),
+        ("0,S,0,T,A,4,mtalimitexceeded\n0,C,0,T,A,3,release", 0),
+        ("0,S,0,I,A,4,activate\n0,C,0,I,A,5,interrupt_suspended", 11),
+        ("0,S,0,I,A,4,activate\n0,C,0,I,A,3,interrupt_suspended", 0),
+        ("0,S,0,T,A,0,activate\n0,C,0,T,A,4294967295,resume", 11),
+        ("0,S,0,T,A,4294967295,activate\n0,C,0,T,A,4294967294,resume", 0),
+        ("0,C,0,T,A,4,start\n0,D,0,T,A,9,resume", 0),
+        ("0,S,0,T,A,4,activate\n0,C,0,T,B,9,resume", 0),
+        ("0,S,0,T,A,4,activate\n0,C,0,T,B,0,start\n0,C,0,T,A,9,resume", 11),
+        ("0,A,0,R,r,4,start\n0,A,0,R,r,5,resume", 11),
+        ("0,A,0,R,r,4,start\n0,A,0,R,r,3,resume", 0),
+        ("0,A,0,R,r,4,start\n0,A,0,R,q,5,resume", 0),
+    ] {
+        assert_eq!(verdict(lines), on_the_last(lines, number), "{lines:?}");
+    }
+}
+
+#[test]
+fn first_activations_above_all_seen() {
+    for (lines, number) in [
+        ("0,C,0,T,A,5,start\n0,S,0,T,A,5,activate", 11),
+        ("0,C,0,T,A,5,terminate\n0,S,0,T,A,5,activate", 12),
+        ("0,C,0,T,A,5,terminate\n0,S,0,T,A,5,mtalimitexceeded", 12),
+        ("0,C,0,T,A,5,start\n0,S,0,T,A,4,activate", 12),
+        ("0,C,0,T,A,5,start\n0,S,0,T,A,6,activate", 0),
+        ("0,C,0,T,A,5,start\n0,S,0,T,A,9,mtalimitexceeded", 0),
+        ("0,C,0,T,A,8,release\n0,C,0,T,A,5,release\n0,S,0,T,A,7,activate", 12),
+        ("0,C,0,T,A,8,release\n0,C,0,T,A,5,release\n0,S,0,T,A,9,activate", 0),
+        ("0,C,0,T,A,3,release\n0,S,0,T,A,4,activate\n0,S,0,T,A,5,activate", 0),
+        ("0,C,0,T,A,3,release\n0,S,0,T,A,4,activate\n0,S,0,T,A,6,activate", 12),
+        ("0,C,0,T,A,4294967295,release\n0,S,0,T,A,0,activate", 12),
+        ("0,C,0,I,A,5,interrupt_suspended\n0,S,0,I,A,5,activate", 11),
+        ("0,C,0,I,A,5,interrupt_suspended\n0,S,0,I,A,6,activate", 0),
+        ("0,C,0,T,A,9,resume\n0,S,0,T,B,4,activate", 0),
+        ("0,A,9,R,r,0,start\n0,S,0,T,A,4,activate", 0),
+        ("0,A,0,R,r,5,resume\n0,A,0,R,r,5,start", 11),
+        ("0,A,0,R,r,5,terminate\n0,A,0,R,r,5,start", 12),
+        ("0,A,0,R,r,5,resume\n0,A,0,R,r,4,start", 12),
+        ("0,A,0,R,r,5,resume\n0,A,0,R,r,6,start", 0),
+    ] {
+        assert_eq!(verdict(lines), on_the_last(lines, number), "{lines:?}");
     }
 }
 
@@ -133,6 +191,8 @@ fn sizes_at_their_limits() {
     let instances = |count: usize| (0..count).map(|n| format!("0,S,0,R,r,{n},start\n")).collect::<String>();
     assert_eq!(verdict(&instances(1024)), (0, 0));
     assert_eq!(verdict(&instances(1025)), (10, 1027));
+    let never_started = instances(1023) + "0,S,0,T,A,4,activate\n0,S,0,R,r,1023,resume\n";
+    assert_eq!(verdict(&never_started), (10, 1027));
     let cores = |count: usize| (0..count).map(|n| format!("0,C{n},0,T,A,{n},start\n")).collect::<String>();
     assert_eq!(verdict(&cores(64)), (0, 0));
     assert_eq!(verdict(&cores(65)), (10, 67));

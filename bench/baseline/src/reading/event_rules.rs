@@ -1,5 +1,6 @@
 //! The events of each type, and for each one all that document 01 demands of
-//! its lines, with document 02's requests (No. 1: overfull).
+//! its lines, with document 02's requests (No. 1: overfull). What depends on the
+//! lines before is in `history.rs`, No. 5 with it.
 
 /// The five kinds of tracked names.
 #[derive(Clone, Copy, Debug, PartialEq, Eq)]
@@ -47,7 +48,7 @@ pub struct Rule {
     pub leaves: States,
     pub enters: States,
     pub core: CoreUse,
-    /// Its instance number is the one before plus 1.
+    /// It activates its instance, whose number is the one before plus 1.
     pub series: bool,
     /// What is added, wrapping, to the count of the semaphore's line before.
     pub change: u64,

@@ -52,9 +52,7 @@ impl History {
         let row = event.target_name.and_then(|name| self.instances.find(name, event.instance));
         let known = Known { core: event.core_name, target: event.target_name, row };
         self.check_room(event, &known)?;
-        if row.is_some_and(|row| self.instances.rows[row].states & event.rule.leaves == 0) {
-            return Err(Refusal::Step);
-        }
+        self.check_step(event, &known)?;
         self.check_series(event)?;
         self.check_core(event, &known)?;
         self.store(bytes, event, kind, &known);
@@ -90,16 +88,39 @@ impl History {
         }
     }
 
-    /// 12: not the next number of its series.
+    /// 11: a step that the chart doesn't have. The first event of an instance may
+    /// be any step, unless the instance would have to have been activated: it is
+    /// no older than the first that was (02, No. 5).
+    #[inline(always)]
+    fn check_step(&self, event: &Event, known: &Known) -> Result<(), Refusal> {
+        let allowed = match (known.row, known.target) {
+            (Some(row), _) => self.instances.rows[row].states & event.rule.leaves != 0,
+            (None, Some(name)) => event.rule.series || event.instance < self.names.list[name].first,
+            (None, None) => true,
+        };
+        if allowed {
+            Ok(())
+        } else {
+            Err(Refusal::Step)
+        }
+    }
+
+    /// 12: not the next number of its series, or one that begins the series no
+    /// higher than all that were seen (02, No. 5).
     #[inline(always)]
     fn check_series(&self, event: &Event) -> Result<(), Refusal> {
-        if !event.rule.series {
+        let (true, Some(name)) = (event.rule.series, event.target_name) else {
             return Ok(());
-        }
-        match event.target_name.map_or(NONE_YET, |name| self.names.list[name].last) {
-            NONE_YET => Ok(()),
-            last if event.instance == last + 1 => Ok(()),
-            _ => Err(Refusal::Series),
+        };
+        let name = &self.names.list[name];
+        let right = match name.last {
+            NONE_YET => event.instance >= name.above_seen,
+            last => event.instance == last + 1,
+        };
+        if right {
+            Ok(())
+        } else {
+            Err(Refusal::Series)
         }
     }
 
@@ -122,16 +143,25 @@ impl History {
     #[inline(always)]
     fn store(&mut self, bytes: &[u8], event: &Event, kind: Kind, known: &Known) {
         let target = known.target.unwrap_or_else(|| self.names.add(bytes, event.target, kind));
-        let row = known.row.unwrap_or_else(|| self.instances.add(target, event.instance, ANY));
+        let row = known.row.unwrap_or_else(|| self.add_instance(target, event.instance));
         self.instances.rows[row].states = event.rule.enters;
         if event.rule.series {
-            self.names.list[target].last = event.instance;
+            let name = &mut self.names.list[target];
+            name.first = name.first.min(event.instance);
+            name.last = event.instance;
         }
         if event.uses_core() {
             let core = known.core.unwrap_or_else(|| self.add_core(bytes, event));
             self.settle(core, event.time);
             self.names.list[core].holder = if event.rule.core == CoreUse::Leaves { IDLE } else { row as u32 };
         }
+    }
+
+    #[cold]
+    fn add_instance(&mut self, name: usize, number: u64) -> usize {
+        let above_seen = &mut self.names.list[name].above_seen;
+        *above_seen = (number + 1).max(*above_seen);
+        self.instances.add(name, number, ANY)
     }
 
     /// A core is unknown up to the line that tracks it.

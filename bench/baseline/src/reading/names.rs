@@ -23,6 +23,10 @@ pub struct Name {
     /// A process or runnable: the last number of its series. A semaphore: its
     /// last count.
     pub last: u64,
+    /// A process or runnable: the first number of its series, and the number
+    /// above all that were seen of it.
+    pub first: u64,
+    pub above_seen: u64,
     /// A semaphore's state.
     pub states: States,
     /// A core's: the instance that holds it, and since when that is so.
@@ -114,6 +118,8 @@ fn new_name(text: &[u8], kind: Kind) -> Name {
         len: text.len(),
         kind,
         last: NONE_YET,
+        first: NONE_YET,
+        above_seen: 0,
         states: ANY,
         holder: IDLE,
         since: 0,
