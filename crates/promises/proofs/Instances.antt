@@ -15,7 +15,7 @@ use Rattle.rules.specs.Verdict.{Accepted}
 use Rattle.rules.proofs.Tests.{both, clash, instance-true, instance-refl, and-true}
 use Rattle.rules.proofs.Changes.{state-other}
 use Rattle.rules.proofs.Answers.{Passed}
-use Rattle.rules.proofs.Tracked.{target-kind, kind-stays, named-kind}
+use Rattle.rules.proofs.Tracked.{target-kind, kind-stays}
 use Rattle.rules.proofs.Seen.{own-number}
 use Rattle.steps.specs.Rows.{opened}
 use Rattle.tables.specs.Entry.{instanceRows, nameRows, instanceCount, ownerAt, instanceAt, stateAt}
@@ -29,7 +29,7 @@ use Rattle.promises.specs.Taken.{lookedUpIn, InstanceFound}
 use Rattle.promises.proofs.KindTests.{instances-tracked}
 use Rattle.promises.proofs.Origins.{newInstance, InstanceFrom, instance-from, instance-stays, instance-listed}
 use Rattle.promises.proofs.Origins.InstanceFrom.{before, as-new}
-use Rattle.promises.proofs.Listed.{instance-kind, one-instance, AllMet}
+use Rattle.promises.proofs.Listed.{instance-kind, instance-named, one-instance, AllMet}
 use Rattle.promises.proofs.Grown.{instances-length, row-stays}
 use Rattle.promises.proofs.Lookups.{looked-up-instance, target-row}
 use Rattle.promises.proofs.Entries.{isInstance, owner-taken, instance-taken, state-taken}
@@ -141,7 +141,7 @@ module _ (h : List Event) (a : Accepted h) (met : AllMet h) (t : Tables) (s : Sh
 
       other-shown : InstanceShown (e ∷ h) (after .nums) j x
       other-shown =
-          let named = named-kind h (x .name) (x .kind) (instance-kind h a x q .1) _ refl in
+          let named = instance-named h a x q in
           record {
             below = b;
             owner = owner-kept ∙ p .owner ∙ sym (row-stays h e (f .kinds) (x .name) named);

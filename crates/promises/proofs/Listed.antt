@@ -86,6 +86,10 @@ instance-kind (e ∷ h) a x q = by-origin (instance-from h e x q) (instance-kind
         subst (λ (y : Instance). (hasInstances (y .kind) ≡ true) × (kindOf (y .name) (e ∷ h) ≡ some (y .kind))) (sym p)
         (t, target-kind h e (instances-tracked (e .kind) t))
 
+-- so its name is listed
+pub instance-named : (h : List Event) → Accepted h → (x : Instance) → any (sameInstance x) (instances h) ≡ true → any (sameBytes (x .name)) (names h) ≡ true
+instance-named h a x q = named-kind h (x .name) (x .kind) (instance-kind h a x q .1) _ refl
+
 -- an instance of its name's kind is told by the row of its name and by its number
 pub one-instance : (h : List Event) (x y : Instance) → kindOf (x .name) h ≡ some (x .kind) → kindOf (y .name) h ≡ some (y .kind) →
     rowOf h (x .name) ≡ rowOf h (y .name) → x .number ≡ y .number → x ≡ y

@@ -19,7 +19,7 @@ use Rattle.rules.specs.Refusals.{look, secondKind}
 use Rattle.rules.specs.Verdict.{Accepted}
 use Rattle.rules.proofs.Tests.{clash}
 use Rattle.rules.proofs.Answers.{all-fit}
-use Rattle.rules.proofs.Tracked.{named-kind, target-is}
+use Rattle.rules.proofs.Tracked.{target-is}
 use Rattle.rules.proofs.Seen.{own-number}
 use Rattle.steps.proofs.CoreClasses.{class-on}
 use Rattle.tables.specs.Entry.{instanceRows, nameRows, nameCount, instanceCount, nameAt}
@@ -36,7 +36,7 @@ use Rattle.promises.specs.Taken.{lookedUpIn, InstanceFound}
 use Rattle.promises.proofs.Places.{place-bound}
 use Rattle.promises.proofs.KindTests.{instances-tracked}
 use Rattle.promises.proofs.Origins.{newSource, newTarget, newInstance}
-use Rattle.promises.proofs.Listed.{name-kind, name-at, instance-kind, one-instance, AllMet, name-size}
+use Rattle.promises.proofs.Listed.{name-kind, name-at, instance-kind, instance-named, one-instance, AllMet, name-size}
 use Rattle.promises.proofs.Grown.{row-stays, source-row-new, target-row-new}
 
 -- ---- a search over rows, where the rows are the places of a list
@@ -64,12 +64,18 @@ module _ {A : Type 0} (f : ℕ → Bool) (g : A → Bool) (xs : List A)
       by-found (At i) q = let p = first-at f (length xs) i q in (p .0, p .1)
       by-found Nothing q = first-none f (length xs) q
 
+-- ---- the rows that there are
+
+-- of a name that is listed, and of an instance that a row shows
+pub name-below : (h : List Event) → Accepted h → (n : List ℕ) → any (sameBytes n) (names h) ≡ true → rowOf h n < nameRows
+name-below h a n q = omega (arith, place-bound (sameBytes n) (names h) q, all-fit h a .names-fit)
+
+pub instance-below : (h : List Event) → Accepted h → (t : Tables) → Shown h t → (j : ℕ) (x : Instance) → InstanceShown h (t .nums) j x → j < instanceRows
+instance-below h a t s j x p = omega (arith, p .below, s .singles .instances-counted, all-fit h a .instances-fit)
+
 -- ---- the two look-ups
 
 module _ (h : List Event) (a : Accepted h) (m : AllMet h) (t : Tables) (s : Shown h t) where
-  row-bound : (n : List ℕ) → any (sameBytes n) (names h) ≡ true → rowOf h n < nameRows
-  row-bound n q = omega (arith, place-bound (sameBytes n) (names h) q, all-fit h a .names-fit)
-
   pub found-name : (n : List ℕ) → findName (t .names) (t .nums) n ≡ seek (sameBytes n) (names h)
   found-name n =
       name-found (t .names) (t .nums) n (s .sized .names-size) (s .sized .nums-size)
@@ -85,7 +91,7 @@ module _ (h : List Event) (a : Accepted h) (m : AllMet h) (t : Tables) (s : Show
       there : any (sameBytes n) (names h) ≡ true → rowIs (t .names) (t .nums) n (rowOf h n) ≡ true
       there q =
           let e = s .each-name n q in
-          name-row (t .names) (t .nums) n (rowOf h n) (s .sized .names-size) (row-bound n q) (omega (arith, e .size, name-size h m n q .1)) (e .name)
+          name-row (t .names) (t .nums) n (rowOf h n) (s .sized .names-size) (name-below h a n q) (omega (arith, e .size, name-size h m n q .1)) (e .name)
 
   -- some row that shows it, or nothing and the history lacks it
   pub found-instance : (x : Instance) → kindOf (x .name) h ≡ some (x .kind) →
@@ -106,7 +112,7 @@ module _ (h : List Event) (a : Accepted h) (m : AllMet h) (t : Tables) (s : Show
       by-found Nothing p =
           is-false _ (λ b.
           let r = s .instance-rows .each x b in
-          let small : r .0 < instanceRows = omega (arith, r .1 .below, s .singles .instances-counted, all-fit h a .instances-fit) in
+          let small = instance-below h a t s (r .0) x (r .1) in
           clash _ (instance-means (t .nums) (rowOf h (x .name)) (x .number) (r .0) .shows (small, (r .1 .number, r .1 .owner)))
           (last-none is (instanceCount (t .nums)) p (r .0) (r .1 .below)))
 
@@ -125,7 +131,7 @@ module _ (h : List Event) (a : Accepted h) (m : AllMet h) (t : Tables) (s : Show
   no-instance x q = by-test (any (sameInstance x) (instances h)) refl
     where
       by-test : (b : Bool) → any (sameInstance x) (instances h) ≡ b → b ≡ false
-      by-test true b = absurd (clash _ (named-kind h (x .name) (x .kind) (instance-kind h a x b .1) _ refl) q)
+      by-test true b = absurd (clash _ (instance-named h a x b) q)
       by-test false b = refl
 
   -- the instance is looked up by the row of its name, and its name has one kind
@@ -139,7 +145,7 @@ module _ (h : List Event) (a : Accepted h) (m : AllMet h) (t : Tables) (s : Show
       by-test true q =
           let w = name-kind h (e .target) q in
           let o : kindOf (e .target) h ≡ some (e .kind) = w .1 ∙ ap some (target-is h e k (instances-tracked (e .kind) i) (w .0) (w .1)) in
-          rw (lt-ltb (rowOf h (e .target)) nameRows (row-bound (e .target) q))
+          rw (lt-ltb (rowOf h (e .target)) nameRows (name-below h a (e .target) q))
           (subst (λ (n : ℕ). InstanceFound h (t .nums) (instanceOf e) (findInstance (t .nums) (rowOf h (e .target)) n))
           (own-number e i) (found-instance (instanceOf e) o))
       by-test false q = no-instance (instanceOf e) q

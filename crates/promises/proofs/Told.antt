@@ -4,7 +4,7 @@ use mathlib.Core.Path.{_≡_, refl, sym, ap, _∙_}
 use mathlib.Core.Bool.{Bool, true, false, not, cond}
 use mathlib.Core.Option.{Option, none, some}
 use mathlib.Core.List.{List, [], _∷_}
-use Prim.Native.Nat.{ℕ, zero, suc, _≤_, _<_}
+use Prim.Native.Nat.{ℕ, zero, suc, _≤_}
 use native.Mathlib.Omega.{arith}
 use lib.Dec.{eqb}
 use lib.ListN.{length}
@@ -33,6 +33,7 @@ use Rattle.promises.specs.Taken.{InstanceFound}
 use Rattle.promises.proofs.Places.{place-bound}
 use Rattle.promises.proofs.KindTests.{semaphore-tracked}
 use Rattle.promises.proofs.Listed.{AllMet, name-kind}
+use Rattle.promises.proofs.Lookups.{instance-below}
 use Rattle.promises.proofs.CoreNames.{core-unknown, held-core}
 use Rattle.promises.proofs.Untold.{no-number, no-first-number, no-count, no-state}
 
@@ -135,6 +136,5 @@ module _ (h : List Event) (a : Accepted h) (t : Tables) (s : Shown h t) where
       opened (entryOf stateColumn (t .nums) r) ≡ stateOf x h
   unfolding entryOf
   state-told w x k (At j) p =
-      let small : j < instanceRows = omega (arith, p .1 .below, s .singles .instances-counted, all-fit h a .instances-fit) in
-      rw (lt-ltb j instanceRows small) (p .1 .state)
+      rw (lt-ltb j instanceRows (instance-below h a t s j x (p .1))) (p .1 .state)
   state-told w x k Nothing p = sym (unseen-none (stateOf x h) (first-seen h w x k ∙ ap not p))

@@ -6,18 +6,17 @@ use mathlib.Core.List.{List, [], _∷_}
 use Prim.Native.Nat.{ℕ}
 use native.Mathlib.Omega.{arith}
 use lib.Dec.{eqb}
-use borrow.Author.Tests.{eqb-true}
 use Rattle.text.specs.Bytes.{sameBytes}
 use Rattle.text.proofs.Bools.{is-false}
-use Rattle.text.proofs.Words.{same-refl}
+use Rattle.text.proofs.Words.{same-refl, eq-same}
 use Rattle.rules.specs.Lists.{when, orElse, latest}
 use Rattle.rules.specs.Words.{core, semaphore}
 use Rattle.rules.specs.Event.{Event, Instance, sameInstance, instanceOf, stateOf}
 use Rattle.rules.specs.Core.{on}
-use Rattle.rules.specs.History.{isTracked, kindIn, kindOf, activates, numbers, lastNumber, firstNumber, lastCount}
+use Rattle.rules.specs.History.{isTracked, kindIn, kindOf, numbers, lastNumber, firstNumber, lastCount}
 use Rattle.rules.proofs.Tests.{both, and-true, clash, instance-true}
 use Rattle.rules.proofs.Changes.{state-other}
-use Rattle.rules.proofs.Activations.{activates-instances, none-earlier}
+use Rattle.rules.proofs.Activations.{activates-instances, none-earlier, what-numbers}
 use Rattle.promises.proofs.KindTests.{instances-range, instances-tracked, semaphore-tracked}
 
 -- ---- nothing was told
@@ -52,13 +51,13 @@ unless true b x f q = absurd (clash b (f refl) q)
 unless false b x f q = refl
 
 pub no-number : (k : ℕ) (n : List ℕ) (h : List Event) → kindOf n h ≡ none → lastNumber k n h ≡ none
-unfolding lastNumber numbers
+unfolding lastNumber
 no-number k n = untold n _ (λ e. unless (numbers k n e) (of n e) (e .targetInstance) (own e))
   where
     own : (e : Event) → implied (numbers k n e) (of n e)
     own e q =
-        let p = both (activates (e .kind) (e .word)) (eqb k (e .kind) && sameBytes n (e .target)) q in
-        and-true _ _ (instances-tracked (e .kind) (activates-instances (e .kind) (e .word) (p .0))) (both (eqb k (e .kind)) (sameBytes n (e .target)) (p .1) .1)
+        let r = what-numbers k n e q in
+        and-true _ _ (instances-tracked (e .kind) (activates-instances (e .kind) (e .word) (r .activation))) (eq-same n (e .target) (r .of-name))
 
 pub no-first-number : (k : ℕ) (n : List ℕ) (h : List Event) → kindOf n h ≡ none → firstNumber k n h ≡ none
 unfolding lastNumber firstNumber
@@ -66,17 +65,16 @@ no-first-number k n h q = none-earlier (λ e. when (numbers k n e) (e .targetIns
 
 -- a core is given none
 pub core-unnumbered : (n : List ℕ) (h : List Event) → lastNumber core n h ≡ none
-unfolding lastNumber numbers
+unfolding lastNumber
 core-unnumbered n [] = refl
 core-unnumbered n (e ∷ h) = rw (never e) (core-unnumbered n h)
   where
     never : (d : Event) → numbers core n d ≡ false
     never d =
         is-false _ (λ q.
-        let p = both (activates (d .kind) (d .word)) (eqb core (d .kind) && sameBytes n (d .target)) q in
-        let r = instances-range (d .kind) (activates-instances (d .kind) (d .word) (p .0)) in
-        let z = eqb-true core (d .kind) (both (eqb core (d .kind)) (sameBytes n (d .target)) (p .1) .0) in
-        omega arith)
+        let w = what-numbers core n d q in
+        let r = instances-range (d .kind) (activates-instances (d .kind) (d .word) (w .activation)) in
+        omega (arith, w .of-kind))
 
 pub no-count : (n : List ℕ) (h : List Event) → kindOf n h ≡ none → lastCount n h ≡ none
 unfolding lastCount

@@ -1,21 +1,21 @@
 -- Activations, of processes and runnables: whose they are, that they are steps of a chart, and what an instance has that begins with one. And what the first and the
 -- last of a list tell of each other.
 use mathlib.Core.Path.{_≡_, refl, sym, ap, subst, _∙_}
-use mathlib.Core.Bool.{Bool, true, false, _&&_, _||_}
+use mathlib.Core.Bool.{Bool, true, false, _&&_, _||_, and-true}
 use mathlib.Core.Option.{Option, none, some}
 use mathlib.Core.List.{List, [], _∷_}
-use Prim.Native.Nat.{ℕ}
+use Prim.Native.Nat.{ℕ, _≤_}
 use native.Mathlib.Omega.{arith}
-use lib.Dec.{eqb}
-use borrow.Author.Tests.{eqb-true, eq-eqb}
+use lib.Dec.{eqb, leb}
+use borrow.Author.Tests.{eqb-true, eq-eqb, leb-true, le-leb}
 use Rattle.text.specs.Bytes.{sameBytes}
-use Rattle.text.proofs.Words.{same-eq, same-refl}
+use Rattle.text.proofs.Words.{same-eq, same-refl, eq-same}
 use Rattle.rules.specs.Lists.{member, when, orElse, latest, earliest}
 use Rattle.rules.specs.Words.{runnable, activate, mtalimitexceeded, start}
 use Rattle.rules.specs.Chart.{Step, stepFor, entered}
 use Rattle.rules.specs.Charts.{isProcess, processChart, runnableChart, chartOf}
 use Rattle.rules.specs.Event.{Event, Instance, sameInstance, instanceOf, wordsOf, firstWord, stateOf}
-use Rattle.rules.specs.History.{hasInstances, activates, numbers, firstNumber}
+use Rattle.rules.specs.History.{hasInstances, activates, numbers, firstNumber, isFrom}
 use Rattle.rules.specs.Refusals.{unseen}
 use Rattle.rules.proofs.Tests.{both, clash, instance-true}
 use Rattle.rules.proofs.Changes.{first-other, first-own}
@@ -80,11 +80,7 @@ activation-step k a = by-kind (isProcess k && member a (activate ∷ mtalimitexc
 -- an activation is one of its own process or runnable
 pub own-activation : (e : Event) → numbers (e .kind) (e .target) e ≡ activates (e .kind) (e .word)
 unfolding numbers
-own-activation e = rw (eq-eqb (e .kind) (e .kind) refl, same-refl (e .target)) (by-test (activates (e .kind) (e .word)))
-  where
-    by-test : (b : Bool) → b && true ≡ b
-    by-test true = refl
-    by-test false = refl
+own-activation e = rw (eq-eqb (e .kind) (e .kind) refl, same-refl (e .target)) (and-true (activates (e .kind) (e .word)))
 
 pub record Numbers (k : ℕ) (n : List ℕ) (e : Event) : Type 0 where
   pub activation : activates (e .kind) (e .word) ≡ true
@@ -97,6 +93,23 @@ what-numbers k n e q =
     let r = both (activates (e .kind) (e .word)) _ q in
     let s = both (eqb k (e .kind)) (sameBytes n (e .target)) (r .1) in
     record { activation = r .0; of-kind = eqb-true k (e .kind) (s .0); of-name = same-eq n (e .target) (s .1) }
+
+-- and an instance from a number on is one of its own
+pub record From (k : ℕ) (n : List ℕ) (i : ℕ) (x : Instance) : Type 0 where
+  pub of-kind : k ≡ x .kind
+  pub of-name : n ≡ x .name
+  pub high : i ≤ x .number
+
+pub is-from : (k : ℕ) (n : List ℕ) (i : ℕ) (x : Instance) → From k n i x → isFrom k n i x ≡ true
+unfolding isFrom
+is-from k n i x f = rw (eq-eqb k (x .kind) (f .of-kind), eq-same n (x .name) (f .of-name)) (le-leb i (x .number) (f .high))
+
+pub what-from : (k : ℕ) (n : List ℕ) (i : ℕ) (x : Instance) → isFrom k n i x ≡ true → From k n i x
+unfolding isFrom
+what-from k n i x q =
+    let r = both (eqb k (x .kind)) _ q in
+    let s = both (sameBytes n (x .name)) (leb i (x .number)) (r .1) in
+    record { of-kind = eqb-true k (x .kind) (r .0); of-name = same-eq n (x .name) (s .0); high = leb-true i (x .number) (s .1) }
 
 -- a first number is a process's or a runnable's
 pub numbered-instances : (h : List Event) (k : ℕ) (n : List ℕ) (f : ℕ) → firstNumber k n h ≡ some f → hasInstances k ≡ true

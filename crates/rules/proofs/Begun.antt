@@ -6,11 +6,8 @@ use mathlib.Core.Bool.{Bool, true, false, not, _&&_}
 use mathlib.Core.Option.{Option, none, some}
 use mathlib.Core.List.{List, [], _∷_}
 use Prim.Native.Nat.{ℕ, _≤_}
-use lib.Dec.{eqb}
-use borrow.Author.Tests.{eqb-true, eq-eqb, leb-true, le-leb, not-true, not-false}
-use Rattle.text.specs.Bytes.{sameBytes}
+use borrow.Author.Tests.{leb-true, le-leb, not-true, not-false}
 use Rattle.text.proofs.Bools.{is-false}
-use Rattle.text.proofs.Words.{same-eq, same-refl}
 use Rattle.rules.specs.Lists.{any, when, orElse, latest, earliest}
 use Rattle.rules.specs.Chart.{stepFor, entered}
 use Rattle.rules.specs.Charts.{chartOf}
@@ -23,7 +20,7 @@ use Rattle.rules.proofs.Tests.{both, clash, instance-true, instance-ref
 use Rattle.rules.proofs.Sums.{any-some, some-any}
 use Rattle.rules.proofs.Changes.{first-other, first-own}
 use Rattle.rules.proofs.Seen.{own-number, first-listed}
-use Rattle.rules.proofs.Activations.{none-earlier, none-later, no-value, activates-instances, own-activation, Numbers, what-numbers, numbered-instances, begun-numbered, begun-stated}
+use Rattle.rules.proofs.Activations.{none-earlier, none-later, no-value, activates-instances, own-activation, Numbers, what-numbers, what-from, is-from, numbered-instances, begun-numbered, begun-stated}
 
 -- the half of 12 that asks the first activation
 abbrev pub startsLow : Known → Event → Bool
@@ -92,12 +89,11 @@ module _ (h : List Event) (e : Event) where
     -- a number that no instance of the process or runnable reaches
     own-first : firstNumber (e .kind) (e .target) h ≡ none → activates (e .kind) (e .word) ≡ true → (x : Instance) →
         x .kind ≡ e .kind → x .name ≡ e .target → e .targetInstance ≤ x .number → (c : ℕ) → firstWord x h ≡ some c → ⊥
-    unfolding aboveAll isFrom lastNumber firstNumber
+    unfolding aboveAll lastNumber firstNumber
     own-first n t x j m l c w =
         let o : lastNumber (e .kind) (e .target) h ≡ none = none-later (λ d. when (numbers (e .kind) (e .target) d) (d .targetInstance)) h n in
         let listed = not-false _ (sym (first-listed h x (rw j (activates-instances (e .kind) (e .word) t))) ∙ ap unseen w) in
-        let from : isFrom (e .kind) (e .target) (e .targetInstance) x ≡ true =
-        rw (j, m, eq-eqb (e .kind) (e .kind) refl, same-refl (e .target)) (le-leb (e .targetInstance) (x .number) l) in
+        let from = is-from (e .kind) (e .target) (e .targetInstance) x (record { of-kind = sym j; of-name = sym m; high = l }) in
         clash _ (some-any sameInstance instance-true instance-refl (isFrom (e .kind) (e .target) (e .targetInstance)) (instances h) x from listed) (not-true _ (not-false _ (rw (t, o) at high)))
 
     begun-next : Begun (e ∷ h)
@@ -150,7 +146,7 @@ module _ (h : List Event) (e : Event) where
         by-first i t u (some f) q r = by-word t u f q (rw (own-number e i) (leb-true f (e .targetInstance) r)) (firstWord (instanceOf e) h) refl
 
     begun-high : startsLow (look h e) e ≡ false
-    unfolding aboveAll isFrom lastNumber firstNumber
+    unfolding aboveAll lastNumber firstNumber
     begun-high = is-false _ (λ q.
         let r = both (activates (e .kind) (e .word)) _ q in
         let s = both (unseen (lastNumber (e .kind) (e .target) h)) _ (r .1) in
@@ -166,12 +162,9 @@ module _ (h : List Event) (e : Event) where
             (x : Instance) × (isFrom (e .kind) (e .target) (e .targetInstance) x ≡ true) × (any (sameInstance x) (instances h) ≡ true) → ⊥
         by-last t (some m) n u x = clash false u refl
         by-last t none n u (x, f, i) =
-            let r = both (eqb (e .kind) (x .kind)) _ f in
-            let s = both (sameBytes (e .target) (x .name)) _ (r .1) in
-            let j = eqb-true (e .kind) (x .kind) (r .0) in
-            by-instance t (none-earlier (λ d. when (numbers (e .kind) (e .target) d) (d .targetInstance)) h n) x j (same-eq (e .target) (x .name) (s .0))
-            (leb-true (e .targetInstance) (x .number) (s .1)) (firstWord x h) refl
-            (first-listed h x (rw (← j) (activates-instances (e .kind) (e .word) t)) ∙ ap not i)
+            let r = what-from (e .kind) (e .target) (e .targetInstance) x f in
+            by-instance t (none-earlier (λ d. when (numbers (e .kind) (e .target) d) (d .targetInstance)) h n) x (r .of-kind) (r .of-name) (r .high)
+            (firstWord x h) refl (first-listed h x (rw (← (r .of-kind)) (activates-instances (e .kind) (e .word) t)) ∙ ap not i)
 
 -- ---- a whole history
 

@@ -24,6 +24,7 @@ use Rattle.rules.proofs.Answers.{accepted-exactly, never-halves, allowe
 use Rattle.rules.proofs.ChartFact.{chart-runs}
 use Rattle.rules.proofs.CoreRuns.{core-runs}
 use Rattle.rules.proofs.Chains.{After, Asked, linked-exactly}
+use Rattle.rules.proofs.Activations.{what-numbers}
 use Rattle.rules.proofs.Begun.{startsLow, begun-exactly}
 use Rattle.rules.proofs.OneKind.{one-kind}
 use Rattle.rules.proofs.Room.{all-along}
@@ -75,10 +76,7 @@ number-asks h e = rw (eq-eqb (e .kind) (e .kind) refl, same-refl (e .target)) (b
     by-test false o = (λ q z. absurd (clash false z refl), λ f. refl)
 
 number-own : (p : ℕ × List ℕ) (e : Event) → numbers (p .0) (p .1) e ≡ true → p ≡ (e .kind, e .target)
-unfolding numbers
-number-own p e q =
-    let r = both (eqb (p .0) (e .kind)) _ (both (activates (e .kind) (e .word)) _ q .1) in
-    λ i. (eqb-true (p .0) (e .kind) (r .0) i, same-eq (p .1) (e .target) (r .1) i)
+number-own p e q = let r = what-numbers (p .0) (p .1) e q in λ i. (r .of-kind i, r .of-name i)
 
 numbers-follow : (h : List Event) → Never outOfStep h ↔ ((k : ℕ) (n : List ℕ) → Chain NumberAfter (only (numbers k n) h))
 numbers-follow h =

@@ -1,7 +1,7 @@
 -- A history of n events that each bring a new runnable tracks n names, no core and at most n instances. By these laws the answers after 255 and 256 names
 -- are computed in one walk of the history; by the definitions alone the checker would compare every two names.
 use mathlib.Core.Path.{_≡_, refl, ap, _∙_}
-use mathlib.Core.Bool.{Bool, true, false, _||_, cond}
+use mathlib.Core.Bool.{Bool, true, false, _||_, cond, or-false}
 use mathlib.Core.Option.{none}
 use mathlib.Core.List.{List, [], _∷_}
 use Prim.Native.Nat.{ℕ, zero, suc, _+_, _≤_, _<_}
@@ -135,10 +135,6 @@ answer-if h e full wrong q r = λ i. answerIf (q i) (r i) h e
 -- without cores, and with few instances, the names decide
 names-decide : (n c i : ℕ) → c ≡ 0 → i ≤ instanceLimit → ltb nameLimit n || (ltb coreLimit c || ltb instanceLimit i) ≡ ltb nameLimit n
 names-decide n c i q r = rw (le-ltb coreLimit c (omega (arith, q)), le-ltb instanceLimit i r) (or-false (ltb nameLimit n))
-  where
-    or-false : (b : Bool) → b || false ≡ b
-    or-false true = refl
-    or-false false = refl
 
 -- after n names: one more; an event that tracks none; a core and its process, both new
 pub name-after : (n : ℕ) → n < instanceLimit → answer (many newName n) (newName n) ≡ answerIf (ltb nameLimit (n + 1)) false (many newName n) (newName n)

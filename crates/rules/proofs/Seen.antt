@@ -1,7 +1,7 @@
 -- An instance was seen exactly if it has a first word, and exactly if it is listed; and where the words of all events before are steps of their charts, exactly
 -- if it has a state.
 use mathlib.Core.Path.{_≡_, refl, sym, ap, subst, _∙_}
-use mathlib.Core.Bool.{Bool, true, false, not, _||_, cond}
+use mathlib.Core.Bool.{Bool, true, false, not, _||_, cond, or-true, or-false}
 use mathlib.Core.Option.{Option, none, some}
 use mathlib.Core.List.{List, [], _∷_}
 use Prim.Native.Nat.{ℕ}
@@ -39,14 +39,6 @@ unfolding instances
 first-listed [] x k = refl
 first-listed (e ∷ h) x k = by-instance (sameInstance x (instanceOf e)) refl (hasInstances (e .kind)) refl (first-listed h x k)
   where
-    or-true : (a : Bool) → a || true ≡ true
-    or-true true = refl
-    or-true false = refl
-
-    or-false : (a : Bool) → a || false ≡ a
-    or-false true = refl
-    or-false false = refl
-
     added : any (sameInstance x) (addAll sameInstance (instances h) (instanceOf e ∷ [])) ≡ any (sameInstance x) (instances h) || sameInstance x (instanceOf e)
     added = any-new sameInstance instance-true instance-refl (instances h) (instanceOf e) x
 
