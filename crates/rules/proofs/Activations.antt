@@ -66,7 +66,7 @@ activates-instances k a = by-test (isProcess k) (member a (activate ∷ mtalimit
     by-test false m true s q = refl
     by-test false m false s q = q
 
-activation-step : (k a : ℕ) → activates k a ≡ true → isStep (stepFor (chartOf k) a) ≡ true
+pub activation-step : (k a : ℕ) → activates k a ≡ true → isStep (stepFor (chartOf k) a) ≡ true
 unfolding activates every isStep chartOf isProcess processChart runnableChart
 activation-step k a = by-kind (isProcess k && member a (activate ∷ mtalimitexceeded ∷ [])) refl
   where

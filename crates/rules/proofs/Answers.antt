@@ -1,23 +1,18 @@
 -- What an answer says: 0 exactly if no rule is broken, and otherwise the lowest number of a broken rule; a history is accepted exactly if no rule is
--- broken at any of its events. What follows at once: time never falls, and the names, cores and instances fit.
+-- broken at any of its events. What follows at once: time never falls.
 use mathlib.Core.Path.{_≡_, refl, ap}
 use mathlib.Core.Logic.{_↔_}
 use mathlib.Core.Bool.{Bool, false}
 use mathlib.Core.List.{List, [], _∷_, List·Memᴰ, List·Memᴰ·head, List·Memᴰ·tail}
 use Prim.Native.Nat.{ℕ, _≤_, _<_}
 use native.Mathlib.Omega.{arith}
-use lib.Dec.{ltb}
-use lib.ListN.{length}
 use borrow.Author.Tests.{ltb-false}
 use Rattle.line.specs.Answer.{holds, IsLowest}
 use Rattle.line.proofs.Lowest.{lowest-exactly, lowest-none}
 use Rattle.rules.specs.Event.{Event}
-use Rattle.rules.specs.History.{names, cores, instances}
 use Rattle.rules.specs.Refusals.{Known, look, timeFalls, secondKind, noRoom, offChart, neverActivated, notAllowed, notNext, coreBroken, countBroken, eventTests, answerTo}
 use Rattle.rules.specs.Verdict.{answer, Accepted, Never}
-use Rattle.rules.specs.Lawful.{Fits}
 use Rattle.rules.proofs.Tests.{neither}
-use Rattle.rules.specs.Limits.{instanceLimit, coreLimit, nameLimit}
 
 -- ---- the rules 8 to 14, by the laws of any list of tests
 
@@ -65,6 +60,11 @@ passed h e a =
     let c = neither (offChart (look h e) e) (neverActivated (look h e) e) (f 11) in
     record { time = f 8; kinds = f 9; room = f 10; chart = c .0; activated = c .1; number = f 12; core = f 13; count = f 14 }
 
+-- and an event that passes all of it is answered 0
+pub passed-accepted : (h : List Event) → Accepted h → (e : Event) → Passed h e → Accepted (e ∷ h)
+unfolding eventTests notAllowed answerTo
+passed-accepted h a e p = (rw (p .time, p .kinds, p .room, p .chart, p .activated, p .number, p .core, p .count), a)
+
 -- ---- a rule of two halves: it is never broken exactly if neither half is
 
 pub never-halves : (b f g : Known → Event → Bool) → ((k : Known) (e : Event) → (b k e ≡ false) ↔ ((f k e ≡ false) × (g k e ≡ false))) →
@@ -97,21 +97,3 @@ time-never-falls e d (f ∷ h) a m = by-place m (time-never-falls f d h (a .1))
     by-place : List·Memᴰ d (f ∷ h) → (List·Memᴰ d h → d .time ≤ f .time) → d .time ≤ e .time
     by-place (List·Memᴰ·head q) r = omega (arith, neighbours e f h a, ap (λ (x : Event). x .time) q)
     by-place (List·Memᴰ·tail n) r = omega (arith, neighbours e f h a, r n)
-
--- ---- the names, cores and instances fit
-
-pub room-fits : (h : List Event) (e : Event) → noRoom (look h e) e ≡ false → Fits (e ∷ h)
-unfolding noRoom
-room-fits h e q =
-    let n = neither (ltb nameLimit (length (names (e ∷ h)))) _ q in
-    let c = neither (ltb coreLimit (length (cores (e ∷ h)))) (ltb instanceLimit (length (instances (e ∷ h)))) (n .1) in
-    record { names-fit = ltb-false _ _ (n .0); cores-fit = ltb-false _ _ (c .0); instances-fit = ltb-false _ _ (c .1) }
-
-pub never-fits : (h : List Event) → Never noRoom h → Fits h
-unfolding names instances
-never-fits [] c = record { names-fit = omega arith; cores-fit = omega arith; instances-fit = omega arith }
-never-fits (e ∷ h) c = room-fits h e (c .0)
-
-pub all-fit : (h : List Event) → Accepted h → Fits h
-unfolding eventTests
-all-fit h a = never-fits h (accepted-exactly h .0 a 10)

@@ -8,18 +8,16 @@ use mathlib.Core.List.{List, [], _∷_}
 use Prim.Native.Nat.{ℕ, _≤_}
 use borrow.Author.Tests.{leb-true, le-leb, not-true, not-false}
 use Rattle.text.proofs.Bools.{is-false}
-use Rattle.rules.specs.Lists.{any, when, orElse, latest, earliest}
-use Rattle.rules.specs.Chart.{stepFor, entered}
-use Rattle.rules.specs.Charts.{chartOf}
-use Rattle.rules.specs.Event.{Event, Instance, sameInstance, instanceOf, wordsOf, firstWord, stateOf}
-use Rattle.rules.specs.History.{hasInstances, instances, activates, numbers, lastNumber, firstNumber, isFrom, aboveAll}
-use Rattle.rules.specs.Refusals.{Known, look, unseen, reaches, neverActivated}
+use Rattle.rules.specs.Lists.{any, when, orElse}
+use Rattle.rules.specs.Event.{Event, Instance, sameInstance, instanceOf, firstWord, stateOf}
+use Rattle.rules.specs.History.{hasInstances, instances, activates, numbers, lastNumber, firstNumber, isFrom, aboveAll, reaches}
+use Rattle.rules.specs.Refusals.{Known, look, unseen, neverActivated}
 use Rattle.rules.specs.Verdict.{Never}
 use Rattle.rules.specs.Lawful.{Begun}
 use Rattle.rules.proofs.Tests.{both, clash, instance-true, instance-refl}
 use Rattle.rules.proofs.Sums.{any-some, some-any}
 use Rattle.rules.proofs.Changes.{first-other, first-own}
-use Rattle.rules.proofs.Seen.{own-number, first-listed}
+use Rattle.rules.proofs.Seen.{own-number, wordless, first-listed}
 use Rattle.rules.proofs.Activations.{none-earlier, none-later, no-value, activates-instances, own-activation, Numbers, what-numbers, what-from, is-from, numbered-instances, begun-numbered, begun-stated}
 
 -- the half of 12 that asks the first activation
@@ -54,18 +52,6 @@ module _ (h : List Event) (e : Event) where
           (z, let s : a ≡ e .word = cc in s)
       by-instance false q = absurd (no-value (sym w ∙ first-other x e h q ∙ n))
 
-  -- an instance with no word has no state
-  wordless : (x : Instance) → firstWord x h ≡ none → stateOf x h ≡ none
-  wordless x n = by-words (wordsOf x h) n
-    where
-      by-words : (ws : List ℕ) → earliest some ws ≡ none → latest (λ a. entered (stepFor (chartOf (x .kind)) a)) ws ≡ none
-      by-words [] q = refl
-      by-words (w ∷ ws) q = by-rest (earliest some ws) q
-        where
-          by-rest : (o : Option ℕ) → orElse o (some w) ≡ none → latest (λ a. entered (stepFor (chartOf (x .kind)) a)) (w ∷ ws) ≡ none
-          by-rest none q = absurd (no-value q)
-          by-rest (some b) q = absurd (no-value q)
-
   -- the first number of the event's own process or runnable
   first-own-number : firstNumber (e .kind) (e .target) h ≡ none → activates (e .kind) (e .word) ≡ true → firstNumber (e .kind) (e .target) (e ∷ h) ≡ some (e .targetInstance)
   unfolding firstNumber
@@ -84,7 +70,7 @@ module _ (h : List Event) (e : Event) where
         by-test true t = refl
         by-test false t =
             absurd (clash true refl
-            (sym (rw (kinded, t, wordless (instanceOf e) n, p) (le-leb f (e .targetInstance) (rw (own-number e kinded) at l))) ∙ activated))
+            (sym (rw (kinded, t, wordless h (instanceOf e) n, p) (le-leb f (e .targetInstance) (rw (own-number e kinded) at l))) ∙ activated))
 
     -- a number that no instance of the process or runnable reaches
     own-first : firstNumber (e .kind) (e .target) h ≡ none → activates (e .kind) (e .word) ≡ true → (x : Instance) →

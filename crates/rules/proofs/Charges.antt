@@ -19,7 +19,7 @@ use Rattle.rules.specs.History.{named, names, kindOf, isKind, cores, pro
 use Rattle.rules.specs.Verdict.{Accepted}
 use Rattle.rules.specs.Sheet.{gap, ticks, isHeld, isHeldBy, heldTicks, holding, charge, chargeOn, span}
 use Rattle.rules.proofs.Sums.{sum-cong, sum-zero, sum-at-most, sum-swap, sum-added, sum-only}
-use Rattle.rules.proofs.Answers.{all-fit}
+use Rattle.rules.proofs.Room.{all-fit}
 use Rattle.rules.proofs.Totals.{ticks-add, core-total}
 use Rattle.rules.proofs.Tracked.{Since, now, before, Tracked, tracked, still-accepted, still-kind, kind-named, names-once, named-kind}
 use Rattle.rules.specs.Limits.{coreLimit}

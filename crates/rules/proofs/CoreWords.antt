@@ -30,7 +30,7 @@ of-member f a (x ∷ xs) t m =
     by-test true q m k r = subst (λ (n : ℕ). f n ≡ true) (sym (eqb-true a x q)) k
     by-test false q m k r = r m
 
-of-step : (f : Step → Bool) (t : List Step) → every f t ≡ true → (a : ℕ) (r : Step) → stepFor t a ≡ some r → (f r ≡ true) × (a ≡ r .word)
+pub of-step : (f : Step → Bool) (t : List Step) → every f t ≡ true → (a : ℕ) (r : Step) → stepFor t a ≡ some r → (f r ≡ true) × (a ≡ r .word)
 unfolding every
 of-step f [] p a r q = (cc, cc)
 of-step f (s ∷ t) p a r q =
@@ -42,7 +42,7 @@ of-step f (s ∷ t) p a r q =
     by-test true e k q i = let z : s ≡ r = cc in (subst (λ (x : Step). f x ≡ true) z k, eqb-true a (s .word) e ∙ ap (λ (x : Step). x .word) z)
     by-test false e k q i = i q
 
-beq-true : (a b : Bool) → Bool·beq a b ≡ true → a ≡ b
+pub beq-true : (a b : Bool) → Bool·beq a b ≡ true → a ≡ b
 beq-true true true q = refl
 beq-true true false q = sym q
 beq-true false true q = q

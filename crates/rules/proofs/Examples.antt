@@ -1,5 +1,5 @@
 -- Document 01's examples that speak of events, and one on each side of its finer readings, as one statement over one list: the checker computes each
--- verdict and sheet from the definitions, and after hundreds of names or instances by the laws of `ManyNames` and `ManyInstances` too.
+-- verdict and sheet from the definitions, and after hundreds of names by the laws of `ManyNames` too.
 use mathlib.Core.Path.{_≡_}
 use mathlib.Core.Bool.{Bool, true, false, _&&_}
 use mathlib.Core.List.{List, [], _∷_}
@@ -16,13 +16,12 @@ use Rattle.rules.specs.Words.{requestsemaphore, queued, assigned, waitin
 use Rattle.rules.specs.Charts.{chartOf, processChart, runnableChart, semaphoreChart, isProcess}
 use Rattle.rules.specs.Event.{Event}
 use Rattle.rules.specs.Core.{takes, gives, keeps, onCore}
-use Rattle.rules.specs.History.{hasInstances, isTracked, named, kindIn, activates, numbers, lastNumber, firstNumber, isFrom, aboveAll, lastCount, names, instances}
-use Rattle.rules.specs.Refusals.{timeFalls, secondKind, sourceClash, targetClash, noRoom, offChart, neverActivated, notAllowed, notNext, coreBroken, countFollows, countAllowed, countBroken, eventTests, answerTo}
+use Rattle.rules.specs.History.{hasInstances, isTracked, named, kindIn, activates, numbers, lastNumber, firstNumber, isFrom, aboveAll, needsEntry, lastCount, names, instances}
+use Rattle.rules.specs.Refusals.{timeFalls, secondKind, sourceClash, targetClash, isNextActivation, exceedsLimit, needsOne, noRoom, offChart, neverActivated, notAllowed, notNext, coreBroken, countFollows, countAllowed, countBroken, eventTests, answerTo}
 use Rattle.rules.specs.First.{takenOf, firstRefusal}
 use Rattle.rules.specs.Verdict.{answer, taken, verdict}
 use Rattle.rules.specs.Sheet.{ticks, sheet}
 use Rattle.rules.proofs.ManyNames.{line, trigger, many, newName, newCore, name-after, trigger-after, core-after}
-use Rattle.rules.proofs.ManyInstances.{newInstance, resumed, resumed-after}
 
 -- of a semaphore: time, source, target, event, note
 abbrev pub sem : ℕ → List ℕ → List ℕ → ℕ → ℕ → Event
@@ -168,6 +167,16 @@ computed =
     -- a process's start and interrupt_suspended do not activate: they set no first number, and are such events as it shuts out
     ∷ says (A 0 3 start ∷ A2 0 4 start ∷ I 3 interrupt-suspended ∷ I 4 interrupt-suspended ∷ []) 0 0
     ∷ says (I 3 activate ∷ I 4 interrupt-suspended ∷ []) 11 2
+    -- document 02, No. 7: an instance that has terminated is no first one again, and its number is not the next
+    ∷ says (S 0 3 activate ∷ A 0 3 start ∷ A 0 3 terminate ∷ A 0 3 resume ∷ []) 11 4
+    ∷ says (S 0 3 activate ∷ A 0 3 start ∷ A 0 3 terminate ∷ S 0 3 activate ∷ []) 12 4
+    ∷ says (S 0 3 activate ∷ A 0 3 start ∷ A 0 3 terminate ∷ S 0 4 activate ∷ A 0 4 start ∷ []) 0 0
+    -- "Charges stay with the process": one of two instances ends while the other holds a core
+    ∷ shows
+    (S 0 3 activate ∷ A 1 3 start ∷ S 2 4 activate ∷ A2 3 4 start ∷ A 5 3 terminate ∷ A2 9 4 terminate ∷ [])
+    9
+    (row (bytes "Core_1") (4 ∷ 4 ∷ 1 ∷ []) ∷ row (bytes "Core_2") (6 ∷ 0 ∷ 3 ∷ []) ∷ [])
+    (row (bytes "Task_A") (10 ∷ []) ∷ [])
     -- overfull comes from FULL and from OVERFULL, first of all too, and from no other state; it leads to OVERFULL
     ∷ shows crane 60 [] []
     ∷ says (Q full 2 ∷ Q overfull 2 ∷ Q full 2 ∷ []) 0 0
@@ -218,12 +227,10 @@ computed =
     ∷ says (Q overfull 2 ∷ Q decrement 1 ∷ Q overfull 1 ∷ []) 14 3
     ∷ []
 
--- 10: "256 names taken, a 257th: 10"; and with 1,024 instances it comes before the 11 of an instance that was never activated
+-- 10: "256 names taken, a 257th: 10"
 abbrev pub examples : List Example
 examples =
-    answers (many newInstance 1023) (resumed 1023) 11
-    ∷ answers (many newInstance 1024) (resumed 1024) 10
-    ∷ answers (many newName 255) (newName 255) 0
+    answers (many newName 255) (newName 255) 0
     ∷ answers (many newName 256) (newName 256) 10
     ∷ answers (many newName 256) (trigger 0) 0
     ∷ answers (many newName 255) (newCore 0) 10
@@ -251,17 +258,13 @@ right [] = true
 right (x ∷ xs) = isRight x && right xs
 
 computed-right : T (right computed)
-unfolding right isRight sameVerdict sameSheet sameRows sameBytes firstRefusal takenOf sheet ticks answerTo eventTests timeFalls secondKind sourceClash targetClash noRoom offChart neverActivated notAllowed notNext coreBroken countBroken names instances chartOf processChart runnableChart semaphoreChart isProcess takes gives keeps onCore hasInstances isTracked named kindIn activates numbers lastNumber firstNumber isFrom aboveAll lastCount countAllowed countFollows
+unfolding right isRight sameVerdict sameSheet sameRows sameBytes firstRefusal takenOf sheet ticks answerTo eventTests timeFalls secondKind sourceClash targetClash isNextActivation exceedsLimit needsOne noRoom offChart neverActivated notAllowed notNext coreBroken countBroken needsEntry names instances chartOf processChart runnableChart semaphoreChart isProcess takes gives keeps onCore hasInstances isTracked named kindIn activates numbers lastNumber firstNumber isFrom aboveAll lastCount countAllowed countFollows
 computed-right = tt
 
--- after many names or instances the laws say whether there is room, and the rest is computed
+-- after many names the laws say whether there is room, and the rest is computed
 by-law : (answer (many newName 255) (newName 255) ≡ 0) × (answer (many newName 256) (newName 256) ≡ 10) × (answer (many newName 256) (trigger 0) ≡ 0) × (answer (many newName 255) (newCore 0) ≡ 10)
 unfolding sameBytes timeFalls secondKind sourceClash targetClash offChart neverActivated notAllowed notNext coreBroken countBroken chartOf processChart runnableChart semaphoreChart isProcess takes gives keeps onCore hasInstances isTracked kindIn activates numbers lastNumber firstNumber isFrom aboveAll lastCount countAllowed countFollows
 by-law = (name-after 255 (omega arith), name-after 256 (omega arith), trigger-after 256 (omega arith), core-after 255 (omega arith))
-
-instances-by-law : (answer (many newInstance 1023) (resumed 1023) ≡ 11) × (answer (many newInstance 1024) (resumed 1024) ≡ 10)
-unfolding sameBytes timeFalls secondKind sourceClash targetClash offChart neverActivated notAllowed notNext coreBroken countBroken chartOf processChart runnableChart semaphoreChart isProcess takes gives keeps onCore hasInstances isTracked kindIn activates numbers lastNumber firstNumber isFrom aboveAll lastCount countAllowed countFollows
-instances-by-law = (resumed-after 1022, resumed-after 1023)
 
 answered : (h : List Event) (e : Event) (n : ℕ) (xs : List Example) → answer h e ≡ n → T (right xs) → T (right (answers h e n ∷ xs))
 unfolding right isRight
@@ -269,9 +272,7 @@ answered h e n xs q r = rw (eq-eqb _ _ q) r
 
 pub examples-right : T (right examples)
 examples-right =
-    answered _ _ _ _ (instances-by-law .0)
-    (answered _ _ _ _ (instances-by-law .1)
-    (answered _ _ _ _ (by-law .0)
+    answered _ _ _ _ (by-law .0)
     (answered _ _ _ _ (by-law .1)
     (answered _ _ _ _ (by-law .2)
-    (answered _ _ _ _ (by-law .3) computed-right)))))
+    (answered _ _ _ _ (by-law .3) computed-right)))

@@ -1,6 +1,6 @@
 -- The first refusal, of any things and for any answer: what is taken, what it means that nothing was refused, which is the first refused, and that what
--- follows it changes nothing. Events and lines are two instances (`Verdicts`, `Traces`).
-use mathlib.Core.Path.{_≡_, refl, ap}
+-- follows it changes nothing. Events and lines are two instances (`Verdicts`, `Traces`). And two answers that differ in one number only.
+use mathlib.Core.Path.{_≡_, refl, sym, ap, _∙_}
 use mathlib.Core.List.{List, [], _∷_, _++_, reverseAux}
 use Prim.Native.Nat.{ℕ, zero, suc, _+_, _≤_}
 use native.Mathlib.Omega.{arith}
@@ -94,3 +94,19 @@ module _ {A : Type 0} (answer : List A → A → ℕ) where
           × (ifZero n (takenOf answer (x ∷ h) (xs ++ more)) h ≡ ifZero n (takenOf answer (x ∷ h) xs) h)
       by-answer zero k f = f k
       by-answer (suc n) k f = (refl, refl)
+
+-- ---- two answers that are the same but where the first is n: where nothing was refused with n, both take the same and refuse the same
+
+module _ {A : Type 0} (old new : List A → A → ℕ) (n : ℕ) (some-number : 1 ≤ n) (agree : (h : List A) (x : A) → (old h x ≡ n → ⊥) → new h x ≡ old h x) where
+  pub same-first : (xs h : List A) → (firstRefusal old h xs .0 ≡ n → ⊥) →
+      (firstRefusal new h xs ≡ firstRefusal old h xs) × (takenOf new h xs ≡ takenOf old h xs)
+  unfolding takenOf firstRefusal
+  same-first [] h q = (refl, refl)
+  same-first (x ∷ xs) h q = by-answer (old h x) refl q (same-first xs (x ∷ h))
+    where
+      by-answer : (m : ℕ) → old h x ≡ m → (ifZero m (firstRefusal old (x ∷ h) xs) (m, length h + 1) .0 ≡ n → ⊥) →
+          ((firstRefusal old (x ∷ h) xs .0 ≡ n → ⊥) → (firstRefusal new (x ∷ h) xs ≡ firstRefusal old (x ∷ h) xs) × (takenOf new (x ∷ h) xs ≡ takenOf old (x ∷ h) xs)) →
+          (ifZero (new h x) (firstRefusal new (x ∷ h) xs) (new h x, length h + 1) ≡ ifZero m (firstRefusal old (x ∷ h) xs) (m, length h + 1))
+          × (ifZero (new h x) (takenOf new (x ∷ h) xs) h ≡ ifZero m (takenOf old (x ∷ h) xs) h)
+      by-answer zero e q f = let z : new h x ≡ 0 = agree h x (λ p. omega arith) ∙ e in rw z (f q)
+      by-answer (suc m) e q f = let z : new h x ≡ suc m = agree h x (λ p. q (sym e ∙ p)) ∙ e in rw z (refl, refl)

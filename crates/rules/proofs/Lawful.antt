@@ -170,7 +170,7 @@ in-order h a =
     record {
       time = time-kept h .0 (never 8);
       kinds = one-kind h .0 (never 9);
-      room = all-along h (never 9) .0 (never 10);
+      room = all-along h (never 9) (never 11) (never 12) .0 (never 10);
       charts = chart-runs h .0 (lives .charts);
       numbered = lives .numbered;
       begun = lives .begun;
@@ -194,7 +194,7 @@ unfolding eventTests
 order-kept h o = accepted-exactly h .1 (λ n.
     either-never (eqb 8 n) timeFalls _ h (time-kept h .1 (o .time))
     (either-never (eqb 9 n) secondKind _ h kinds
-    (either-never (eqb 10 n) noRoom _ h (all-along h kinds .1 (o .room))
+    (either-never (eqb 10 n) noRoom _ h (all-along h kinds (lives .0) (lives .1) .1 (o .room))
     (either-never (eqb 11 n) notAllowed _ h (lives .0)
     (either-never (eqb 12 n) notNext _ h (lives .1)
     (either-never (eqb 13 n) coreBroken _ h (core-runs h .1 (o .on-cores))

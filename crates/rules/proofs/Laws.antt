@@ -12,7 +12,8 @@ use Rattle.rules.specs.Refusals.{eventTests}
 use Rattle.rules.specs.Verdict.{Accepted, taken}
 use Rattle.rules.specs.Lawful.{Fits}
 use Rattle.rules.specs.Sheet.{heldTicks, idleTicks, unknownTicks, charge, chargeOn, span}
-use Rattle.rules.proofs.Answers.{accepted-exactly, allowed-exactly, all-fit}
+use Rattle.rules.proofs.Answers.{accepted-exactly, allowed-exactly}
+use Rattle.rules.proofs.Room.{all-fit}
 use Rattle.rules.proofs.Verdicts.{taken-accepted}
 use Rattle.rules.proofs.ChartFact.{chart-runs}
 use Rattle.rules.proofs.CoreRuns.{kept-run}
@@ -25,7 +26,7 @@ pub record Holds (h : List Event) : Type 0 where
   pub each-chart : (x : Instance) → (s : ℕ) × (n : ℕ) × Run (chartOf (x .kind)) s (wordsOf x h) n
   -- the events on each core are a run of the core rule, from unknown
   pub each-run : (c : List ℕ) → CoreRun c h (coreAt c h)
-  -- at most 256 names, 64 cores and 1,024 instances
+  -- at most 256 names and 64 cores, and all along at most 1,024 instances that need an entry
   pub room : Fits h
   -- held + idle + unknown = last - first, for every core
   pub each-core : (c : List ℕ) → heldTicks c h + idleTicks c h + unknownTicks c h ≡ span h

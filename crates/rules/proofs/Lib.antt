@@ -2,6 +2,7 @@
 pub mod Examples
 pub mod ManyNames
 pub mod ManyInstances
+pub mod RoomExamples
 pub mod Tests
 pub mod Sums
 pub mod ChartFact
@@ -19,6 +20,9 @@ pub mod Begun
 pub mod Totals
 pub mod Tracked
 pub mod OneKind
+pub mod Terminated
+pub mod Entries
+pub mod Needed
 pub mod Room
 pub mod Charges
 pub mod Alone
@@ -28,4 +32,5 @@ pub mod Told
 pub mod Places
 pub mod Traces
 pub mod Lawful
+pub mod SameVerdict
 pub mod TraceExamples

@@ -1,14 +1,14 @@
 -- A history of n events that each bring a new runnable tracks n names, no core and at most n instances. By these laws the answers after 255 and 256 names
 -- are computed in one walk of the history; by the definitions alone the checker would compare every two names.
 use mathlib.Core.Path.{_≡_, refl, ap, _∙_}
-use mathlib.Core.Bool.{Bool, true, false, _||_, cond, or-false}
+use mathlib.Core.Bool.{Bool, true, false, _&&_, _||_, cond, or-false}
 use mathlib.Core.Option.{none}
 use mathlib.Core.List.{List, [], _∷_}
 use Prim.Native.Nat.{ℕ, zero, suc, _+_, _≤_, _<_}
 use native.Mathlib.Omega.{arith}
-use lib.Dec.{eqb, ltb}
+use lib.Dec.{eqb, leb, ltb}
 use lib.ListN.{length, length-append}
-use borrow.Author.Tests.{ne-eqb, le-ltb, lt-ltb}
+use borrow.Author.Tests.{ne-eqb, le-ltb, lt-ltb, lt-leb}
 use Rattle.text.specs.Literal.{bytes}
 use Rattle.text.specs.Bytes.{sameBytes}
 use Rattle.text.proofs.Words.{same-eq, same-refl, other-length}
@@ -18,10 +18,10 @@ use Rattle.rules.specs.Words.{core, task, runnable, start}
 use Rattle.rules.specs.Charts.{isProcess}
 use Rattle.rules.specs.Event.{Event, Instance, sameInstance, instanceOf}
 use Rattle.rules.specs.Core.{takes, onCore}
-use Rattle.rules.specs.History.{hasInstances, isTracked, named, names, kindIn, kindOf, isKind, cores, instances, activates, numbers, lastNumber, isFrom, aboveAll}
+use Rattle.rules.specs.History.{hasInstances, isTracked, named, names, kindIn, kindOf, isKind, cores, instances, activates, numbers, lastNumber, isFrom, aboveAll, needsEntry, entries}
 use Rattle.rules.specs.Refusals.{look, timeFalls, secondKind, noRoom, notAllowed, notNext, coreBroken, countBroken, eventTests, answerTo}
 use Rattle.rules.specs.Verdict.{answer}
-use Rattle.rules.proofs.Sums.{any-new, none-one-more}
+use Rattle.rules.proofs.Sums.{any-new, none-one-more, only-less}
 use Rattle.rules.specs.Limits.{instanceLimit, coreLimit, nameLimit}
 
 -- an event line of each type: time, source and its instance, target and its instance, event
@@ -80,6 +80,9 @@ instances-many (suc n) =
     let x : Instance = instanceOf (newName n) in
     omega (arith, instances-many n, one-more (any (sameInstance x) (instances (many newName n))) (instances (many newName n)) x)
 
+few : (n : ℕ) → n < instanceLimit → length (entries (many newName n)) < instanceLimit
+few n h = omega (arith, instances-many n, only-less (needsEntry (many newName n)) (instances (many newName n)), h)
+
 no-core : (n : ℕ) (x : List ℕ) → isKind (eqb core) (kindOf x (many newName n)) ≡ false
 unfolding kindIn hasInstances isTracked isProcess onCore
 no-core zero x = refl
@@ -133,24 +136,22 @@ unfolding answerTo eventTests
 answer-if h e full wrong q r = λ i. answerIf (q i) (r i) h e
 
 -- without cores, and with few instances, the names decide
-names-decide : (n c i : ℕ) → c ≡ 0 → i ≤ instanceLimit → ltb nameLimit n || (ltb coreLimit c || ltb instanceLimit i) ≡ ltb nameLimit n
-names-decide n c i q r = rw (le-ltb coreLimit c (omega (arith, q)), le-ltb instanceLimit i r) (or-false (ltb nameLimit n))
+names-decide : (n c i : ℕ) (b : Bool) → c ≡ 0 → i < instanceLimit → ltb nameLimit n || (ltb coreLimit c || (leb instanceLimit i && b)) ≡ ltb nameLimit n
+names-decide n c i b q r = rw (le-ltb coreLimit c (omega (arith, q)), lt-leb instanceLimit i r) (or-false (ltb nameLimit n))
 
 -- after n names: one more; an event that tracks none; a core and its process, both new
 pub name-after : (n : ℕ) → n < instanceLimit → answer (many newName n) (newName n) ≡ answerIf (ltb nameLimit (n + 1)) false (many newName n) (newName n)
 unfolding noRoom
 name-after n h =
-    let few : length (instances (many newName (suc n))) ≤ instanceLimit = omega (arith, instances-many (suc n), h) in
     let all : length (names (many newName (suc n))) ≡ n + 1 = omega (arith, names-many (suc n)) in
     answer-if (many newName n) (newName n) (ltb nameLimit (n + 1)) false
-    (names-decide (length (names (many newName (suc n)))) _ _ (ap length (cores-many (suc n))) few ∙ ap (ltb nameLimit) all) (first-of-many n)
+    (names-decide (length (names (many newName (suc n)))) _ _ _ (ap length (cores-many (suc n))) (few n h) ∙ ap (ltb nameLimit) all) (first-of-many n)
 
-pub trigger-after : (n : ℕ) → n ≤ instanceLimit → answer (many newName n) (trigger 0) ≡ answerIf (ltb nameLimit n) false (many newName n) (trigger 0)
+pub trigger-after : (n : ℕ) → n < instanceLimit → answer (many newName n) (trigger 0) ≡ answerIf (ltb nameLimit n) false (many newName n) (trigger 0)
 unfolding noRoom notNext activates names named instances kindIn hasInstances isTracked isProcess onCore
 trigger-after n h =
-    let few : length (instances (many newName n)) ≤ instanceLimit = omega (arith, instances-many n, h) in
     answer-if (many newName n) (trigger 0) (ltb nameLimit n) false
-    (names-decide (length (names (many newName n))) _ _ (ap length (cores-many n)) few ∙ ap (ltb nameLimit) (names-many n)) refl
+    (names-decide (length (names (many newName n))) _ _ _ (ap length (cores-many n)) (few n h) ∙ ap (ltb nameLimit) (names-many n)) refl
 
 pub core-after : (n : ℕ) → 255 ≤ n → answer (many newName n) (newCore 0) ≡ answerIf true false (many newName n) (newCore 0)
 unfolding noRoom notNext activates names named hasInstances isTracked isProcess onCore takes

@@ -35,15 +35,15 @@ use Rattle.rules.specs.Words.{semaphore}
 use Rattle.rules.specs.Event.{Event, Instance, sameInstance, stateOf}
 use Rattle.rules.specs.Core.{onCore}
 use Rattle.rules.specs.History.{hasInstances, isTracked, named, names, kindIn, cores, instances, activates, lastTime}
-use Rattle.rules.specs.Refusals.{less, timeFalls, sourceClash, targetClash, secondKind, noRoom, offChart, neverActivated, notAllowed, notNext, coreBroken, countBroken, eventTests, answerTo, unseen}
+use Rattle.rules.specs.Refusals.{less, timeFalls, sourceClash, targetClash, secondKind, needsOne, noRoom, offChart, neverActivated, notAllowed, notNext, coreBroken, countBroken, eventTests, answerTo, unseen}
 use Rattle.rules.specs.First.{takenOf}
 use Rattle.rules.specs.Verdict.{answer, Accepted, taken}
 use Rattle.rules.specs.Lines.{kindNumber, eventFrom, eventIn, eventOfLine, withEvent, eventsOf, requests}
 use Rattle.rules.proofs.Tests.{both}
 use Rattle.rules.proofs.CoreWords.{isStep}
-use Rattle.rules.proofs.Answers.{all-fit}
+use Rattle.rules.proofs.Room.{all-fit}
 use Rattle.rules.proofs.Seen.{OneWorded, Worded, first-seen}
-use Rattle.rules.specs.Limits.{instanceLimit, coreLimit, nameLimit}
+use Rattle.rules.specs.Limits.{coreLimit, nameLimit}
 
 -- ---- the words: one computed test for each type
 
@@ -164,10 +164,10 @@ unjudged-zero Semaphore q = cc
 -- "STI, SCHED, EVENT and SIG lines are read and their fields checked, but only move the time"
 pub only-time : (h : List Event) → Accepted h → (e : ReadEvent) (source target : List ℕ) (count : ℕ) → judged (e .kind) ≡ false →
     answer h (eventFrom e source target count) ≡ cond (less (e .time) (lastTime h)) 8 0
-unfolding answerTo eventTests timeFalls secondKind sourceClash targetClash noRoom offChart neverActivated notAllowed notNext coreBroken countBroken names named kindIn instances onCore hasInstances isTracked isProcess activates chartOf
+unfolding answerTo eventTests timeFalls secondKind sourceClash targetClash needsOne noRoom offChart neverActivated notAllowed notNext coreBroken countBroken names named kindIn instances onCore hasInstances isTracked isProcess activates chartOf
 only-time h a e source target count j =
     let f = all-fit h a in
-    rw (unjudged-zero (e .kind) j, le-ltb nameLimit (length (names h)) (f .names-fit), le-ltb coreLimit (length (cores h)) (f .cores-fit), le-ltb instanceLimit (length (instances h)) (f .instances-fit), and-false)
+    rw (unjudged-zero (e .kind) j, le-ltb nameLimit (length (names h)) (f .names-fit), le-ltb coreLimit (length (cores h)) (f .cores-fit), and-false, and-false)
 
 -- ---- any lines
 

@@ -6,18 +6,19 @@ use mathlib.Core.Option.{Option, none, some}
 use mathlib.Core.List.{List, [], _∷_}
 use Prim.Native.Nat.{ℕ}
 use lib.Dec.{eqb}
-use borrow.Author.Tests.{eqb-true}
-use Rattle.rules.specs.Lists.{any, keep, orElse, addAll}
+use borrow.Author.Tests.{eqb-true, not-false}
+use Rattle.rules.specs.Lists.{any, keep, orElse, latest, earliest, addAll}
 use Rattle.rules.specs.Words.{semaphore}
 use Rattle.rules.specs.Chart.{Step, stepFor, entered}
 use Rattle.rules.specs.Charts.{isProcess, chartOf}
-use Rattle.rules.specs.Event.{Event, Instance, sameInstance, instanceOf, firstWord, stateOf}
+use Rattle.rules.specs.Event.{Event, Instance, sameInstance, instanceOf, wordsOf, firstWord, stateOf}
 use Rattle.rules.specs.History.{hasInstances, instances}
 use Rattle.rules.specs.Refusals.{unseen}
 use Rattle.rules.proofs.Tests.{clash, instance-true, instance-refl}
 use Rattle.rules.proofs.Sums.{any-new}
 use Rattle.rules.proofs.Changes.{state-other, state-own, first-other, first-own}
 use Rattle.rules.proofs.CoreWords.{isStep}
+use Rattle.rules.proofs.Activations.{no-value}
 
 -- the instance of a line that is not a semaphore's has the line's number
 pub own-number : (e : Event) → hasInstances (e .kind) ≡ true → (instanceOf e) .number ≡ e .targetInstance
@@ -58,6 +59,26 @@ first-listed (e ∷ h) x k = by-instance (sameInstance x (instanceOf e)) refl (h
     by-instance false q false t i = ap unseen (first-other x e h q) ∙ i
 
 -- ---- in a state
+
+-- an instance with no word has no state
+pub wordless : (h : List Event) (x : Instance) → firstWord x h ≡ none → stateOf x h ≡ none
+wordless h x n = by-words (wordsOf x h) n
+  where
+    by-words : (ws : List ℕ) → earliest some ws ≡ none → latest (λ a. entered (stepFor (chartOf (x .kind)) a)) ws ≡ none
+    by-words [] q = refl
+    by-words (w ∷ ws) q = by-rest (earliest some ws) q
+      where
+        by-rest : (o : Option ℕ) → orElse o (some w) ≡ none → latest (λ a. entered (stepFor (chartOf (x .kind)) a)) (w ∷ ws) ≡ none
+        by-rest none q = absurd (no-value q)
+        by-rest (some b) q = absurd (no-value q)
+
+-- so one that has a state is listed
+pub stated-listed : (h : List Event) (x : Instance) → hasInstances (x .kind) ≡ true → unseen (stateOf x h) ≡ false → any (sameInstance x) (instances h) ≡ true
+stated-listed h x k s = by-word (firstWord x h) refl (first-listed h x k)
+  where
+    by-word : (o : Option ℕ) → firstWord x h ≡ o → unseen o ≡ not (any (sameInstance x) (instances h)) → any (sameInstance x) (instances h) ≡ true
+    by-word none q l = absurd (clash true refl (rw (wordless h x q) at s))
+    by-word (some a) q l = not-false _ (sym l)
 
 -- the word of a T, I or R event is a step of its chart
 abbrev pub OneWorded : Event → Type 0

@@ -1,8 +1,8 @@
 -- Sums over lists, and lists that grow by what is new.
 use mathlib.Core.Path.{_≡_, refl, sym, ap, subst, _∙_}
-use mathlib.Core.Bool.{Bool, true, false, _||_}
+use mathlib.Core.Bool.{Bool, true, false, _&&_, _||_, and-false, and-true}
 use mathlib.Core.List.{List, [], _∷_, _++_}
-use Prim.Native.Nat.{ℕ, _+_, _*_, _≤_}
+use Prim.Native.Nat.{ℕ, _+_, _*_, _≤_, _<_}
 use native.Mathlib.Nat.{suc-mul}
 use native.Mathlib.Omega.{arith}
 use lib.ListN.{length}
@@ -26,6 +26,23 @@ module _ {A : Type 0} where
   sum-at-most f m [] q = omega arith
   sum-at-most f m (x ∷ xs) q = rw (suc-mul (length xs) m) (omega (arith, q x, sum-at-most f m xs q))
 
+  -- how many pass a test
+  length-only : (p : A → Bool) (xs : List A) → length (only p xs) ≡ sumOver (λ x. oneIf (p x)) xs
+  length-only p [] = refl
+  length-only p (x ∷ xs) = by-test (p x) (length-only p xs)
+    where
+      by-test : (b : Bool) → length (only p xs) ≡ sumOver (λ y. oneIf (p y)) xs → length (keep b x (only p xs)) ≡ oneIf b + sumOver (λ y. oneIf (p y)) xs
+      by-test true q = omega (arith, q)
+      by-test false q = omega (arith, q)
+
+  pub only-less : (p : A → Bool) (xs : List A) → length (only p xs) ≤ length xs
+  only-less p [] = omega arith
+  only-less p (x ∷ xs) = by-test (p x) (only-less p xs)
+    where
+      by-test : (b : Bool) → length (only p xs) ≤ length xs → length (keep b x (only p xs)) ≤ length (x ∷ xs)
+      by-test true q = omega arith
+      by-test false q = omega arith
+
   any-append : (p : A → Bool) (xs ys : List A) → any p (xs ++ ys) ≡ any p xs || any p ys
   any-append p [] ys = refl
   any-append p (x ∷ xs) ys = by-test (p x) (any-append p xs ys)
@@ -39,10 +56,17 @@ module _ {A : Type 0} where
   any-one-more p true xs y q = q
   any-one-more p false xs y q = rw (any-append, q)
 
-  -- and what is not in it and is not added is not in it
+  -- and what is added changes nothing for what it is not
+  pub other-one-more : (p : A → Bool) (b : Bool) (xs : List A) (y : A) → p y ≡ false → any p (addUnless b xs y) ≡ any p xs
+  other-one-more p true xs y r = refl
+  other-one-more p false xs y r = any-append p xs (y ∷ []) ∙ rw r (last-false (any p xs))
+    where
+      last-false : (b : Bool) → b || false ≡ b
+      last-false true = refl
+      last-false false = refl
+
   pub none-one-more : (p : A → Bool) (b : Bool) (xs : List A) (y : A) → any p xs ≡ false → p y ≡ false → any p (addUnless b xs y) ≡ false
-  none-one-more p true xs y q r = q
-  none-one-more p false xs y q r = rw (any-append, q, r)
+  none-one-more p b xs y q r = other-one-more p b xs y r ∙ q
 
   pub any-more : (eq : A → A → Bool) (p : A → Bool) (xs ys : List A) → any p xs ≡ true → any p (addAll eq xs ys) ≡ true
   any-more eq p xs [] q = q
@@ -117,9 +141,36 @@ module _ {A : Type 0} (eq : A → A → Bool) (eq-true : (x y : A) → eq x y �
           last false true = refl
           last false false = refl
 
+  -- what is in the list and passes a test is among those that pass it
+  pub any-only : (p : A → Bool) (xs : List A) (x : A) → any (eq x) (only p xs) ≡ any (eq x) xs && p x
+  any-only p [] x = refl
+  any-only p (y ∷ ys) x = by-test (p y) refl (eq x y) refl (any-only p ys x)
+    where
+      by-test : (b : Bool) → p y ≡ b → (d : Bool) → eq x y ≡ d → any (eq x) (only p ys) ≡ any (eq x) ys && p x →
+          any (eq x) (keep b y (only p ys)) ≡ (d || any (eq x) ys) && p x
+      by-test true b true d i = rw d (sym (ap p (eq-true x y d) ∙ b))
+      by-test false b true d i = let n : p x ≡ false = ap p (eq-true x y d) ∙ b in i ∙ rw n (and-false (any (eq x) ys))
+      by-test true b false d i = rw d i
+      by-test false b false d i = i
+
+  -- where one of them fails, fewer pass
+  pub fewer : (p : A → Bool) (xs : List A) (x : A) → any (eq x) xs ≡ true → p x ≡ false → length (only p xs) < length xs
+  fewer p [] x q n = absurd (clash false q refl)
+  fewer p (y ∷ ys) x q n = by-test (eq x y) refl q (p y) refl (fewer p ys x)
+    where
+      by-test : (d : Bool) → eq x y ≡ d → d || any (eq x) ys ≡ true → (b : Bool) → p y ≡ b → (any (eq x) ys ≡ true → p x ≡ false → length (only p ys) < length ys) →
+          length (keep b y (only p ys)) < length (y ∷ ys)
+      by-test true d q true b i = absurd (clash (p y) b (ap p (sym (eq-true x y d)) ∙ n))
+      by-test d e q false b i = omega (arith, only-less p ys)
+      by-test false d q true b i = omega (arith, i q n)
+
   sum-append : (f : A → ℕ) (xs : List A) (y : A) → sumOver f (xs ++ (y ∷ [])) ≡ sumOver f xs + f y
   sum-append f [] y = omega arith
   sum-append f (x ∷ xs) y = omega (arith, sum-append f xs y)
+
+  -- those that pass, with one more at the end
+  pub only-end : (p : A → Bool) (xs : List A) (y : A) → length (only p (xs ++ (y ∷ []))) ≡ length (only p xs) + oneIf (p y)
+  only-end p xs y = length-only p (xs ++ (y ∷ [])) ∙ sum-append (λ z. oneIf (p z)) xs y ∙ ap (λ (n : ℕ). n + oneIf (p y)) (sym (length-only p xs))
 
   sum-one-more : (f : A → ℕ) (b : Bool) (xs : List A) (y : A) → any (eq y) xs ≡ b → (any (eq y) xs ≡ false → f y ≡ 0) → sumOver f (addUnless b xs y) ≡ sumOver f xs
   sum-one-more f true xs y t q = refl
@@ -159,6 +210,43 @@ module _ {A : Type 0} (eq : A → A → Bool) (eq-true : (x y : A) → eq x y �
   pub once-added : (xs ys : List A) → Once xs → Once (addAll eq xs ys)
   once-added xs [] o = o
   once-added xs (y ∷ ys) o = once-added (addNew eq xs y) ys (once-one-more (any (eq y) xs) xs y refl o)
+
+  -- one element of such a list is counted where it is there and passes
+  count-one : (f : A → Bool) (x : A) (xs : List A) → Once xs → sumOver (λ y. oneIf (eq y x && f y)) xs ≡ oneIf (any (eq x) xs && f x)
+  count-one f x xs o = sum-cong _ (λ y. oneIf (eq y x && f x)) xs pointwise ∙ by-test (f x)
+    where
+      pointwise : (y : A) → oneIf (eq y x && f y) ≡ oneIf (eq y x && f x)
+      pointwise y = by-same (eq y x) refl
+        where
+          by-same : (b : Bool) → eq y x ≡ b → oneIf (b && f y) ≡ oneIf (b && f x)
+          by-same true q = ap (λ (z : A). oneIf (f z)) (eq-true y x q)
+          by-same false q = refl
+
+      by-test : (b : Bool) → sumOver (λ y. oneIf (eq y x && b)) xs ≡ oneIf (any (eq x) xs && b)
+      by-test true = sum-cong _ (λ y. oneIf (eq y x)) xs (λ y. ap oneIf (and-true (eq y x))) ∙ o x ∙ sym (ap oneIf (and-true (any (eq x) xs)))
+      by-test false = sum-cong _ (λ y. 0) xs (λ y. ap oneIf (and-false (eq y x))) ∙ sum-zero xs ∙ sym (ap oneIf (and-false (any (eq x) xs)))
+
+  -- so two tests that say the same of all others count the others alike
+  pub count-others : (p q : A → Bool) (x : A) → ((y : A) → eq y x ≡ false → p y ≡ q y) → (xs : List A) → Once xs →
+      length (only p xs) + oneIf (any (eq x) xs && q x) ≡ length (only q xs) + oneIf (any (eq x) xs && p x)
+  count-others p q x d xs o =
+      omega (
+        arith,
+        length-only p xs,
+        length-only q xs,
+        count-one p x xs o,
+        count-one q x xs o,
+        sum-add (λ y. oneIf (p y)) (λ y. oneIf (eq y x && q y)) xs,
+        sum-add (λ y. oneIf (q y)) (λ y. oneIf (eq y x && p y)) xs,
+        sum-cong (λ y. oneIf (p y) + oneIf (eq y x && q y)) (λ y. oneIf (q y) + oneIf (eq y x && p y)) xs pointwise,
+      )
+    where
+      pointwise : (y : A) → oneIf (p y) + oneIf (eq y x && q y) ≡ oneIf (q y) + oneIf (eq y x && p y)
+      pointwise y = by-same (eq y x) refl
+        where
+          by-same : (b : Bool) → eq y x ≡ b → oneIf (p y) + oneIf (b && q y) ≡ oneIf (q y) + oneIf (b && p y)
+          by-same true t = omega arith
+          by-same false t = omega (arith, ap oneIf (d y t))
 
 -- a sum over chosen elements is the whole sum where the others count 0
 pub sum-only : {A : Type 0} (k : A → Bool) (f : A → ℕ) → ((x : A) → k x ≡ false → f x ≡ 0) → (xs : List A) → sumOver f (only k xs) ≡ sumOver f xs

@@ -1,4 +1,4 @@
--- What a history says of names, instances, numbers and counts.
+-- What a history says of names, instances, numbers and counts, and which instances need an entry.
 use mathlib.Core.Bool.{Bool, false, not, _&&_, _||_}
 use mathlib.Core.Option.{Option, none, some}
 use mathlib.Core.List.{List, [], _∷_}
@@ -6,9 +6,9 @@ use Prim.Native.Nat.{ℕ}
 use lib.Dec.{eqb, leb}
 use Rattle.text.specs.Bytes.{sameBytes}
 use Rattle.rules.specs.Lists.{any, member, only, keep, when, orElse, latest, earliest, addAll}
-use Rattle.rules.specs.Words.{core, runnable, semaphore, activate, mtalimitexceeded, start}
+use Rattle.rules.specs.Words.{core, runnable, semaphore, activate, mtalimitexceeded, start, TERMINATED}
 use Rattle.rules.specs.Charts.{isProcess}
-use Rattle.rules.specs.Event.{Event, Instance, sameInstance, instanceOf}
+use Rattle.rules.specs.Event.{Event, Instance, sameInstance, instanceOf, stateOf}
 use Rattle.rules.specs.Core.{onCore, on}
 
 -- ---- tracked names, in order of first mention
@@ -53,7 +53,7 @@ unfoldable pub instances : List Event → List Instance
 instances [] = []
 instances (e ∷ h) = addAll sameInstance (instances h) (keep (hasInstances (e .kind)) (instanceOf e) [])
 
--- ---- the last time, numbers and count
+-- ---- the last time, and the numbers of activations
 
 abbrev pub lastTime : List Event → Option ℕ
 lastTime [] = none
@@ -81,6 +81,30 @@ isFrom k n i x = eqb k (x .kind) && (sameBytes n (x .name) && leb i (x .number))
 -- "a number above all seen of that process" (02, No. 5)
 unfoldable pub aboveAll : ℕ → List ℕ → ℕ → List Event → Bool
 aboveAll k n i h = not (any (isFrom k n i) (instances h))
+
+-- a number at the first one or above it; none is, while there is no first one
+abbrev pub reaches : Option ℕ → ℕ → Bool
+reaches none i = false
+reaches (some f) i = leb f i
+
+-- ---- the instances that need an entry (02, No. 7)
+
+abbrev pub isTerminated : Option ℕ → Bool
+isTerminated none = false
+isTerminated (some s) = eqb s TERMINATED
+
+-- "a TERMINATED instance numbered at or above its entity's first activating number (start, for a runnable) needs no entry"
+unfoldable pub needsEntry : List Event → Instance → Bool
+needsEntry h x = not (isTerminated (stateOf x h) && reaches (firstNumber (x .kind) (x .name) h) (x .number))
+
+-- "living or older than their entity's first activation (all are, while it has none)"
+abbrev pub entries : List Event → List Instance
+entries h = only (needsEntry h) (instances h)
+
+abbrev pub hasEntry : List Event → Instance → Bool
+hasEntry h x = any (sameInstance x) (entries h)
+
+-- ---- a semaphore's count
 
 -- "c is the note of the semaphore's last line"
 unfoldable pub lastCount : List ℕ → List Event → Option ℕ

@@ -15,7 +15,7 @@ use Rattle.rules.specs.Chart.{Run}
 use Rattle.rules.specs.Charts.{chartOf}
 use Rattle.rules.specs.Event.{Event, Instance, wordsOf, firstWord}
 use Rattle.rules.specs.Core.{Core, on, CoreRun}
-use Rattle.rules.specs.History.{isTracked, names, cores, instances, activates, numbers, firstNumber}
+use Rattle.rules.specs.History.{isTracked, names, cores, activates, numbers, firstNumber, entries}
 use Rattle.rules.specs.Refusals.{countFollows, countAllowed}
 use Rattle.rules.specs.Lines.{eventsOf}
 use Rattle.rules.specs.Trace.{placeOf, InPlace}
@@ -28,6 +28,11 @@ module _ {A : Type 0} where
   Chain follows [] = Unit {0}
   Chain follows (x ∷ []) = Unit {0}
   Chain follows (x ∷ y ∷ ys) = follows y x × Chain follows (y ∷ ys)
+
+  -- after each element: of the list as it stood then
+  abbrev pub Always : (List A → Type 0) → List A → Type 0
+  Always holds [] = holds []
+  Always holds (x ∷ xs) = holds (x ∷ xs) × Always holds xs
 
   abbrev pub Each : (A → Type 0) → List A → Type 0
   Each holds [] = Unit {0}
@@ -43,11 +48,12 @@ uses n k e = (isTracked (e .kind) && (eqb k (e .kind) && sameBytes n (e .target)
 abbrev pub OneKind : List Event → Type 0
 OneKind es = (n : List ℕ) (j k : ℕ) → any (uses n j) es ≡ true → any (uses n k) es ≡ true → j ≡ k
 
--- not "the names or instances that the line adds don't fit"
+-- not "the names or instances that the line adds don't fit"; of the instances, "Refusal 10 for instances is then given exactly when 1,024 entries are living or older
+-- than their entity's first activation (all are, while it has none) and one more is needed" (02, No. 7): so there are never more, all along
 pub record Fits (es : List Event) : Type 0 where
   pub names-fit : length (names es) ≤ nameLimit
   pub cores-fit : length (cores es) ≤ coreLimit
-  pub instances-fit : length (instances es) ≤ instanceLimit
+  pub entries-fit : Always (λ h. length (entries h) ≤ instanceLimit) es
 
 -- "a second or later activate or mtalimitexceeded of one process, or start of one runnable, bears the number of the one before plus 1"
 abbrev pub NumberAfter : Event → Event → Type 0

@@ -14,4 +14,5 @@ pub mod Sheet
 pub mod Lines
 pub mod Trace
 pub mod Text
+pub mod OldJudge
 pub mod Lawful

@@ -9,12 +9,12 @@ use Rattle.text.specs.Bytes.{sameBytes}
 use Rattle.line.specs.Answer.{Test, test, lowest}
 use Rattle.rules.specs.Lists.{member}
 use Rattle.rules.specs.Chart.{allowed}
-use Rattle.rules.specs.Charts.{chartOf}
-use Rattle.rules.specs.Words.{core, semaphore, increment, decrement, free, unlock, lock, lock-used, full, overfull, unlock-full, used}
+use Rattle.rules.specs.Charts.{isProcess, chartOf}
+use Rattle.rules.specs.Words.{core, semaphore, mtalimitexceeded, increment, decrement, free, unlock, lock, lock-used, full, overfull, unlock-full, used}
 use Rattle.rules.specs.Limits.{nameLimit, coreLimit, instanceLimit}
 use Rattle.rules.specs.Event.{Event, Instance, sameInstance, instanceOf, stateOf}
 use Rattle.rules.specs.Core.{Core, unknown, idle, held, takes, onCore, coreAt}
-use Rattle.rules.specs.History.{hasInstances, isTracked, activates, kindOf, names, cores, instances, lastTime, lastNumber, firstNumber, aboveAll, lastCount}
+use Rattle.rules.specs.History.{hasInstances, isTracked, activates, kindOf, names, cores, lastTime, lastNumber, firstNumber, aboveAll, reaches, entries, hasEntry, lastCount}
 
 -- ---- what is known when an event line comes
 
@@ -22,9 +22,10 @@ pub record Known : Type 0 where
   pub time : Option ℕ  -- of the event line before
   pub sourceKind : Option ℕ  -- as what the line's source and its target are tracked
   pub targetKind : Option ℕ
-  pub names : ℕ  -- how many names, cores and instances there are with this line
+  pub names : ℕ  -- how many names and cores there are with this line
   pub cores : ℕ
-  pub instances : ℕ
+  pub entries : ℕ  -- how many instances need an entry, and whether the line's own does
+  pub entry : Bool
   pub state : Option ℕ  -- of the line's instance or semaphore
   pub number : Option ℕ  -- of the last activation of its process, or start of its runnable
   pub first : Option ℕ  -- and of the first
@@ -39,7 +40,8 @@ look h e = record {
   targetKind = kindOf (e .target) h;
   names = length (names (e ∷ h));
   cores = length (cores (e ∷ h));
-  instances = length (instances (e ∷ h));
+  entries = length (entries h);
+  entry = hasEntry h (instanceOf e);
   state = stateOf (instanceOf e) h;
   number = lastNumber (e .kind) (e .target) h;
   first = firstNumber (e .kind) (e .target) h;
@@ -72,9 +74,35 @@ targetClash k e = isTracked (e .kind) && differs (k .targetKind) (e .kind)
 unfoldable pub secondKind : Known → Event → Bool
 secondKind k e = sourceClash k e || targetClash k e
 
+-- ---- the number that an activation has to bear
+-- "a second or later activate or mtalimitexceeded of one process, or start of one runnable, bears the number of the one before plus 1." And "The first activate or
+-- mtalimitexceeded must bear a number above all seen of that process, else 12." (02, No. 5)
+
+abbrev pub isNext : Option ℕ → Bool → ℕ → Bool
+isNext none above i = above
+isNext (some m) above i = eqb i (m + 1)
+
+unfoldable pub isNextActivation : Known → Event → Bool
+isNextActivation k e = activates (e .kind) (e .word) && isNext (k .number) (k .above) (e .targetInstance)
+
 -- ---- 10: "the names or instances that the line adds don't fit"
+
+-- "mtalimitexceeded", of a process
+unfoldable pub exceedsLimit : ℕ → ℕ → Bool
+exceedsLimit k a = isProcess k && eqb a mtalimitexceeded
+
+-- "absent means terminated or never activated, so a non-activating event of it is 11, an activating one other than the next 12. Neither needs room, nor does
+-- mtalimitexceeded." (02, No. 7) So a line needs one more entry if its instance has none, its word is not mtalimitexceeded, and its process or runnable has no first
+-- number, or the instance is below it, or the line is the next activation.
+unfoldable pub needsOne : Known → Event → Bool
+needsOne k e =
+    hasInstances (e .kind) && (not (k .entry)
+    && (not (exceedsLimit (e .kind) (e .word)) && (not (reaches (k .first) (e .targetInstance)) || isNextActivation k e)))
+
+-- "Refusal 10 for instances is then given exactly when 1,024 entries are living or older than their entity's first activation (all are, while it has none) and
+-- one more is needed."
 unfoldable pub noRoom : Known → Event → Bool
-noRoom k e = ltb nameLimit (k .names) || (ltb coreLimit (k .cores) || ltb instanceLimit (k .instances))
+noRoom k e = ltb nameLimit (k .names) || (ltb coreLimit (k .cores) || (leb instanceLimit (k .entries) && needsOne k e))
 
 -- ---- 11: "chart step not allowed"
 
@@ -88,10 +116,6 @@ unseen (some s) = false
 
 -- "Once a process has had an activate or mtalimitexceeded numbered f, a non-activating first event of an instance numbered f or more is 11. .. Runnables the
 -- same, with start." (02, No. 5)
-abbrev pub reaches : Option ℕ → ℕ → Bool
-reaches none i = false
-reaches (some f) i = leb f i
-
 unfoldable pub neverActivated : Known → Event → Bool
 neverActivated k e = unseen (k .state) && (hasInstances (e .kind) && (not (activates (e .kind) (e .word)) && reaches (k .first) (e .targetInstance)))
 
@@ -99,12 +123,6 @@ unfoldable pub notAllowed : Known → Event → Bool
 notAllowed k e = offChart k e || neverActivated k e
 
 -- ---- 12: "instance number not the next"
--- "a second or later activate or mtalimitexceeded of one process, or start of one runnable, bears the number of the one before plus 1." And "The first activate or
--- mtalimitexceeded must bear a number above all seen of that process, else 12." (02, No. 5)
-
-abbrev pub isNext : Option ℕ → Bool → ℕ → Bool
-isNext none above i = above
-isNext (some m) above i = eqb i (m + 1)
 
 unfoldable pub notNext : Known → Event → Bool
 notNext k e = activates (e .kind) (e .word) && not (isNext (k .number) (k .above) (e .targetInstance))
@@ -143,16 +161,20 @@ countBroken k e = eqb (e .kind) semaphore && not (countFollows (k .count) (e .wo
 
 -- ---- the answer: "The lowest number that applies wins", 0 where none does
 
-unfoldable pub eventTests : Known → Event → List Test
-eventTests k e =
+-- where `full` is what 10 says
+abbrev pub testsWith : Bool → Known → Event → List Test
+testsWith full k e =
     test 8 (timeFalls k e)
     ∷ test 9 (secondKind k e)
-    ∷ test 10 (noRoom k e)
+    ∷ test 10 full
     ∷ test 11 (notAllowed k e)
     ∷ test 12 (notNext k e)
     ∷ test 13 (coreBroken k e)
     ∷ test 14 (countBroken k e)
     ∷ []
+
+unfoldable pub eventTests : Known → Event → List Test
+eventTests k e = testsWith (noRoom k e) k e
 
 unfoldable pub answerTo : Known → Event → ℕ
 answerTo k e = lowest (eventTests k e)

@@ -9,8 +9,10 @@ use Rattle.rules.specs.Sheet.{span, sheet}
 use Rattle.rules.specs.Lines.{eventsOf}
 use Rattle.rules.specs.Trace.{placeOf, takenLines, verdictOn}
 
-unfoldable pub traceText : List (List ℕ) → List ℕ
-traceText ls =
-    let h = takenLines [] ls in
-    let v = verdictOn [] ls in
+-- by the lines taken and the verdict
+abbrev pub textBy : List (List ℕ) → ℕ × ℕ → List ℕ
+textBy h v =
     cond (eqb (v .0) 0) (acceptedText (placeOf h .scale) (span (eventsOf h)) ++ sheetText (sheet (eventsOf h))) (refusedText (v .0) (v .1))
+
+unfoldable pub traceText : List (List ℕ) → List ℕ
+traceText ls = textBy (takenLines [] ls) (verdictOn [] ls)

@@ -89,12 +89,20 @@ answerInPlace p l = lowest (placeTests p l)
 
 -- ---- the answer to a line after those taken: 8 to 14 for an event line that none of 1 to 7 refuses
 
+-- by the answer to an event after a history of events
+module _ (judge : List Event → Event → ℕ) where
+  abbrev pub eventAnswerBy : Option Event → List Event → ℕ
+  eventAnswerBy none es = 0
+  eventAnswerBy (some e) es = judge es e
+
+  abbrev pub answerBy : List (List ℕ) → List ℕ → ℕ
+  answerBy h l = ifZero (answerInPlace (placeOf h) l) (eventAnswerBy (eventOfLine l) (eventsOf h)) (answerInPlace (placeOf h) l)
+
 abbrev pub eventAnswer : Option Event → List Event → ℕ
-eventAnswer none es = 0
-eventAnswer (some e) es = answer es e
+eventAnswer = eventAnswerBy answer
 
 unfoldable pub answerAt : List (List ℕ) → List ℕ → ℕ
-answerAt h l = ifZero (answerInPlace (placeOf h) l) (eventAnswer (eventOfLine l) (eventsOf h)) (answerInPlace (placeOf h) l)
+answerAt h l = answerBy answer h l
 
 -- ---- the verdict: a number and a line, counted from 1
 
@@ -110,9 +118,12 @@ takenLines = takenOf answerAt
 abbrev pub refusalOn : List (List ℕ) → List (List ℕ) → ℕ × ℕ
 refusalOn = firstRefusal answerAt
 
--- the verdict is the refusal, and that of the end where all lines are taken
+-- the verdict is the refusal, and that of the end where all lines are taken: by the answer to a line after a history of lines
+abbrev pub verdictBy : (List (List ℕ) → List ℕ → ℕ) → List (List ℕ) → List (List ℕ) → ℕ × ℕ
+verdictBy judge h ls = ifZero (firstRefusal judge h ls .0) (atEnd (takenOf judge h ls)) (firstRefusal judge h ls)
+
 unfoldable pub verdictOn : List (List ℕ) → List (List ℕ) → ℕ × ℕ
-verdictOn h ls = ifZero (refusalOn h ls .0) (atEnd (takenLines h ls)) (refusalOn h ls)
+verdictOn h ls = verdictBy answerAt h ls
 
 -- ---- "every line is well formed and in its place": none of 1 to 7 refuses any line of a history
 
