@@ -1,6 +1,6 @@
 -- What the code decides test after test is what the rules answer at what the tables say.
 use mathlib.Core.Path.{_≡_, refl, sym, ap, _∙_}
-use mathlib.Core.Bool.{Bool, true, false, not, _&&_, _||_, cond}
+use mathlib.Core.Bool.{Bool, true, false, not, _&&_, _||_, cond, Bool·not-not}
 use mathlib.Core.Option.{none, some}
 use mathlib.Core.List.{List}
 use Prim.Native.Nat.{ℕ, zero, suc, _+_}
@@ -11,9 +11,8 @@ use Rattle.rules.specs.Lists.{ifZero}
 use Rattle.rules.specs.Chart.{stepFor, allowed}
 use Rattle.rules.specs.Charts.{chartOf}
 use Rattle.rules.specs.Words.{core, semaphore}
-use Rattle.rules.specs.History.{activates}
 use Rattle.rules.specs.Core.{held, takes, onCore, no-core, takes-core, coreClass}
-use Rattle.rules.specs.History.{hasInstances}
+use Rattle.rules.specs.History.{hasInstances, reaches}
 use Rattle.rules.specs.Event.{Event, Instance, sameInstance, instanceOf}
 use Rattle.rules.specs.Refusals.{
   Known,
@@ -25,9 +24,10 @@ use Rattle.rules.specs.Refusals.{
   sourceClash,
   targetClash,
   secondKind,
+  isNextActivation,
+  needsOne,
   noRoom,
   offChart,
-  reaches,
   neverActivated,
   notAllowed,
   isNext,
@@ -48,7 +48,7 @@ use Rattle.tables.specs.Entry.{idleCore, heldBy, startedEntry, lastTime}
 use Rattle.lookup.specs.declared.find.Found.{Found}
 use Rattle.lookup.specs.declared.find.Found.the-variants.{At, Nothing}
 use Rattle.lookup.specs.declared.look.LookedUp.{LookedUp}
-use Rattle.lookup.specs.LookedUp.{lookedUp, aboveIn}
+use Rattle.lookup.specs.LookedUp.{lookedUp, isNothing, aboveIn}
 use Rattle.decide.specs.declared.plan.Plan.{Plan}
 use Rattle.decide.specs.declared.plan.Plan.the-variants.{Refuse, Take}
 use Rattle.decide.specs.Known.{kindIn, standingIn, numberIn, numberedIn, firstNumberIn, stateIn, another, isHolder, coreIn, knownBy}
@@ -58,6 +58,9 @@ use Rattle.decide.specs.PlanCode.{
   kindClash,
   sourceClashIn,
   targetClashIn,
+  reachesFirst,
+  isNextIn,
+  needsOneIn,
   noRoomIn,
   neverActivatedIn,
   notNextIn,
@@ -128,34 +131,40 @@ module _ (nums ticks : List ℕ) (s : LookedUp) (e : Event) where
   unfolding targetClashIn targetClash knownBy
   target-in = rw (clash-opened (kindIn nums (s .target)) (e .kind))
 
-  room-in : noRoomIn nums s (e .kind) ≡ noRoom (knownBy nums ticks s e) e
-  unfolding noRoomIn noRoom knownBy
-  room-in = refl
-
-  activated-in : neverActivatedIn nums s (e .kind) (e .word) (e .targetInstance) ≡ neverActivated (knownBy nums ticks s e) e
-  unfolding neverActivatedIn neverActivated knownBy
-  activated-in =
-      rw (unseen-opened (stateIn nums s (e .kind)))
-      (ap (λ (b : Bool). unseen (opened (stateIn nums s (e .kind))) && (hasInstances (e .kind) && (not (activates (e .kind) (e .word)) && b)))
-      (by-test (eqb (numberedIn nums (s .target)) 0)))
+  first-in : reachesFirst nums (s .target) (e .targetInstance) ≡ reaches (knownBy nums ticks s e .first) (e .targetInstance)
+  unfolding reachesFirst knownBy
+  first-in = by-test (eqb (numberedIn nums (s .target)) 0)
     where
       by-test : (b : Bool) →
           not b && leb (firstNumberIn nums (s .target)) (e .targetInstance) ≡ reaches (cond b none (some (firstNumberIn nums (s .target)))) (e .targetInstance)
       by-test true = refl
       by-test false = refl
 
-  number-in : notNextIn nums s (e .kind) (e .word) (e .targetInstance) ≡ notNext (knownBy nums ticks s e) e
-  unfolding notNextIn notNext knownBy
-  number-in = ap (λ (b : Bool). activates (e .kind) (e .word) && b) (by-test (eqb (numberedIn nums (s .target)) 0))
+  next-in : isNextIn nums (s .target) (e .targetInstance)
+      ≡ isNext (knownBy nums ticks s e .number) (knownBy nums ticks s e .above) (e .targetInstance)
+  unfolding isNextIn knownBy
+  next-in = by-test (eqb (numberedIn nums (s .target)) 0)
     where
       above : Bool
       above = aboveIn nums (s .target) (e .targetInstance)
 
       by-test : (b : Bool) →
-          not (cond b above (eqb (e .targetInstance) (numberIn nums (s .target) + 1)))
-          ≡ not (isNext (cond b none (some (numberIn nums (s .target)))) above (e .targetInstance))
+          cond b above (eqb (e .targetInstance) (numberIn nums (s .target) + 1))
+          ≡ isNext (cond b none (some (numberIn nums (s .target)))) above (e .targetInstance)
       by-test true = refl
       by-test false = refl
+
+  room-in : noRoomIn nums s (e .kind) (e .word) (e .targetInstance) ≡ noRoom (knownBy nums ticks s e) e
+  unfolding noRoomIn needsOneIn noRoom needsOne isNextActivation knownBy
+  room-in = rw (first-in, next-in, Bool·not-not (isNothing (s .instance)))
+
+  activated-in : neverActivatedIn nums s (e .kind) (e .word) (e .targetInstance) ≡ neverActivated (knownBy nums ticks s e) e
+  unfolding neverActivatedIn neverActivated knownBy
+  activated-in = rw (unseen-opened (stateIn nums s (e .kind)), first-in)
+
+  number-in : notNextIn nums s (e .kind) (e .word) (e .targetInstance) ≡ notNext (knownBy nums ticks s e) e
+  unfolding notNextIn notNext knownBy
+  number-in = rw next-in
 
   count-in : countBrokenIn nums s (e .kind) (e .word) (e .count) ≡ countBroken (knownBy nums ticks s e) e
   unfolding countBrokenIn countBroken countFollowsIn countFollows knownBy

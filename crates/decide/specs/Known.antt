@@ -1,5 +1,5 @@
 -- What the tables say of what the rules ask for: `Known` from the rows that were looked up.
-use mathlib.Core.Bool.{Bool, false, cond, _&&_}
+use mathlib.Core.Bool.{Bool, false, not, cond, _&&_}
 use mathlib.Core.Option.{Option, none, some}
 use mathlib.Core.List.{List}
 use Prim.Native.Nat.{ℕ, suc, _+_}
@@ -13,7 +13,7 @@ use Rattle.tables.specs.Entry.{Column, entryAt, kindColumn, standingColumn, num
 use Rattle.lookup.specs.declared.find.Found.{Found}
 use Rattle.lookup.specs.declared.find.Found.the-variants.{At, Nothing}
 use Rattle.lookup.specs.declared.look.LookedUp.{LookedUp}
-use Rattle.lookup.specs.LookedUp.{newCore, newName, newInstance, aboveIn}
+use Rattle.lookup.specs.LookedUp.{newCore, newName, isNothing, aboveIn}
 
 -- an entry of a column, in the row found; 0 where there is none
 unfoldable pub entryOf : Column → List ℕ → Found → ℕ
@@ -63,7 +63,8 @@ knownBy nums ticks s e = record {
   targetKind = opened (kindIn nums (s .target));
   names = nameCount nums + newCore s + newName s (e .kind);
   cores = coreCount nums + newCore s;
-  instances = instanceCount nums + newInstance s (e .kind);
+  entries = instanceCount nums;
+  entry = not (isNothing (s .instance));
   state = opened (stateIn nums s (e .kind));
   number = numberKnown numberColumn nums (s .target);
   first = numberKnown firstNumberColumn nums (s .target);

@@ -12,13 +12,14 @@ use Rattle.rules.specs.Event.{Event}
 use Rattle.rules.specs.Limits.{nameLimit, coreLimit, instanceLimit}
 use Rattle.rules.specs.Core.{no-core, takes-core}
 use Rattle.rules.specs.History.{hasInstances, isTracked, activates}
-use Rattle.rules.specs.Refusals.{countAllowed}
+use Rattle.rules.specs.Refusals.{exceedsLimit, countAllowed}
 use Rattle.steps.specs.Rows.{moveBy}
 use Rattle.steps.specs.declared.chart.Move.{Move}
 use Rattle.steps.specs.declared.chart.Move.the-variants.{To, Off}
 use Rattle.tables.specs.Entry.{startedEntry, lastTime, nameCount, coreCount, instanceCount, idleCore}
+use Rattle.lookup.specs.declared.find.Found.{Found}
 use Rattle.lookup.specs.declared.look.LookedUp.{LookedUp}
-use Rattle.lookup.specs.LookedUp.{newCore, newName, newInstance, aboveIn}
+use Rattle.lookup.specs.LookedUp.{newCore, newName, isNothing, aboveIn}
 use Rattle.decide.specs.declared.plan.Plan.{Plan}
 use Rattle.decide.specs.declared.plan.Plan.the-variants.{Refuse, Take}
 use Rattle.decide.specs.Known.{kindIn, standingIn, numberIn, numberedIn, firstNumberIn, stateIn, isHolder}
@@ -37,19 +38,30 @@ sourceClashIn nums s source target = not (eqb (s .class) no-core) && (kindClash 
 unfoldable pub targetClashIn : List ℕ → LookedUp → ℕ → Bool
 targetClashIn nums s k = isTracked k && kindClash (kindIn nums (s .target)) k
 
-unfoldable pub noRoomIn : List ℕ → LookedUp → ℕ → Bool
-noRoomIn nums s k =
+-- a number at the first number of the name in a row or above it, and one that its next activation has to bear
+unfoldable pub reachesFirst : List ℕ → Found → ℕ → Bool
+reachesFirst nums f n = not (eqb (numberedIn nums f) 0) && leb (firstNumberIn nums f) n
+
+unfoldable pub isNextIn : List ℕ → Found → ℕ → Bool
+isNextIn nums f n = cond (eqb (numberedIn nums f) 0) (aboveIn nums f n) (eqb n (numberIn nums f + 1))
+
+unfoldable pub needsOneIn : List ℕ → LookedUp → ℕ → ℕ → ℕ → Bool
+needsOneIn nums s k a n =
+    hasInstances k && (isNothing (s .instance)
+    && (not (exceedsLimit k a) && (not (reachesFirst nums (s .target) n) || (activates k a && isNextIn nums (s .target) n))))
+
+unfoldable pub noRoomIn : List ℕ → LookedUp → ℕ → ℕ → ℕ → Bool
+noRoomIn nums s k a n =
     ltb nameLimit (nameCount nums + newCore s + newName s k)
-    || (ltb coreLimit (coreCount nums + newCore s) || ltb instanceLimit (instanceCount nums + newInstance s k))
+    || (ltb coreLimit (coreCount nums + newCore s) || (leb instanceLimit (instanceCount nums) && needsOneIn nums s k a n))
 
 unfoldable pub neverActivatedIn : List ℕ → LookedUp → ℕ → ℕ → ℕ → Bool
 neverActivatedIn nums s k a n =
     eqb (stateIn nums s k) 0
-    && (hasInstances k && (not (activates k a) && (not (eqb (numberedIn nums (s .target)) 0) && leb (firstNumberIn nums (s .target)) n)))
+    && (hasInstances k && (not (activates k a) && reachesFirst nums (s .target) n))
 
 unfoldable pub notNextIn : List ℕ → LookedUp → ℕ → ℕ → ℕ → Bool
-notNextIn nums s k a n =
-    activates k a && not (cond (eqb (numberedIn nums (s .target)) 0) (aboveIn nums (s .target) n) (eqb n (numberIn nums (s .target) + 1)))
+notNextIn nums s k a n = activates k a && not (isNextIn nums (s .target) n)
 
 -- whether a core serves an event of a class: `holder`, the event's instance holds it, and `first`, that instance is seen for the first time
 unfoldable pub coreServes : ℕ → ℕ → Bool → Bool → Bool
@@ -88,4 +100,4 @@ testsPlan nums ticks s e =
     cond (timeFallsIn nums ticks (e .time)) (Refuse 8)
     (cond (sourceClashIn nums s (e .source) (e .target)) (Refuse 9)
     (cond (targetClashIn nums s (e .kind)) (Refuse 9)
-    (cond (noRoomIn nums s (e .kind)) (Refuse 10) (stepsPlan nums s (e .kind) (e .word) (e .targetInstance) (e .count)))))
+    (cond (noRoomIn nums s (e .kind) (e .word) (e .targetInstance)) (Refuse 10) (stepsPlan nums s (e .kind) (e .word) (e .targetInstance) (e .count)))))

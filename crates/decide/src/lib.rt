@@ -5,3 +5,4 @@ pub mod known;
 pub mod names;
 pub mod numbers;
 pub mod plan;
+pub mod room;

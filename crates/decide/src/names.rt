@@ -1,16 +1,13 @@
-// The refusals 9 and 10 of an event line: its names and kinds, and the room for what it adds.
+// The refusal 9 of an event line: its names and kinds.
 ghost use mathlib.Core.Path.{_≡_};
 ghost use lib.ListN.{length};
 ghost use Rattle.tables.specs.Entry.{numsSize};
-ghost use Rattle.decide.specs.PlanCode.{kindClash, sourceClashIn, targetClashIn, noRoomIn};
+ghost use Rattle.decide.specs.PlanCode.{kindClash, sourceClashIn, targetClashIn};
 use crate::known::kind_in;
 use lookup::look::LookedUp;
-use lookup::look::rows_added;
 use steps::kind::tracked;
-use steps::kind::with_instances;
 use steps::numbers::CORE;
-use steps::numbers::*;
-use tables::entry::*;
+use steps::numbers::NO_CORE;
 use text::bytes::same;
 
 // Whether a name that is tracked as one kind, 0 for none, comes as another.
@@ -48,24 +45,4 @@ pub(crate) fn target_clash(nums: &[u32], s: LookedUp, kind: u32) -> bool
     }
     let row = s.target;
     kind_clash(kind_in(nums, row), kind)
-}
-
-// 10: whether the names or instances that the line adds don't fit.
-pub(crate) fn no_room(nums: &[u32], s: LookedUp, kind: u32) -> bool
-    requires { ⌜ length (now nums) ≡ numsSize ⌝ }
-    ensures { λ r. ⌜ r ≡ noRoomIn (now (nums .entry)) s kind ⌝ }
-{
-    let source_row = s.source;
-    let target_row = s.target;
-    let instance_row = s.instance;
-    let core = rows_added(s.class != NO_CORE, source_row);
-    let name = rows_added(tracked(kind), target_row);
-    let instance = rows_added(with_instances(kind), instance_row);
-    if (NAME_LIMIT as u64) < nums[NAMES] as u64 + core + name {
-        return true;
-    }
-    if (CORE_LIMIT as u64) < nums[CORES] as u64 + core {
-        return true;
-    }
-    (INSTANCE_LIMIT as u64) < nums[INSTANCES] as u64 + instance
 }

@@ -3,17 +3,40 @@ ghost use mathlib.Core.Path.{_≡_};
 ghost use lib.ListN.{length};
 ghost use Rattle.rules.specs.Refusals.{countAllowed};
 ghost use Rattle.tables.specs.Entry.{numsSize};
-ghost use Rattle.decide.specs.PlanCode.{neverActivatedIn, notNextIn, countFollowsIn, leastCount, countBrokenIn};
+ghost use Rattle.decide.specs.PlanCode.{reachesFirst, isNextIn, neverActivatedIn, notNextIn, countFollowsIn, leastCount, countBrokenIn};
 use crate::known::first_number_in;
 use crate::known::number_in;
 use crate::known::numbered_in;
 use crate::known::state_in;
+use lookup::find::Found;
 use lookup::look::LookedUp;
 use lookup::look::above_all;
 use steps::kind::numbers_instance;
 use steps::kind::with_instances;
 use steps::numbers::SEMAPHORE;
 use words::code::*;
+
+// Whether the process or runnable in a row has a first number, and the number is that one or above it.
+pub(crate) fn reaches_first(nums: &[u32], row: Found, number: u32) -> bool
+    requires { ⌜ length (now nums) ≡ numsSize ⌝ }
+    ensures { λ r. ⌜ r ≡ reachesFirst (now (nums .entry)) row number ⌝ }
+{
+    if !numbered_in(nums, row) {
+        return false;
+    }
+    first_number_in(nums, row) <= number
+}
+
+// Whether a number is one that the next activation has to bear: the last one plus 1, and of the first activation one above all seen.
+pub(crate) fn is_next(nums: &[u32], row: Found, number: u32) -> bool
+    requires { ⌜ length (now nums) ≡ numsSize ⌝ }
+    ensures { λ r. ⌜ r ≡ isNextIn (now (nums .entry)) row number ⌝ }
+{
+    if !numbered_in(nums, row) {
+        return above_all(nums, row, number);
+    }
+    number as u64 == number_in(nums, row) as u64 + 1
+}
 
 // 11: whether this is the first event of an instance, numbered as the first activation or higher, and does not activate it.
 pub(crate) fn never_activated(nums: &[u32], s: LookedUp, kind: u32, word: u32, number: u32) -> bool
@@ -30,13 +53,10 @@ pub(crate) fn never_activated(nums: &[u32], s: LookedUp, kind: u32, word: u32, n
     if numbers_instance(kind, word) {
         return false;
     }
-    if !numbered_in(nums, row) {
-        return false;
-    }
-    first_number_in(nums, row) <= number
+    reaches_first(nums, row, number)
 }
 
-// 12: whether the instance number is not the next, and of the first activation whether it is not above all seen.
+// 12: whether the instance number is not the next.
 pub(crate) fn not_next(nums: &[u32], s: LookedUp, kind: u32, word: u32, number: u32) -> bool
     requires { ⌜ length (now nums) ≡ numsSize ⌝ }
     ensures { λ r. ⌜ r ≡ notNextIn (now (nums .entry)) s kind word number ⌝ }
@@ -45,10 +65,7 @@ pub(crate) fn not_next(nums: &[u32], s: LookedUp, kind: u32, word: u32, number: 
     if !numbers_instance(kind, word) {
         return false;
     }
-    if !numbered_in(nums, row) {
-        return !above_all(nums, row, number);
-    }
-    number as u64 != number_in(nums, row) as u64 + 1
+    !is_next(nums, row, number)
 }
 
 // Whether a semaphore's count follows the one before.

@@ -7,12 +7,12 @@ ghost use Rattle.decide.specs.Decide.{planOf, decided};
 ghost use Rattle.decide.specs.PlanCode.{timeFallsIn, stepsPlan};
 use crate::cores::core_broken;
 use crate::known::state_in;
-use crate::names::no_room;
 use crate::names::source_clash;
 use crate::names::target_clash;
 use crate::numbers::count_broken;
 use crate::numbers::never_activated;
 use crate::numbers::not_next;
+use crate::room::no_room;
 use line::event::Event;
 use lookup::look::LookedUp;
 use lookup::look::look;
@@ -92,7 +92,7 @@ fn decide_in(
     if target_clash(nums, s, kind) {
         return Plan::Refuse(9);
     }
-    if no_room(nums, s, kind) {
+    if no_room(nums, s, kind, word, e.target_instance) {
         return Plan::Refuse(10);
     }
     decide_steps(nums, s, kind, word, e.target_instance, count)

@@ -1,4 +1,4 @@
--- A line adds at most one row for its core, one for its target and one for its instance.
+-- A line adds at most one row for its core and one for its target.
 use mathlib.Core.Path.{_≡_}
 use mathlib.Core.Bool.{Bool, true, false, not}
 use Prim.Native.Nat.{ℕ, _≤_}

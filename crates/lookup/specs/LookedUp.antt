@@ -49,9 +49,6 @@ newCore s = rowsAdded (not (eqb (s .class) no-core)) (s .source)
 abbrev pub newName : LookedUp → ℕ → ℕ
 newName s k = rowsAdded (isTracked k) (s .target)
 
-abbrev pub newInstance : LookedUp → ℕ → ℕ
-newInstance s k = rowsAdded (hasInstances k) (s .instance)
-
 -- ---- a number above all that the rows have of a name
 
 abbrev pub isNothing : Found → Bool

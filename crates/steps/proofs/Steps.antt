@@ -13,6 +13,7 @@ use Rattle.rules.specs.Words.{runnable, semaphore}
 use Rattle.rules.specs.Event.{Event, instanceOf, stateOf}
 use Rattle.rules.specs.Refusals.{Known, offChart}
 use Rattle.rules.proofs.Changes.{state-own}
+use Rattle.rules.proofs.CoreWords.{isStep}
 use Rattle.steps.specs.declared.chart.Move.the-variants.{To}
 use Rattle.steps.specs.Rows.{answerOf, opened, leadsTo, moveIf, moveBy, plain}
 use Rattle.steps.proofs.Rows.{Enters, enters}
@@ -39,6 +40,17 @@ step-answer k e s q = rw q (by-test (allowed (chartOf (e .kind)) (e .word) (open
 opened-more : (n : ℕ) → eqb n 0 ≡ false → opened n ≡ some n
 opened-more zero q = absurd (eqb-false 0 0 q refl)
 opened-more (suc n) q = refl
+
+-- Where the word is a step, the state that it leads to is the one after the event, whatever was before.
+pub step-taken : (h : List Event) (e : Event) (s : ℕ) → isStep (stepFor (chartOf (e .kind)) (e .word)) ≡ true →
+    opened (leadsTo (stepFor (chartOf (e .kind)) (e .word)) s) ≡ stateOf (instanceOf e) (e ∷ h)
+unfolding isStep
+step-taken h e s t =
+    by-step (stepFor (chartOf (e .kind)) (e .word)) t (enters (chartOf (e .kind)) (chart-plain (e .kind)) (e .word)) ∙ sym (state-own e h)
+  where
+    by-step : (o : Option Step) → isStep o ≡ true → Enters o → opened (leadsTo o s) ≡ orElse (entered o) (stateOf (instanceOf e) h)
+    by-step none t w = cc
+    by-step (some r) t w = opened-more (r .enters) w
 
 -- Where it is allowed, the state that it leads to is the one after the event.
 pub step-state : (h : List Event) (e : Event) (s n : ℕ) → opened s ≡ stateOf (instanceOf e) h → moveBy (chartOf (e .kind)) (e .word) s ≡ To n →

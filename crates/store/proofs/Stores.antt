@@ -1,26 +1,29 @@
 -- Laws of the stores of an event line. Each keeps the length of its table, and arms of an `if` that meet again leave what the definitions say.
 use mathlib.Core.Path.{_≡_, refl, sym, _∙_}
-use mathlib.Core.Bool.{Bool, true, false, _&&_, cond}
+use mathlib.Core.Bool.{Bool, true, false, not, _&&_, cond}
 use mathlib.Core.List.{List}
 use Prim.Native.Nat.{ℕ, _+_, _-_, _*_, _%_, _^_, _<_}
 use native.Mathlib.Omega.{arith}
-use lib.Dec.{eqb, ltb}
+use lib.Dec.{eqb, leb, ltb}
 use lib.ListN.{length, getD, set, length-set}
-use borrow.Author.Tests.{eq-eqb, ne-eqb}
+use borrow.Author.Tests.{eq-eqb, ne-eqb, le-ltb, lt-ltb, leb-true, leb-false}
 use Rattle.text.specs.Put.{put}
 use Rattle.text.proofs.Writes.{put-length}
 use Rattle.rules.specs.Words.{core, semaphore}
 use Rattle.rules.specs.Core.{no-core, takes-core, gives-core}
 use Rattle.rules.specs.Event.{Event}
 use Rattle.rules.specs.History.{hasInstances, activates}
-use Rattle.tables.specs.Entry.{idleCore, Tables, tables, storeAt, firstNumberColumn, numberedAt, nameRows, instanceRows, nameRoom, linesIndex, startedIndex, namesIndex, coresIndex, instancesIndex}
+use Rattle.tables.specs.Entry.{idleCore, Tables, tables, storeAt, firstNumberColumn, numberedAt, nameRows, instanceRows, nameRoom, linesIndex, startedIndex, namesIndex, coresIndex}
 use Rattle.tables.specs.Entry.{lineCount, startedEntry, nameCount, coreCount, instanceCount, firstTime}
 use Rattle.tables.specs.Sized.{Sized}
 use Rattle.tables.proofs.Stores.{other}
 use Rattle.tables.proofs.Sizes.{sizes-mean}
+use Rattle.lookup.specs.declared.find.Found.{Found}
+use Rattle.lookup.specs.declared.find.Found.the-variants.{At, Nothing}
 use Rattle.lookup.specs.declared.look.LookedUp.{LookedUp}
-use Rattle.lookup.specs.LookedUp.{newCore, newName, newInstance}
-use Rattle.store.specs.Store.{coreRow, targetRow, instanceRow, storeName, storeRow, storeSums, storeInstance, storeStanding, storeHolder, storeNumber, storeActivation}
+use Rattle.lookup.specs.LookedUp.{newCore, newName}
+use Rattle.store.specs.Store.{coreRow, targetRow, storeName, storeRow, storeSums, storeInstance, storeStanding, storeHolder, storeNumber, storeActivation}
+use Rattle.store.specs.Store.{needsRow, putRow, givenBack, withoutRow, withEntry}
 use Rattle.store.specs.Store.{takenNames, withRows, withTarget, withCore, withCounts, takenNums, settled, withTimes, withSums, takenTicks}
 use Rattle.store.specs.Store.{takenTables, stored}
 
@@ -29,6 +32,15 @@ use Rattle.store.specs.Store.{takenTables, stored}
 pub stored-sized : (t : Tables) (s : LookedUp) (state : ℕ) (e : Event) → Sized (t .names) (t .nums) (t .ticks) → stored t s state e ≡ takenTables t s state e
 unfolding stored
 stored-sized t s state e z = rw (sizes-mean (t .names) (t .nums) (t .ticks) .shows z)
+
+-- ---- a number below another one does not reach it
+
+pub below-unreached : (n f : ℕ) → ltb n f ≡ not (leb f n)
+below-unreached n f = by-test (leb f n) refl
+  where
+    by-test : (b : Bool) → leb f n ≡ b → ltb n f ≡ not b
+    by-test true q = le-ltb n f (leb-true f n q)
+    by-test false q = lt-ltb n f (leb-false f n q)
 
 -- ---- a store that is made where a number is 1
 
@@ -47,36 +59,29 @@ made-next {k = k} f e t p q h = made k e t (h ∙ rw (p, q))
 skip : (l : List ℕ) (i j v : ℕ) → i < j → getD (set l i v) j 0 ≡ getD l j 0
 skip l i j v h = other l i j v (λ q. omega arith)
 
-pub counts-stored : {a b d e : ℕ} (nums : List ℕ) (names cores instances : ℕ) →
+pub counts-stored : {a b d : ℕ} (nums : List ℕ) (names cores : ℕ) →
     let one = set (set nums linesIndex a) startedIndex 1 in
     let two = set one namesIndex b in
-    let three = set two coresIndex d in
-    a ≡ (lineCount nums + 1) % 2 ^ 32 → b ≡ (nameCount one + names) % 2 ^ 32 →
-    d ≡ (coreCount two + cores) % 2 ^ 32 → e ≡ (instanceCount three + instances) % 2 ^ 32 →
-    set three instancesIndex e ≡ withCounts nums names cores instances
+    a ≡ (lineCount nums + 1) % 2 ^ 32 → b ≡ (nameCount one + names) % 2 ^ 32 → d ≡ (coreCount two + cores) % 2 ^ 32 →
+    set two coresIndex d ≡ withCounts nums names cores
 unfolding withCounts
-counts-stored {a} {b} {d} {e} nums names cores instances p q r t =
+counts-stored {a} {b} {d} nums names cores p q r =
     let l = set (set nums linesIndex a) startedIndex 1 in
     let f : (j : ℕ) → startedIndex < j → getD l j 0 ≡ getD nums j 0 =
     λ j h. skip (set nums linesIndex a) startedIndex j 1 h ∙ skip nums linesIndex j a (omega arith) in
     let q' : b ≡ (nameCount nums + names) % 2 ^ 32 = rw (f namesIndex (omega arith)) at q in
     let r' : d ≡ (coreCount nums + cores) % 2 ^ 32 = rw (skip l namesIndex coresIndex b (omega arith), f coresIndex (omega arith)) at r in
-    let t' : e ≡ (instanceCount nums + instances) % 2 ^ 32 =
-    rw (
-      skip (set l namesIndex b) coresIndex instancesIndex d (omega arith),
-      skip l namesIndex instancesIndex b (omega arith),
-      f instancesIndex (omega arith),
-    ) at t in
-    rw (p, q', r', t')
+    rw (p, q', r')
 
 -- ---- the stores to nums after one another, with the rows and counts as they were before them
 
-pub nums-taken : {k w i p j x y z : ℕ} {a b d f : List ℕ} (nums : List ℕ) (s : LookedUp) (t : ℕ) (e : Event) → k ≡ e .kind → w ≡ e .word
-    → i ≡ coreRow nums s → p ≡ targetRow nums s → j ≡ instanceRow nums s → x ≡ newCore s → y ≡ newName s k → z ≡ newInstance s k
-    → a ≡ withRows nums s k (length (e .source)) (length (e .target)) → b ≡ withTarget a p j t k w (e .targetInstance) (e .count)
-    → d ≡ withCore b (s .class) i p (e .targetInstance) → f ≡ withCounts d (x + y) x z → f ≡ takenNums nums s t e
+pub nums-taken : {k w i p x y : ℕ} {a b d f g : List ℕ} (nums : List ℕ) (s : LookedUp) (t : ℕ) (e : Event) → k ≡ e .kind → w ≡ e .word
+    → i ≡ coreRow nums s → p ≡ targetRow nums s → x ≡ newCore s → y ≡ newName s k
+    → a ≡ withRows nums s k (length (e .source)) (length (e .target)) → b ≡ withTarget a p t k w (e .targetInstance) (e .count)
+    → d ≡ withCore b (s .class) i p (e .targetInstance) → f ≡ withCounts d (x + y) x
+    → g ≡ withEntry f (s .instance) p k (e .targetInstance) t → g ≡ takenNums nums s t e
 unfolding takenNums
-nums-taken nums s t e pk pw pi pp pj px py pz pa pb pd pf = pf ∙ rw (pd, pb, pa, pi, pp, pj, px, py, pz, pk, pw)
+nums-taken nums s t e pk pw pi pp px py pa pb pd pf pg = pg ∙ rw (pf, pd, pb, pa, pi, pp, px, py, pk, pw)
 
 -- and so the stores to ticks
 pub ticks-taken : {i p : ℕ} {a b d : List ℕ} (ticks nums : List ℕ) (s : LookedUp) (kind time : ℕ) → i ≡ coreRow nums s → p ≡ targetRow nums s
@@ -162,14 +167,12 @@ length-withSums ticks nums s kind time =
     (λ l. length-storeSums l (targetRow nums s) 0 0)
     (length-storeSums ticks (nameCount nums) (cond (eqb (startedEntry nums) 0) 0 (time - firstTime ticks)) time)
 
-pub length-withTarget : (nums : List ℕ) (i j t kind word n c : ℕ) → length (withTarget nums i j t kind word n c) ≡ length nums
+pub length-withTarget : (nums : List ℕ) (i t kind word n c : ℕ) → length (withTarget nums i t kind word n c) ≡ length nums
 unfolding withTarget
-length-withTarget nums i j t kind word n c =
+length-withTarget nums i t kind word n c =
     length-cond (eqb kind semaphore) (storeNumber (storeStanding nums i t) i c) _
     (length-storeNumber (storeStanding nums i t) i c ∙ length-storeStanding nums i t)
-    (length-two (hasInstances kind) (activates kind word) (λ m. storeActivation m i n) _ nums
-    (λ m. length-storeActivation m i n)
-    (length-storeInstance nums j i n t))
+    (length-cond (activates kind word) (storeActivation nums i n) nums (length-storeActivation nums i n) refl)
 
 pub length-withCore : (nums : List ℕ) (class i p n : ℕ) → length (withCore nums class i p n) ≡ length nums
 unfolding withCore
@@ -177,13 +180,36 @@ length-withCore nums class i p n =
     length-cond (eqb class no-core) nums _ refl
     (length-cond (eqb class gives-core) (storeStanding nums i idleCore) (storeHolder nums i p n) (length-storeStanding nums i idleCore) (length-storeHolder nums i p n))
 
-pub length-withCounts : (nums : List ℕ) (names cores instances : ℕ) → length (withCounts nums names cores instances) ≡ length nums
+pub length-withCounts : (nums : List ℕ) (names cores : ℕ) → length (withCounts nums names cores) ≡ length nums
 unfolding withCounts
-length-withCounts nums names cores instances = simp length-set
+length-withCounts nums names cores = simp length-set
+
+pub length-putRow : (nums : List ℕ) (f : Found) (i n t : ℕ) → length (putRow nums f i n t) ≡ length nums
+unfolding putRow
+length-putRow nums (At j) i n t = length-storeInstance nums j i n t
+length-putRow nums Nothing i n t =
+    length-cond (ltb (instanceCount nums) instanceRows) _ nums (simp (length-set, length-storeInstance)) refl
+
+pub length-givenBack : (nums : List ℕ) (j : ℕ) → length (givenBack nums j) ≡ length nums
+unfolding givenBack
+length-givenBack nums j =
+    length-cond (ltb j instanceRows && (not (eqb (instanceCount nums) 0) && leb (instanceCount nums) instanceRows)) _ nums (simp length-set) refl
+
+length-withoutRow : (nums : List ℕ) (f : Found) → length (withoutRow nums f) ≡ length nums
+unfolding withoutRow
+length-withoutRow nums (At j) = length-givenBack nums j
+length-withoutRow nums Nothing = refl
+
+pub length-withEntry : (nums : List ℕ) (f : Found) (i kind n t : ℕ) → length (withEntry nums f i kind n t) ≡ length nums
+unfolding withEntry
+length-withEntry nums f i kind n t =
+    length-cond (hasInstances kind) _ nums
+    (length-cond (needsRow nums i n t) (putRow nums f i n t) (withoutRow nums f) (length-putRow nums f i n t) (length-withoutRow nums f))
+    refl
 
 pub length-takenNums : (nums : List ℕ) (s : LookedUp) (t : ℕ) (e : Event) → length (takenNums nums s t e) ≡ length nums
 unfolding takenNums
-length-takenNums nums s t e = simp (length-withCounts, length-withCore, length-withTarget, length-withRows)
+length-takenNums nums s t e = simp (length-withEntry, length-withCounts, length-withCore, length-withTarget, length-withRows)
 
 pub length-settled : (ticks : List ℕ) (class i p time : ℕ) → length (settled ticks class i p time) ≡ length ticks
 unfolding settled

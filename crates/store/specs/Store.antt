@@ -1,23 +1,23 @@
 -- What taking an event line stores. Rows past the end of a column are not stored, and sums are taken modulo the width of their entries: no
 -- table that a trace leads to has such rows or sums, and none of any other can be written past its end.
-use mathlib.Core.Bool.{_&&_, cond}
+use mathlib.Core.Bool.{Bool, not, _&&_, cond}
 use mathlib.Core.List.{List}
 use Prim.Native.Nat.{ℕ, _+_, _-_, _*_, _%_, _^_}
-use lib.Dec.{eqb, ltb}
+use lib.Dec.{eqb, leb, ltb}
 use lib.ListN.{length, set}
 use Rattle.text.specs.Put.{put}
-use Rattle.rules.specs.Words.{core, semaphore}
+use Rattle.rules.specs.Words.{core, semaphore, TERMINATED}
 use Rattle.rules.specs.Core.{no-core, takes-core, gives-core}
 use Rattle.rules.specs.Event.{Event}
 use Rattle.rules.specs.History.{hasInstances, activates}
 use Rattle.tables.specs.Entry.{Tables, tables, storeAt, nameRows, instanceRows, nameRoom, linesIndex, startedIndex, namesIndex, coresIndex, instancesIndex, firstIndex, lastIndex}
 use Rattle.tables.specs.Entry.{kindColumn, lengthColumn, standingColumn, numberColumn, numberedColumn, firstNumberColumn, ownerColumn, instanceColumn, stateColumn, heldColumn, idleColumn, unknownColumn, sinceColumn}
-use Rattle.tables.specs.Entry.{idleCore, heldBy, lineCount, startedEntry, nameCount, coreCount, instanceCount, numberedAt, firstTime, heldAt, idleAt, sinceAt}
+use Rattle.tables.specs.Entry.{idleCore, heldBy, lineCount, startedEntry, nameCount, coreCount, instanceCount, numberedAt, firstNumberAt, ownerAt, instanceAt, stateAt, firstTime, heldAt, idleAt, sinceAt}
 use Rattle.tables.specs.Sized.{isSized}
 use Rattle.lookup.specs.declared.find.Found.{Found}
 use Rattle.lookup.specs.declared.find.Found.the-variants.{At, Nothing}
 use Rattle.lookup.specs.declared.look.LookedUp.{LookedUp}
-use Rattle.lookup.specs.LookedUp.{newCore, newName, newInstance}
+use Rattle.lookup.specs.LookedUp.{newCore, newName}
 
 -- ---- the rows: those found, and otherwise the next ones
 
@@ -30,9 +30,6 @@ coreRow nums s = rowOr (s .source) (nameCount nums)
 
 unfoldable pub targetRow : List ℕ → LookedUp → ℕ
 targetRow nums s = rowOr (s .target) (nameCount nums + newCore s)
-
-unfoldable pub instanceRow : List ℕ → LookedUp → ℕ
-instanceRow nums s = rowOr (s .instance) (instanceCount nums)
 
 -- ---- single stores
 
@@ -74,6 +71,37 @@ unfoldable pub storeActivation : List ℕ → ℕ → ℕ → List ℕ
 storeActivation nums i n =
     cond (ltb i nameRows) (storeNumber (cond (eqb (numberedAt nums i) 0) (storeAt firstNumberColumn nums i n) nums) i n) nums
 
+-- ---- the row of an instance
+
+-- "a TERMINATED instance numbered at or above its entity's first activating number (start, for a runnable) needs no entry" (02, No. 7): the instance n, in the state t, of
+-- the name in row i
+unfoldable pub needsRow : List ℕ → ℕ → ℕ → ℕ → Bool
+needsRow nums i n t = not (eqb t TERMINATED && (ltb i nameRows && (not (eqb (numberedAt nums i) 0) && leb (firstNumberAt nums i) n)))
+
+-- stored in the row found, or in the next one, which is counted where there is one
+unfoldable pub putRow : List ℕ → Found → ℕ → ℕ → ℕ → List ℕ
+putRow nums (At j) i n t = storeInstance nums j i n t
+putRow nums Nothing i n t =
+    cond (ltb (instanceCount nums) instanceRows) (set (storeInstance nums (instanceCount nums) i n t) instancesIndex (instanceCount nums + 1)) nums
+
+-- "Give its room back at once": the last row moves into the row j, and there is one less. A core names its holder by name and number, so nothing else moves.
+unfoldable pub givenBack : List ℕ → ℕ → List ℕ
+givenBack nums j =
+    let last = instanceCount nums - 1 in
+    cond (ltb j instanceRows && (not (eqb (instanceCount nums) 0) && leb (instanceCount nums) instanceRows))
+    (let one = storeAt instanceColumn (storeAt ownerColumn nums j (ownerAt nums last)) j (instanceAt nums last) in
+    set (storeAt stateColumn one j (stateAt nums last)) instancesIndex last)
+    nums
+
+-- where there is a row
+unfoldable pub withoutRow : List ℕ → Found → List ℕ
+withoutRow nums (At j) = givenBack nums j
+withoutRow nums Nothing = nums
+
+-- what is kept of the event's instance
+unfoldable pub withEntry : List ℕ → Found → ℕ → ℕ → ℕ → ℕ → List ℕ
+withEntry nums f i kind n t = cond (hasInstances kind) (cond (needsRow nums i n t) (putRow nums f i n t) (withoutRow nums f)) nums
+
 -- ---- the three tables after an event line
 
 unfoldable pub takenNames : List ℕ → List ℕ → LookedUp → ℕ → List ℕ → List ℕ → List ℕ
@@ -87,29 +115,27 @@ withRows nums s kind n m =
     let one = cond (eqb (newCore s) 1) (storeRow nums (nameCount nums) core n) nums in
     cond (eqb (newName s kind) 1) (storeRow one (targetRow nums s) kind m) one
 
--- what the event's instance or semaphore is from now on: its state t, and its number n or count c
-unfoldable pub withTarget : List ℕ → ℕ → ℕ → ℕ → ℕ → ℕ → ℕ → ℕ → List ℕ
-withTarget nums i j t kind word n c =
-    cond (eqb kind semaphore) (storeNumber (storeStanding nums i t) i c)
-    (let one = cond (hasInstances kind) (storeInstance nums j i n t) nums in
-    cond (activates kind word) (storeActivation one i n) one)
+-- what the event's target is from now on: a semaphore's state t and count c, the number n of an activation
+unfoldable pub withTarget : List ℕ → ℕ → ℕ → ℕ → ℕ → ℕ → ℕ → List ℕ
+withTarget nums i t kind word n c =
+    cond (eqb kind semaphore) (storeNumber (storeStanding nums i t) i c) (cond (activates kind word) (storeActivation nums i n) nums)
 
 -- "make it held" by the instance n of the process in row p, "make it idle": an idle core's number stays as it was, and nothing looks at it
 unfoldable pub withCore : List ℕ → ℕ → ℕ → ℕ → ℕ → List ℕ
 withCore nums class i p n = cond (eqb class no-core) nums (cond (eqb class gives-core) (storeStanding nums i idleCore) (storeHolder nums i p n))
 
-unfoldable pub withCounts : List ℕ → ℕ → ℕ → ℕ → List ℕ
-withCounts nums names cores instances =
+unfoldable pub withCounts : List ℕ → ℕ → ℕ → List ℕ
+withCounts nums names cores =
     let one = set (set nums linesIndex ((lineCount nums + 1) % 2 ^ 32)) startedIndex 1 in
-    let two = set (set one namesIndex ((nameCount nums + names) % 2 ^ 32)) coresIndex ((coreCount nums + cores) % 2 ^ 32) in
-    set two instancesIndex ((instanceCount nums + instances) % 2 ^ 32)
+    set (set one namesIndex ((nameCount nums + names) % 2 ^ 32)) coresIndex ((coreCount nums + cores) % 2 ^ 32)
 
 unfoldable pub takenNums : List ℕ → LookedUp → ℕ → Event → List ℕ
 takenNums nums s t e =
     let n = e .targetInstance in
     let one = withRows nums s (e .kind) (length (e .source)) (length (e .target)) in
-    let two = withTarget one (targetRow nums s) (instanceRow nums s) t (e .kind) (e .word) n (e .count) in
-    withCounts (withCore two (s .class) (coreRow nums s) (targetRow nums s) n) (newCore s + newName s (e .kind)) (newCore s) (newInstance s (e .kind))
+    let two = withTarget one (targetRow nums s) t (e .kind) (e .word) n (e .count) in
+    let three = withCounts (withCore two (s .class) (coreRow nums s) (targetRow nums s) n) (newCore s + newName s (e .kind)) (newCore s) in
+    withEntry three (s .instance) (targetRow nums s) (e .kind) n t
 
 -- the ticks from `since` on go to the core's sum, and those it was held also to its holder's charge
 unfoldable pub settled : List ℕ → ℕ → ℕ → ℕ → ℕ → List ℕ

@@ -6,16 +6,15 @@ ghost use Rattle.tables.specs.Entry.{numsSize};
 ghost use Rattle.store.specs.Store.{withRows, withTarget, withCore, withCounts, takenNums};
 use crate::entries::store_activation;
 use crate::entries::store_holder;
-use crate::entries::store_instance;
 use crate::entries::store_number;
 use crate::entries::store_row;
 use crate::entries::store_standing;
+use crate::instances::store_entry;
 use crate::rows::*;
 use line::event::Event;
 use lookup::look::LookedUp;
 use std::num::wrapping_add_u32;
 use steps::kind::numbers_instance;
-use steps::kind::with_instances;
 use steps::lines::kind_number;
 use steps::numbers::*;
 use tables::entry::*;
@@ -36,11 +35,10 @@ fn store_rows(nums: &mut [u32], s: LookedUp, kind: u32, n: usize, m: usize)
     }
 }
 
-// What the event's instance or semaphore is from now on.
+// What the event's target is from now on: a semaphore's state and count, the number of an activation.
 fn store_target(
     nums: &mut [u32],
     i: usize,
-    j: usize,
     state: u32,
     kind: u32,
     word: u32,
@@ -48,15 +46,12 @@ fn store_target(
     count: u32,
 )
     requires { ⌜ length (now nums) ≡ numsSize ⌝ }
-    ensures { λ _. ⌜ now (nums .exit) ≡ withTarget (now (nums .entry)) i j state kind word number count ⌝ }
+    ensures { λ _. ⌜ now (nums .exit) ≡ withTarget (now (nums .entry)) i state kind word number count ⌝ }
 {
     if kind == SEMAPHORE {
         store_standing(nums, i, state);
         store_number(nums, i, count);
         return;
-    }
-    if with_instances(kind) {
-        store_instance(nums, j, i, number, state);
     }
     if numbers_instance(kind, word) {
         store_activation(nums, i, number);
@@ -78,16 +73,15 @@ fn store_core(nums: &mut [u32], class: u32, i: usize, p: usize, number: u32)
     store_holder(nums, i, p, number);
 }
 
-// One line and so many names, cores and instances more, and an event was taken.
-fn store_counts(nums: &mut [u32], names: u32, cores: u32, instances: u32)
+// One line and so many names and cores more, and an event was taken.
+fn store_counts(nums: &mut [u32], names: u32, cores: u32)
     requires { ⌜ length (now nums) ≡ numsSize ⌝ }
-    ensures { λ _. ⌜ now (nums .exit) ≡ withCounts (now (nums .entry)) names cores instances ⌝ }
+    ensures { λ _. ⌜ now (nums .exit) ≡ withCounts (now (nums .entry)) names cores ⌝ }
 {
     nums[LINES] = wrapping_add_u32(nums[LINES], 1);
     nums[STARTED] = 1;
     nums[NAMES] = wrapping_add_u32(nums[NAMES], names);
     nums[CORES] = wrapping_add_u32(nums[CORES], cores);
-    nums[INSTANCES] = wrapping_add_u32(nums[INSTANCES], instances);
 }
 
 // The numbers and states after an event line.
@@ -109,12 +103,12 @@ pub(crate) fn take_nums(
     let word = action_code(action);
     let i = core_row(nums, s);
     let p = target_row(nums, s);
-    let j = instance_row(nums, s);
+    let row = s.instance;
     let core = new_core(s);
     let name = new_name(s, kind);
-    let instance = new_instance(s, kind);
     store_rows(nums, s, kind, source.len(), target.len());
-    store_target(nums, p, j, state, kind, word, e.target_instance, count);
+    store_target(nums, p, state, kind, word, e.target_instance, count);
     store_core(nums, s.class, i, p, e.target_instance);
-    store_counts(nums, core + name, core, instance);
+    store_counts(nums, core + name, core);
+    store_entry(nums, row, p, kind, e.target_instance, state);
 }

@@ -1,18 +1,17 @@
-// The rows of an event line: those that were found, and otherwise the next ones.
+// The rows of an event line's names: those that were found, and otherwise the next ones.
 ghost use mathlib.Core.Path.{_≡_};
 ghost use lib.ListN.{length};
 ghost use Rattle.tables.specs.Entry.{numsSize};
-ghost use Rattle.lookup.specs.LookedUp.{newCore, newName, newInstance};
-ghost use Rattle.store.specs.Store.{coreRow, targetRow, instanceRow};
+ghost use Rattle.lookup.specs.LookedUp.{newCore, newName};
+ghost use Rattle.store.specs.Store.{coreRow, targetRow};
 use lookup::find::Found;
 use lookup::look::LookedUp;
 use lookup::look::rows_added;
 use steps::kind::tracked;
-use steps::kind::with_instances;
 use steps::numbers::NO_CORE;
 use tables::entry::*;
 
-// 1 where the line's core, target or instance is new.
+// 1 where the line's core or target is new.
 pub(crate) fn new_core(s: LookedUp) -> u32
     ensures { λ r. ⌜ r ≡ newCore s ⌝ }
 {
@@ -25,13 +24,6 @@ pub(crate) fn new_name(s: LookedUp, kind: u32) -> u32
 {
     let row = s.target;
     rows_added(tracked(kind), row) as u32
-}
-
-pub(crate) fn new_instance(s: LookedUp, kind: u32) -> u32
-    ensures { λ r. ⌜ r ≡ newInstance s kind ⌝ }
-{
-    let row = s.instance;
-    rows_added(with_instances(kind), row) as u32
 }
 
 // The row of the line's core, found or the next one.
@@ -56,17 +48,5 @@ pub(crate) fn target_row(nums: &[u32], s: LookedUp) -> usize
     match row {
         Found::At(i) => i,
         Found::Nothing => nums[NAMES] as usize + core as usize,
-    }
-}
-
-// The row of the line's instance, found or the next one.
-pub(crate) fn instance_row(nums: &[u32], s: LookedUp) -> usize
-    requires { ⌜ length (now nums) ≡ numsSize ⌝ }
-    ensures { λ r. ⌜ r ≡ instanceRow (now (nums .entry)) s ⌝ }
-{
-    let row = s.instance;
-    match row {
-        Found::At(j) => j,
-        Found::Nothing => nums[INSTANCES] as usize,
     }
 }

@@ -6,7 +6,7 @@ use borrow.Author.Needs.{needs}
 use borrow.Author.Tests.{eq-eqb, ne-eqb}
 use Rattle.rules.specs.History.{hasInstances, activates}
 use Rattle.tables.proofs.Chains.{pass, stop, passed, failed}
-use Rattle.decide.specs.Known.{numberedIn, stateIn}
+use Rattle.decide.specs.Known.{stateIn}
 use Rattle.decide.specs.PlanCode.{neverActivatedIn}
 use Rattle.decide.proofs.numbers.never_activated.Statement.{statement}
 use Rattle.decide.proofs.numbers.never_activated.Tie as tie
@@ -21,9 +21,6 @@ start2 c = start (c .before .before)
 abbrev start3 : tie.Else3 → tie.Start
 start3 c = start2 (c .before .before)
 
-abbrev start4 : tie.Else4 → tie.Start
-start4 c = start3 (c .before .before)
-
 -- the tests passed
 first : (c : tie.Else1) → let a = start c .args in eqb (stateIn (a .nums .now) (a .s) (a .kind)) 0 ≡ true
 first c = eq-eqb _ 0 (sym (c .before .state-in .ensures) ∙ c .if1 .left)
@@ -33,9 +30,6 @@ kinded c = passed (c .before .with-instances .ensures) (c .if2 .left)
 
 other : (c : tie.Else3) → let a = start3 c .args in not (activates (a .kind) (a .word)) ≡ true
 other c = ap not (sym (c .before .numbers-instance .ensures) ∙ c .if3 .left)
-
-numbered : (c : tie.Else4) → let a = start4 c .args in not (eqb (numberedIn (a .nums .now) (a .s .target)) 0) ≡ true
-numbered c = passed (c .before .numbered-in .ensures) (c .if4 .left)
 
 -- ---- the exits
 
@@ -53,20 +47,12 @@ activating c =
     let d = c .before .before in
     pass (first (d .before .before)) (pass (kinded d) (stop _ (ap not (sym (c .before .numbers-instance .ensures) ∙ c .if3 .taken))))
 
-no-number : tie.Need-returns-4
-unfolding neverActivatedIn
-no-number c =
-    let n = c .before .before in
-    let d = n .before .before in
-    pass (first (d .before .before)) (pass (kinded d) (pass (other n) (stop _ (failed (c .before .numbered-in .ensures) (c .if4 .taken)))))
-
-compared : tie.Need-returns-5
+compared : tie.Need-returns-4
 unfolding neverActivatedIn
 compared c =
-    let m = c .before in
-    let n = m .before .before in
+    let n = c .before in
     let d = n .before .before in
-    pass (first (d .before .before)) (pass (kinded d) (pass (other n) (pass (numbered m) (rw (c .first-number-in .ensures)))))
+    pass (first (d .before .before)) (pass (kinded d) (pass (other n) (c .reaches-first .ensures)))
 
 pub never-activated-spec : {M : Type 1} → statement M
 never-activated-spec =
@@ -78,7 +64,5 @@ never-activated-spec =
     no-instances
     (λ c κs. search needs)
     activating
-    (λ c κs. search needs)
-    no-number
     (λ c κs. search needs)
     compared)

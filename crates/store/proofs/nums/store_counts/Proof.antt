@@ -1,6 +1,4 @@
 -- `store::nums::store_counts` meets its contract: each count is read after the stores before it, which leave it as it was.
-use native.Mathlib.Omega.{arith}
-use lib.ListN.{length-set}
 use borrow.Author.Needs.{needs}
 use Rattle.store.proofs.Stores.{counts-stored}
 use Rattle.store.proofs.nums.store_counts.Statement.{statement}
@@ -8,14 +6,9 @@ use Rattle.store.proofs.nums.store_counts.Tie as tie
 
 returns : tie.Need-returns
 returns c =
-    let cores = c .before .before in
-    let names = cores .before .before in
+    let names = c .before .before in
     let lines = names .before .before in
-    counts-stored _ _ _ _
-    (lines .wrapping-add-u32 .ensures)
-    (names .wrapping-add-u322 .ensures)
-    (cores .wrapping-add-u323 .ensures)
-    (c .wrapping-add-u324 .ensures)
+    counts-stored _ _ _ (lines .wrapping-add-u32 .ensures) (names .wrapping-add-u322 .ensures) (c .wrapping-add-u323 .ensures)
 
 pub store-counts-spec : {M : Type 1} → statement M
 store-counts-spec =
@@ -31,8 +24,5 @@ store-counts-spec =
     (λ c. search needs)
     (λ c κs. search needs)
     (λ c. search needs)
-    (λ c. simp length-set (omega arith))
-    (λ c κs. search needs)
-    (λ c. simp length-set (omega arith))
     (λ c. search needs)
     returns)

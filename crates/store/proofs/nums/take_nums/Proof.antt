@@ -8,6 +8,9 @@ use Rattle.store.proofs.nums.take_nums.Statement.{statement}
 use Rattle.store.proofs.nums.take_nums.Tie as tie
 
 -- the stores, last to first: nums comes back from each before it is lent to the next
+abbrev counts-stored : tie.After-store-entry → tie.After-store-counts
+counts-stored c = let back = c .before .before in back .before .before
+
 abbrev core-stored : tie.After-store-counts-arg → tie.After-store-core
 core-stored c = c .before .before .before
 
@@ -18,13 +21,10 @@ abbrev rows-stored : tie.After-store-target → tie.After-store-rows
 rows-stored c = let back = c .before .before in back .before .before
 
 -- the place before them, where the rows and counts are known, and from it the rows, last to first
-abbrev counted : tie.After-store-rows → tie.After-new-instance
+abbrev counted : tie.After-store-rows → tie.After-new-name
 counted c = c .before .before
 
-abbrev instance-found : tie.After-new-instance → tie.After-instance-row
-instance-found c = c .before .before .before
-
-abbrev target-found : tie.After-instance-row → tie.After-target-row
+abbrev target-found : tie.After-new-name → tie.After-target-row
 target-found c = c .before .before
 
 abbrev core-found : tie.After-target-row → tie.After-core-row
@@ -40,23 +40,23 @@ start c = let known = c .before .before .before in known .before
 small : tie.Need-add-store-counts
 small c =
     let n = counted (rows-stored (target-stored (core-stored c))) in
-    let k = worded (core-found (target-found (instance-found n))) .before in
+    let k = worded (core-found (target-found n)) .before in
     let s = start k .args .s in
     omega (
       arith,
-      one-core s (n .before .before .new-core .ensures),
-      one-at-most (isTracked (k .kind-number .result)) (s .target) (n .before .new-name .ensures),
+      one-core s (n .before .new-core .ensures),
+      one-at-most (isTracked (k .kind-number .result)) (s .target) (n .new-name .ensures),
     )
 
 returns : tie.Need-returns
 returns c =
-    let h = c .before .before in
+    let g = c .before .before in
+    let h = counts-stored g in
     let d = core-stored (h .before) in
     let t = target-stored d in
     let r = rows-stored t in
     let n = counted r in
-    let j = instance-found n in
-    let p = target-found j in
+    let p = target-found n in
     let i = core-found p in
     let w = worded i in
     nums-taken _ _ _ _
@@ -64,14 +64,13 @@ returns c =
     (w .action-code .ensures)
     (i .core-row .ensures)
     (p .target-row .ensures)
-    (j .instance-row .ensures)
-    (n .before .before .new-core .ensures)
-    (n .before .new-name .ensures)
-    (n .new-instance .ensures)
+    (n .before .new-core .ensures)
+    (n .new-name .ensures)
     (r .store-rows .ensures)
     (t .store-target .ensures)
     (d .store-core .ensures)
     (h .store-counts .ensures)
+    (g .store-entry .ensures)
 
 pub take-nums-spec : {M : Type 1} → statement M
 take-nums-spec =
@@ -86,9 +85,8 @@ take-nums-spec =
     (λ c κs. search needs)
     (λ c κs. search needs)
     (λ c κs. search needs)
-    (λ c κs. search needs)
-    (λ c κs. search needs)
     small
+    (λ c κs. search needs)
     (λ c κs. search needs)
     (λ c. search needs)
     returns)
