@@ -22,7 +22,7 @@ module _ (h : List Event) (names nums nums' ticks : List ℕ) (g : AgreeFrom sta
     started = g startedIndex (omega arith) ∙ s .started;
     names-counted = g namesIndex (omega arith) ∙ s .names-counted;
     cores-counted = g coresIndex (omega arith) ∙ s .cores-counted;
-    instances-counted = g instancesIndex (omega arith) ∙ s .instances-counted;
+    entries-counted = g instancesIndex (omega arith) ∙ s .entries-counted;
     first = s .first;
     last = s .last;
   }

@@ -1,5 +1,5 @@
--- The stores of an event line to nums, one after another: new rows, the target's state, number and instance, the core's state and its holder's number, and the
--- counts. Each entry has the value that is stored to it, and every other one is as it was.
+-- The stores of an event line to nums, one after another: new rows, the target's state and number, the core's state and its holder's number, the counts, and what is kept of the
+-- instance. Each entry has the value that is stored to it, and every other one is as it was.
 use mathlib.Core.Path.{_≡_, refl, sym, ap, _∙_}
 use mathlib.Core.Bool.{Bool, true, false, not, _&&_, cond}
 use mathlib.Core.List.{List}
@@ -11,19 +11,21 @@ use borrow.Author.Tests.{ltb-true}
 use Rattle.rules.specs.Words.{core, semaphore}
 use Rattle.rules.specs.Core.{no-core, gives-core}
 use Rattle.rules.specs.History.{hasInstances, activates}
-use Rattle.tables.specs.Entry.{idleCore, heldBy, nameRows, numsSize, linesIndex, startedIndex, namesIndex, coresIndex, instancesIndex}
+use Rattle.tables.specs.Entry.{idleCore, heldBy, nameRows, instanceRows, numsSize, linesIndex, startedIndex, namesIndex, coresIndex, instancesIndex}
 use Rattle.tables.specs.Entry.{kindColumn, standingColumn, numberColumn, numberedColumn, firstNumberColumn, ownerColumn, stateColumn}
 use Rattle.tables.specs.Entry.{lineCount, nameCount, coreCount, instanceCount}
 use Rattle.tables.specs.Entry.{standingAt, numberAt, numberedAt, firstNumberAt}
 use Rattle.tables.proofs.Stores.{other, single, Outside}
+use Rattle.lookup.specs.declared.find.Found.{Found}
+use Rattle.lookup.specs.declared.find.Found.the-variants.{At, Nothing}
 use Rattle.lookup.specs.declared.look.LookedUp.{LookedUp}
 use Rattle.lookup.specs.LookedUp.{newCore, newName}
-use Rattle.store.specs.Store.{targetRow, storeRow, storeInstance, storeStanding, storeHolder, storeNumber, storeActivation, withRows, withTarget, withCore, withCounts}
-use Rattle.store.proofs.Stores.{length-storeRow, length-storeStanding, length-storeInstance}
+use Rattle.store.specs.Store.{targetRow, storeRow, storeInstance, storeStanding, storeHolder, storeNumber, storeActivation, needsRow, putRow, withoutRow, withEntry, withRows, withTarget, withCore, withCounts}
+use Rattle.store.proofs.Stores.{length-storeRow, length-storeStanding}
 use Rattle.promises.proofs.Choices.{same-choice}
-use Rattle.promises.proofs.KindTests.{no-instances, no-activation}
+use Rattle.promises.proofs.KindTests.{no-activation}
 use Rattle.promises.proofs.RowStores.{length-if, entry-if, kept-if, made, standing-standing, holder-standing, holder-number, row-beside, standing-beside}
-use Rattle.promises.proofs.RowStores.{holder-beside, number-beside, instance-beside, activation-beside, Counts, activation-counts, activation-first}
+use Rattle.promises.proofs.RowStores.{holder-beside, number-beside, instance-beside, given-beside, activation-beside, Counts, activation-counts, activation-first}
 
 -- ---- the rows of new names
 
@@ -60,73 +62,51 @@ module _ (nums : List ℕ) (z : length nums ≡ numsSize) (s : LookedUp) (kind n
       kept-if (eqb (newName s kind) 1) (storeRow one (targetRow nums s) kind m) one j (λ t. row-beside one (targetRow nums s) j kind m out)
       ∙ kept-if (eqb (newCore s) 1) _ nums j (λ t. row-beside nums (nameCount nums) j core n out)
 
--- ---- the state, number and instance of the target
+-- ---- the state and number of the target
 
-module _ (nums : List ℕ) (z : length nums ≡ numsSize) (i j t kind word n c : ℕ) where
-  -- after the instance, and then the number, of a process or runnable
+module _ (nums : List ℕ) (z : length nums ≡ numsSize) (i t kind word n c : ℕ) where
+  -- after the number of an activation
   abbrev one : List ℕ
-  one = cond (hasInstances kind) (storeInstance nums j i n t) nums
+  one = cond (activates kind word) (storeActivation nums i n) nums
 
-  abbrev two : List ℕ
-  two = cond (activates kind word) (storeActivation one i n) one
+  one-beside : (x : ℕ) → Outside numberColumn firstNumberColumn x → getD one x 0 ≡ getD nums x 0
+  one-beside x out = kept-if (activates kind word) _ nums x (λ e. activation-beside nums i x n out)
 
-  one-size : length one ≡ numsSize
-  one-size = length-if (hasInstances kind) _ nums (length-storeInstance nums j i n t) ∙ z
-
-  one-beside : (x : ℕ) → Outside ownerColumn stateColumn x → getD one x 0 ≡ getD nums x 0
-  one-beside x out = kept-if (hasInstances kind) _ nums x (λ e. instance-beside nums j x i n t out)
-
-  two-beside : (x : ℕ) → Outside numberColumn firstNumberColumn x → getD two x 0 ≡ getD one x 0
-  two-beside x out = kept-if (activates kind word) _ one x (λ e. activation-beside one i x n out)
-
-  pub target-beside : (x : ℕ) → Outside standingColumn stateColumn x → getD (withTarget nums i j t kind word n c) x 0 ≡ getD nums x 0
+  pub target-beside : (x : ℕ) → Outside standingColumn firstNumberColumn x → getD (withTarget nums i t kind word n c) x 0 ≡ getD nums x 0
   unfolding withTarget
   target-beside x out =
-      entry-if (eqb kind semaphore) (storeNumber (storeStanding nums i t) i c) two x
+      entry-if (eqb kind semaphore) (storeNumber (storeStanding nums i t) i c) one x
       (λ e. number-beside (storeStanding nums i t) i x c (λ l u. out (omega arith) (omega arith))
       ∙ standing-beside nums i x t (λ l u. out (omega arith) (omega arith)))
-      (λ e. two-beside x (λ l u. out (omega arith) (omega arith)) ∙ one-beside x (λ l u. out (omega arith) (omega arith)))
+      (λ e. one-beside x (λ l u. out (omega arith) (omega arith)))
 
-  pub target-standing : (r : ℕ) → r < nameRows → standingAt (withTarget nums i j t kind word n c) r ≡ cond (eqb kind semaphore && eqb r i) t (standingAt nums r)
+  pub target-standing : (r : ℕ) → r < nameRows → standingAt (withTarget nums i t kind word n c) r ≡ cond (eqb kind semaphore && eqb r i) t (standingAt nums r)
   unfolding withTarget
   target-standing r h =
-      entry-if (eqb kind semaphore) (storeNumber (storeStanding nums i t) i c) two (standingColumn .base + r)
+      entry-if (eqb kind semaphore) (storeNumber (storeStanding nums i t) i c) one (standingColumn .base + r)
       (λ e. rw e (number-beside (storeStanding nums i t) i (standingColumn .base + r) c (λ l u. omega arith) ∙ standing-standing nums z i r h t))
-      (λ e. rw e (two-beside (standingColumn .base + r) (λ l u. omega arith) ∙ one-beside (standingColumn .base + r) (λ l u. omega arith)))
+      (λ e. rw e (one-beside (standingColumn .base + r) (λ l u. omega arith)))
 
   pub target-number : (d : ℕ) (value : ℕ → ℕ) → Counts storeNumber d value → numberColumn .base ≤ d → d ≤ numberedColumn .base → (r : ℕ) → r < nameRows →
-      getD (withTarget nums i j t kind word n c) (d + r) 0
+      getD (withTarget nums i t kind word n c) (d + r) 0
       ≡ cond (eqb kind semaphore && eqb r i) (value c) (cond (activates kind word && eqb r i) (value n) (getD nums (d + r) 0))
   unfolding withTarget
   target-number d value f lo hi r h =
-      entry-if (eqb kind semaphore) (storeNumber (storeStanding nums i t) i c) two (d + r)
+      entry-if (eqb kind semaphore) (storeNumber (storeStanding nums i t) i c) one (d + r)
       (λ e. rw (e, no-activation kind word e)
       (f (storeStanding nums i t) (length-storeStanding nums i t ∙ z) i r h c
       ∙ ap (cond (eqb r i) (value c)) (standing-beside nums i (d + r) t (λ l u. omega arith))))
-      (λ e. rw e
-      (made (activates kind word) (eqb r i) _ one (d + r) (value n) (λ y. activation-counts d value hi f one one-size i r h n)
-      ∙ ap (cond (activates kind word && eqb r i) (value n)) (one-beside (d + r) (λ l u. omega arith))))
+      (λ e. rw e (made (activates kind word) (eqb r i) _ nums (d + r) (value n) (λ y. activation-counts d value hi f nums z i r h n)))
 
-  pub target-first : (r : ℕ) → r < nameRows → firstNumberAt (withTarget nums i j t kind word n c) r
+  pub target-first : (r : ℕ) → r < nameRows → firstNumberAt (withTarget nums i t kind word n c) r
       ≡ cond (activates kind word && eqb r i) (cond (eqb (numberedAt nums r) 0) n (firstNumberAt nums r)) (firstNumberAt nums r)
   unfolding withTarget
   target-first r h =
-      entry-if (eqb kind semaphore) (storeNumber (storeStanding nums i t) i c) two (firstNumberColumn .base + r)
+      entry-if (eqb kind semaphore) (storeNumber (storeStanding nums i t) i c) one (firstNumberColumn .base + r)
       (λ e. rw (no-activation kind word e)
       (number-beside (storeStanding nums i t) i (firstNumberColumn .base + r) c (λ l u. omega arith)
       ∙ standing-beside nums i (firstNumberColumn .base + r) t (λ l u. omega arith)))
-      (λ e. made (activates kind word) (eqb r i) _ one (firstNumberColumn .base + r) _ (λ y. activation-first one one-size i r h n)
-      ∙ rw (one-beside (numberedColumn .base + r) (λ l u. omega arith), one-beside (firstNumberColumn .base + r) (λ l u. omega arith)))
-
-  pub target-instance : (d q v : ℕ) → ownerColumn .base ≤ d →
-      (hasInstances kind ≡ true → getD (storeInstance nums j i n t) (d + q) 0 ≡ cond (eqb q j) v (getD nums (d + q) 0)) →
-      getD (withTarget nums i j t kind word n c) (d + q) 0 ≡ cond (hasInstances kind && eqb q j) v (getD nums (d + q) 0)
-  unfolding withTarget
-  target-instance d q v lo f =
-      entry-if (eqb kind semaphore) (storeNumber (storeStanding nums i t) i c) two (d + q)
-      (λ e. rw (no-instances kind e)
-      (number-beside (storeStanding nums i t) i (d + q) c (λ l u. omega arith) ∙ standing-beside nums i (d + q) t (λ l u. omega arith)))
-      (λ e. two-beside (d + q) (λ l u. omega arith) ∙ made (hasInstances kind) (eqb q j) _ nums (d + q) v f)
+      (λ e. made (activates kind word) (eqb r i) _ nums (firstNumberColumn .base + r) _ (λ y. activation-first nums z i r h n))
 
 -- ---- the state of the core, and the number of its holder
 
@@ -166,15 +146,34 @@ module _ (nums : List ℕ) (class i p n : ℕ) where
 below : (l : List ℕ) (k j v : ℕ) → ltb k (kindColumn .base) ≡ true → kindColumn .base ≤ j → getD (set l k v) j 0 ≡ getD l j 0
 below l k j v p h = other l k j v (λ e. omega (arith, ltb-true k (kindColumn .base) p))
 
-module _ (nums : List ℕ) (a b d : ℕ) where
-  pub counts-beside : (j : ℕ) → kindColumn .base ≤ j → getD (withCounts nums a b d) j 0 ≡ getD nums j 0
+module _ (nums : List ℕ) (a b : ℕ) where
+  pub counts-beside : (j : ℕ) → kindColumn .base ≤ j → getD (withCounts nums a b) j 0 ≡ getD nums j 0
   unfolding withCounts
   counts-beside j h = simp below
 
-  pub counts-stored : length nums ≡ numsSize → (j : ℕ) → getD (withCounts nums a b d) j 0 ≡
-      cond (eqb instancesIndex j) ((instanceCount nums + d) % 2 ^ 32)
-      (cond (eqb coresIndex j) ((coreCount nums + b) % 2 ^ 32)
+  pub counts-stored : length nums ≡ numsSize → (j : ℕ) → getD (withCounts nums a b) j 0 ≡
+      cond (eqb coresIndex j) ((coreCount nums + b) % 2 ^ 32)
       (cond (eqb namesIndex j) ((nameCount nums + a) % 2 ^ 32)
-      (cond (eqb startedIndex j) 1 (cond (eqb linesIndex j) ((lineCount nums + 1) % 2 ^ 32) (getD nums j 0)))))
+      (cond (eqb startedIndex j) 1 (cond (eqb linesIndex j) ((lineCount nums + 1) % 2 ^ 32) (getD nums j 0))))
   unfolding withCounts
   counts-stored z j = simp (single numsSize, length-set, z)
+
+-- ---- what is kept of the instance: its row, or the row of another, and how many there are
+
+put-beside : (nums : List ℕ) (f : Found) (i n t x : ℕ) → Outside ownerColumn stateColumn x → (instancesIndex ≡ x → ⊥) → getD (putRow nums f i n t) x 0 ≡ getD nums x 0
+unfolding putRow
+put-beside nums (At j) i n t x out d = instance-beside nums j x i n t out
+put-beside nums Nothing i n t x out d =
+    kept-if (ltb (instanceCount nums) instanceRows) _ nums x (λ l.
+    other (storeInstance nums (instanceCount nums) i n t) instancesIndex x (instanceCount nums + 1) d ∙ instance-beside nums (instanceCount nums) x i n t out)
+
+without-beside : (nums : List ℕ) (f : Found) (x : ℕ) → Outside ownerColumn stateColumn x → (instancesIndex ≡ x → ⊥) → getD (withoutRow nums f) x 0 ≡ getD nums x 0
+unfolding withoutRow
+without-beside nums (At j) x out d = given-beside nums j x out d
+without-beside nums Nothing x out d = refl
+
+pub entry-beside : (nums : List ℕ) (f : Found) (i kind n t x : ℕ) → Outside ownerColumn stateColumn x → (instancesIndex ≡ x → ⊥) → getD (withEntry nums f i kind n t) x 0 ≡ getD nums x 0
+unfolding withEntry
+entry-beside nums f i kind n t x out d =
+    kept-if (hasInstances kind) _ nums x (λ k.
+    entry-if (needsRow nums i n t) (putRow nums f i n t) (withoutRow nums f) x (λ a. put-beside nums f i n t x out d) (λ b. without-beside nums f x out d))

@@ -31,6 +31,7 @@ use Rattle.promises.proofs.Later.{enters-shown}
 use Rattle.promises.proofs.Answers.{answers-agree}
 use Rattle.promises.proofs.Entries.{lines-taken, verdict-number-kept, verdict-line-kept, scale-kept, creator-kept, date-kept}
 use Rattle.promises.proofs.Names.{each-name-next}
+use Rattle.promises.proofs.RowsAfter.{counted-next}
 use Rattle.promises.proofs.Instances.{instances-next}
 use Rattle.promises.proofs.Sums.{each-ticks-next}
 use Rattle.promises.proofs.Sizes.{sized-next, singles-next}
@@ -64,12 +65,12 @@ module _ (h : List Event) (a : Accepted h) (met : AllMet h) (t : Tables) (s : Sh
   taken-shown : answer h event ≡ 0 → Met event → Shown (event ∷ h) next
   taken-shown q m =
       let f = passed h event q in
-      let l = enters-shown h a met t s event (f .kinds) (f .chart) in
+      let l = enters-shown h a met t s event (f .kinds) m (f .chart) in
       record {
         sized = sized-next h t s event state;
-        singles = singles-next h t s event state a met f;
+        singles = singles-next h t s event state f (counted-next h a met t s event f m state l);
         each-name = each-name-next h a met t s event f m state l;
-        instance-rows = instances-next h a met t s event f state l;
+        instance-rows = instances-next h a met t s event f m state l;
         each-ticks = each-ticks-next h a t s event f m state;
       }
 
@@ -88,13 +89,13 @@ module _ (h : List Event) (a : Accepted h) (met : AllMet h) (t : Tables) (s : Sh
   planned : (v : LookedUp) → Plan
   planned v = ifZero (answer h event) (Take v (enters (t .nums) v event)) (Refuse (answer h event))
 
-  plan-shown : planOf (t .names) (t .nums) (t .ticks) event ≡ planned (lookedUp (t .names) (t .nums) event)
+  plan-shown : Met event → planOf (t .names) (t .nums) (t .ticks) event ≡ planned (lookedUp (t .names) (t .nums) event)
   unfolding planOf planBy planned
-  plan-shown = rw (answers-agree h a met t s event)
+  plan-shown m = rw (answers-agree h a met t s event m)
 
   outcome : Met event → EventOutcome h t event (carried (planOf (t .names) (t .nums) (t .ticks) event) t event)
   unfolding planned
-  outcome m = rw plan-shown (by-answer (answer h event) refl)
+  outcome m = rw (plan-shown m) (by-answer (answer h event) refl)
     where
       by-answer : (n : ℕ) → answer h event ≡ n →
           let v = lookedUp (t .names) (t .nums) event in

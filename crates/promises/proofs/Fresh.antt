@@ -14,7 +14,7 @@ fresh-shown : Shown [] freshTables
 unfolding names instances
 fresh-shown = record {
   sized = fresh-sized refl;
-  singles = record { started = refl; names-counted = refl; cores-counted = refl; instances-counted = refl; first = refl; last = refl };
+  singles = record { started = refl; names-counted = refl; cores-counted = refl; entries-counted = refl; first = refl; last = refl };
   each-name = λ n m. absurd (clash _ m refl);
   instance-rows = record { each = λ x m. absurd (clash _ m refl); owned = λ j b. absurd (omega (arith, b)); kept = λ i j b d o n. absurd (omega (arith, b)) };
   each-ticks = λ n m. absurd (clash _ m refl);

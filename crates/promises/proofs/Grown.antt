@@ -1,4 +1,4 @@
--- How the lists of a history grow: an event that does not break 9 adds its new names and its new instance at the end. So a row stays the row of its name,
+-- How the names of a history grow: an event that does not break 9 adds its new ones at the end. So a row stays the row of its name,
 -- a new name has the next one, and the lists are longer by what is new.
 use mathlib.Core.Path.{_≡_, refl, sym, ap, ap₂, _∙_}
 use mathlib.Core.Bool.{Bool, true, false}
@@ -12,32 +12,22 @@ use Rattle.text.specs.Bytes.{sameBytes}
 use Rattle.text.proofs.Words.{same-eq, same-refl}
 use Rattle.rules.specs.Lists.{any, only, keep, oneIf}
 use Rattle.rules.specs.Words.{core}
-use Rattle.rules.specs.Event.{Event, sameInstance, instanceOf}
+use Rattle.rules.specs.Event.{Event}
 use Rattle.rules.specs.Core.{onCore}
-use Rattle.rules.specs.History.{hasInstances, isTracked, named, names, kindOf, isKind, cores, instances}
+use Rattle.rules.specs.History.{isTracked, named, names, kindOf, isKind, cores}
 use Rattle.rules.specs.Refusals.{look, secondKind}
-use Rattle.rules.proofs.Tests.{both, instance-true, instance-refl}
+use Rattle.rules.proofs.Tests.{both}
 use Rattle.rules.proofs.Sums.{other-way}
 use Rattle.rules.proofs.Tracked.{target-kind, two-names, source-kind, kind-stays}
 use Rattle.promises.specs.Places.{place, rowOf}
-use Rattle.promises.proofs.Places.{place-kept, place-after, only-append, only-same, grown-one, grown-two}
+use Rattle.promises.proofs.Places.{place-kept, place-after, only-append, only-same, grown-two}
 use Rattle.promises.proofs.KindTests.{tracked-range}
-use Rattle.promises.proofs.Origins.{newSource, newTarget, newInstance}
+use Rattle.promises.proofs.Origins.{newSource, newTarget}
 use Rattle.promises.proofs.Listed.{name-kind}
 
 one-longer : {A : Type 0} (b : Bool) (xs : List A) (x : A) → length (xs ++ keep b x []) ≡ length xs + oneIf b
 one-longer true xs x = length-append xs (x ∷ [])
 one-longer false xs x = length-append xs []
-
--- ---- the instances
-
-module _ (h : List Event) (e : Event) where
-  instances-grow : instances (e ∷ h) ≡ instances h ++ keep (newInstance h e) (instanceOf e) []
-  unfolding instances
-  instances-grow = grown-one sameInstance instance-true instance-refl (hasInstances (e .kind)) (instances h) (instanceOf e)
-
-  pub instances-length : length (instances (e ∷ h)) ≡ length (instances h) + oneIf (newInstance h e)
-  instances-length = ap length instances-grow ∙ one-longer (newInstance h e) (instances h) (instanceOf e)
 
 -- ---- an event that does not break 9
 

@@ -58,11 +58,7 @@ core-tracked e o = process-tracked (e .kind) (on-process e o)
 pub no-semaphore : (k : ℕ) → hasInstances k ≡ true → eqb k semaphore ≡ false
 no-semaphore k q = let r = instances-range k q in ne-eqb k semaphore (λ (p : k ≡ semaphore). omega arith)
 
--- a semaphore has no instances, and its events are no activations
-pub no-instances : (k : ℕ) → eqb k semaphore ≡ true → hasInstances k ≡ false
-unfolding hasInstances isProcess
-no-instances k e = rw (eqb-true k semaphore e)
-
+-- and a semaphore's events are no activations
 pub no-activation : (k a : ℕ) → eqb k semaphore ≡ true → activates k a ≡ false
 unfolding activates isProcess
 no-activation k a e = rw (eqb-true k semaphore e)

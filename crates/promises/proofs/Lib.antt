@@ -25,6 +25,8 @@ pub mod NameKinds
 pub mod NameNumbers
 pub mod Standings
 pub mod Names
+pub mod Moves
+pub mod RowsAfter
 pub mod Instances
 pub mod TickStores
 pub mod TickEntries

@@ -12,13 +12,14 @@ use borrow.Author.Tests.{lt-ltb}
 use Rattle.text.specs.Bytes.{sameBytes}
 use Rattle.text.proofs.Bools.{is-false}
 use Rattle.rules.specs.Lists.{any, oneIf}
-use Rattle.rules.specs.Event.{Event, Instance, sameInstance, instanceOf}
+use Rattle.rules.specs.Event.{Event, Instance, instanceOf}
 use Rattle.rules.specs.Core.{onCore, coreClass, no-core}
-use Rattle.rules.specs.History.{hasInstances, isTracked, names, kindOf, instances}
+use Rattle.rules.specs.History.{hasInstances, isTracked, names, kindOf, hasEntry}
 use Rattle.rules.specs.Refusals.{look, secondKind}
 use Rattle.rules.specs.Verdict.{Accepted}
 use Rattle.rules.proofs.Tests.{clash}
-use Rattle.rules.proofs.Answers.{all-fit}
+use Rattle.rules.proofs.Room.{all-fit, entries-now}
+use Rattle.rules.proofs.Entries.{entry-listed}
 use Rattle.rules.proofs.Tracked.{target-is}
 use Rattle.rules.proofs.Seen.{own-number}
 use Rattle.steps.proofs.CoreClasses.{class-on}
@@ -27,7 +28,7 @@ use Rattle.lookup.specs.declared.find.Found.{Found}
 use Rattle.lookup.specs.declared.find.Found.the-variants.{At, Nothing}
 use Rattle.lookup.specs.Find.{firstFrom, lastBelow, rowIs, findName, instanceIs, findInstance}
 use Rattle.lookup.proofs.Found.{first-at, first-none, last-at, last-none, name-found, instance-found, row-name, name-row, instance-means}
-use Rattle.lookup.specs.LookedUp.{lookIf, instanceIn, lookedUp, rowsAdded, newCore, newName, newInstance as newRow}
+use Rattle.lookup.specs.LookedUp.{lookIf, instanceIn, lookedUp, rowsAdded, newCore, newName, isNothing}
 use Rattle.store.specs.Store.{rowOr, coreRow, targetRow}
 use Rattle.judge.specs.Feed.{Tables}
 use Rattle.promises.specs.Places.{place, seek, rowOf}
@@ -35,7 +36,7 @@ use Rattle.promises.specs.Shown.{InstanceShown, Shown}
 use Rattle.promises.specs.Taken.{lookedUpIn, InstanceFound}
 use Rattle.promises.proofs.Places.{place-bound}
 use Rattle.promises.proofs.KindTests.{instances-tracked}
-use Rattle.promises.proofs.Origins.{newSource, newTarget, newInstance}
+use Rattle.promises.proofs.Origins.{newSource, newTarget}
 use Rattle.promises.proofs.Listed.{name-kind, name-at, instance-kind, instance-named, one-instance, AllMet, name-size}
 use Rattle.promises.proofs.Grown.{row-stays, source-row-new, target-row-new}
 
@@ -71,7 +72,7 @@ pub name-below : (h : List Event) → Accepted h → (n : List ℕ) → any (sam
 name-below h a n q = omega (arith, place-bound (sameBytes n) (names h) q, all-fit h a .names-fit)
 
 pub instance-below : (h : List Event) → Accepted h → (t : Tables) → Shown h t → (j : ℕ) (x : Instance) → InstanceShown h (t .nums) j x → j < instanceRows
-instance-below h a t s j x p = omega (arith, p .below, s .singles .instances-counted, all-fit h a .instances-fit)
+instance-below h a t s j x p = omega (arith, p .below, s .singles .entries-counted, entries-now h (all-fit h a))
 
 -- ---- the two look-ups
 
@@ -93,7 +94,7 @@ module _ (h : List Event) (a : Accepted h) (m : AllMet h) (t : Tables) (s : Show
           let e = s .each-name n q in
           name-row (t .names) (t .nums) n (rowOf h n) (s .sized .names-size) (name-below h a n q) (omega (arith, e .size, name-size h m n q .1)) (e .name)
 
-  -- some row that shows it, or nothing and the history lacks it
+  -- some row that shows it, or nothing and it has no entry
   pub found-instance : (x : Instance) → kindOf (x .name) h ≡ some (x .kind) →
       InstanceFound h (t .nums) x (findInstance (t .nums) (rowOf h (x .name)) (x .number))
   found-instance x q =
@@ -107,8 +108,8 @@ module _ (h : List Event) (a : Accepted h) (m : AllMet h) (t : Tables) (s : Show
           let l = last-at is (instanceCount (t .nums)) j p in
           let c = instance-means (t .nums) (rowOf h (x .name)) (x .number) j .holds (l .1) in
           let r = s .instance-rows .owned j (l .0) in
-          let z = one-instance h (r .0) x (instance-kind h a (r .0) (r .1) .1) q (sym (r .2 .owner) ∙ c .1 .1) (sym (r .2 .number) ∙ c .1 .0) in
-          subst (λ (y : Instance). (any (sameInstance y) (instances h) ≡ true) × InstanceShown h (t .nums) j y) z (r .1, r .2)
+          let z = one-instance h (r .0) x (instance-kind h a (r .0) (entry-listed h (r .0) (r .1)) .1) q (sym (r .2 .owner) ∙ c .1 .1) (sym (r .2 .number) ∙ c .1 .0) in
+          subst (λ (y : Instance). (hasEntry h y ≡ true) × InstanceShown h (t .nums) j y) z (r .1, r .2)
       by-found Nothing p =
           is-false _ (λ b.
           let r = s .instance-rows .each x b in
@@ -126,13 +127,9 @@ module _ (h : List Event) (a : Accepted h) (m : AllMet h) (t : Tables) (s : Show
   unfolding lookedUp lookedUpIn
   looked-up-target e = ap (lookIf (isTracked (e .kind))) (found-name (e .target))
 
-  -- a name that the list lacks has no instance
-  no-instance : (x : Instance) → any (sameBytes (x .name)) (names h) ≡ false → any (sameInstance x) (instances h) ≡ false
-  no-instance x q = by-test (any (sameInstance x) (instances h)) refl
-    where
-      by-test : (b : Bool) → any (sameInstance x) (instances h) ≡ b → b ≡ false
-      by-test true b = absurd (clash _ (instance-named h a x b) q)
-      by-test false b = refl
+  -- an instance of a name that the list lacks has none
+  no-entry : (x : Instance) → any (sameBytes (x .name)) (names h) ≡ false → hasEntry h x ≡ false
+  no-entry x q = is-false _ (λ b. clash _ (instance-named h a x (entry-listed h x b)) q)
 
   -- the instance is looked up by the row of its name, and its name has one kind
   pub looked-up-instance : (e : Event) → secondKind (look h e) e ≡ false → hasInstances (e .kind) ≡ true →
@@ -148,7 +145,7 @@ module _ (h : List Event) (a : Accepted h) (m : AllMet h) (t : Tables) (s : Show
           rw (lt-ltb (rowOf h (e .target)) nameRows (name-below h a (e .target) q))
           (subst (λ (n : ℕ). InstanceFound h (t .nums) (instanceOf e) (findInstance (t .nums) (rowOf h (e .target)) n))
           (own-number e i) (found-instance (instanceOf e) o))
-      by-test false q = no-instance (instanceOf e) q
+      by-test false q = no-entry (instanceOf e) q
 
   pub looked-up-shown : (e : Event) → lookedUp (t .names) (t .nums) e ≡ lookedUpIn h t e
   unfolding lookedUp lookedUpIn
@@ -159,18 +156,13 @@ module _ (h : List Event) (a : Accepted h) (m : AllMet h) (t : Tables) (s : Show
     instance = ap (λ (f : Found). instanceIn (t .nums) (hasInstances (e .kind)) f (e .targetInstance)) (looked-up-target e) i;
   }
 
-  -- a row more is needed exactly for an instance that is new
-  pub new-instance : (e : Event) → secondKind (look h e) e ≡ false → newRow (lookedUpIn h t e) (e .kind) ≡ oneIf (newInstance h e)
-  new-instance e k = by-test (hasInstances (e .kind)) refl
+  -- there is a row exactly for an instance that has an entry
+  pub entry-told : (e : Event) → secondKind (look h e) e ≡ false → hasInstances (e .kind) ≡ true → not (isNothing ((lookedUpIn h t e) .instance)) ≡ hasEntry h (instanceOf e)
+  entry-told e k i = by-found ((lookedUpIn h t e) .instance) (looked-up-instance e k i)
     where
-      by-found : (r : Found) → InstanceFound h (t .nums) (instanceOf e) r → rowsAdded true r ≡ oneIf (not (any (sameInstance (instanceOf e)) (instances h)))
-      by-found (At j) p = rw (p .0)
-      by-found Nothing p = rw p
-
-      by-test : (b : Bool) → hasInstances (e .kind) ≡ b →
-          rowsAdded b ((lookedUpIn h t e) .instance) ≡ oneIf (b && not (any (sameInstance (instanceOf e)) (instances h)))
-      by-test true i = by-found ((lookedUpIn h t e) .instance) (looked-up-instance e k i)
-      by-test false i = refl
+      by-found : (r : Found) → InstanceFound h (t .nums) (instanceOf e) r → not (isNothing r) ≡ hasEntry h (instanceOf e)
+      by-found (At j) p = sym (p .0)
+      by-found Nothing p = sym p
 
 -- ---- the rows of a line that is taken
 

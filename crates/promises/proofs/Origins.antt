@@ -88,16 +88,6 @@ module _ (h : List Event) (e : Event) where
       by-test true a = before a
       by-test false a = mentioned a (any-added-only sameBytes same-eq same-refl (names h) (named e) n q a)
 
-  pub instance-stays : (x : Instance) → any (sameInstance x) (instances h) ≡ true → any (sameInstance x) (instances (e ∷ h)) ≡ true
-  unfolding instances
-  instance-stays x = any-more sameInstance (sameInstance x) (instances h) (keep (hasInstances (e .kind)) (instanceOf e) [])
-
-  pub instance-listed : hasInstances (e .kind) ≡ true → any (sameInstance (instanceOf e)) (instances (e ∷ h)) ≡ true
-  unfolding instances
-  instance-listed t =
-      any-added sameInstance instance-true instance-refl (instances h) (keep (hasInstances (e .kind)) (instanceOf e) []) (instanceOf e)
-      (rw (t, instance-refl (instanceOf e)))
-
   pub instance-from : (x : Instance) → any (sameInstance x) (instances (e ∷ h)) ≡ true → InstanceFrom h e x
   unfolding instances
   instance-from x q = by-test (any (sameInstance x) (instances h)) refl

@@ -21,7 +21,8 @@ use Rattle.rules.specs.History.{names, instances, kindOf}
 use Rattle.rules.specs.Refusals.{unseen}
 use Rattle.rules.specs.Verdict.{Accepted}
 use Rattle.rules.specs.Sheet.{span}
-use Rattle.rules.proofs.Answers.{all-fit}
+use Rattle.rules.proofs.Room.{all-fit, entries-now}
+use Rattle.rules.proofs.Entries.{entry-listed}
 use Rattle.rules.proofs.Seen.{first-seen}
 use Rattle.rules.proofs.Tracked.{named-kind}
 use Rattle.rules.proofs.Totals.{core-total}
@@ -174,11 +175,11 @@ module _ (h : List Event) (a : Accepted h) (met : AllMet h) (t : Tables) (s : Sh
         started = omega (arith, counts .started, started-one h);
         name-count = omega (arith, counts .names-counted, fit .names-fit);
         core-count = omega (arith, counts .cores-counted, fit .cores-fit);
-        instance-count = omega (arith, counts .instances-counted, fit .instances-fit);
+        instance-count = omega (arith, counts .entries-counted, entries-now h fit);
         last-time = omega (arith, counts .last, last-most h met);
         first-time = omega (arith, counts .first, counts .last, first-last h a);
         name-row = λ i b.
             let n = name-at h i (omega (arith, b, counts .names-counted)) in
             subst (NameRow (t .names) (t .nums) (t .ticks)) (n .2) (name-row (n .0) (n .1));
-        instance-row = λ j b. let r = s .instance-rows .owned j b in instance-row j (r .0) (r .1) (r .2);
+        instance-row = λ j b. let r = s .instance-rows .owned j b in instance-row j (r .0) (entry-listed h (r .0) (r .1)) (r .2);
       }

@@ -1,18 +1,18 @@
 -- One store to a row of nums, of a name or of an instance: the row has its values, and every other entry is as it was. And a store that is made or not.
 use mathlib.Core.Path.{_≡_, refl, sym, ap, _∙_}
-use mathlib.Core.Bool.{Bool, true, false, _&&_, cond, and-true, and-false}
+use mathlib.Core.Bool.{Bool, true, false, not, _&&_, cond, and-true, and-false}
 use mathlib.Core.List.{List}
-use Prim.Native.Nat.{ℕ, _+_, _%_, _^_, _≤_, _<_}
+use Prim.Native.Nat.{ℕ, _+_, _-_, _%_, _^_, _≤_, _<_}
 use native.Mathlib.Omega.{arith}
-use lib.Dec.{eqb, ltb}
-use lib.ListN.{length, getD, length-set}
-use borrow.Author.Tests.{eqb-true, ne-eqb, lt-ltb, ltb-true, ltb-false}
+use lib.Dec.{eqb, leb, ltb}
+use lib.ListN.{length, getD, set, length-set}
+use borrow.Author.Tests.{eqb-true, ne-eqb, le-leb, lt-ltb, ltb-true, ltb-false}
 use Rattle.rules.proofs.Tests.{both}
-use Rattle.tables.specs.Entry.{heldBy, nameRows, instanceRows, numsSize}
+use Rattle.tables.specs.Entry.{heldBy, nameRows, instanceRows, numsSize, instancesIndex, instanceCount}
 use Rattle.tables.specs.Entry.{kindColumn, lengthColumn, standingColumn, numberColumn, numberedColumn, firstNumberColumn, ownerColumn, instanceColumn, stateColumn}
 use Rattle.tables.specs.Entry.{kindAt, lengthAt, standingAt, numberAt, numberedAt, firstNumberAt, ownerAt, instanceAt, stateAt, storeAt}
-use Rattle.tables.proofs.Stores.{cell, Outside, outside, beside}
-use Rattle.store.specs.Store.{storeRow, storeInstance, storeStanding, storeHolder, storeNumber, storeActivation}
+use Rattle.tables.proofs.Stores.{same, other, cell, before, Outside, outside, beside}
+use Rattle.store.specs.Store.{storeRow, storeInstance, storeStanding, storeHolder, storeNumber, storeActivation, givenBack}
 use Rattle.store.proofs.Stores.{length-first}
 
 -- ---- a store that is made or not
@@ -179,3 +179,45 @@ module _ (nums : List ℕ) (z : length nums ≡ numsSize) (i owner q : ℕ) (o :
   instance-state =
       row-if instanceRows i (ltb i instanceRows && ltb owner nameRows) (named-too instanceRows i owner o) _ nums (stateColumn .base) q state h
       (λ k. simp (cell numsSize instanceRows, length-set, z))
+
+-- ---- a row given back: the last one moves into it
+
+abbrev moved : List ℕ → ℕ → List ℕ
+moved nums j =
+    let last = instanceCount nums - 1 in
+    storeAt stateColumn (storeAt instanceColumn (storeAt ownerColumn nums j (ownerAt nums last)) j (instanceAt nums last)) j (stateAt nums last)
+
+-- no other entry changes, whatever the row and the count
+pub given-beside : (nums : List ℕ) (j x : ℕ) → Outside ownerColumn stateColumn x → (instancesIndex ≡ x → ⊥) → getD (givenBack nums j) x 0 ≡ getD nums x 0
+unfolding givenBack
+given-beside nums j x out d =
+    kept-if (ltb j instanceRows && (not (eqb (instanceCount nums) 0) && leb (instanceCount nums) instanceRows)) _ nums x (λ t.
+    let h = ltb-true j instanceRows (both (ltb j instanceRows) _ t .0) in
+    other (moved nums j) instancesIndex x (instanceCount nums - 1) d ∙ simp (beside ownerColumn stateColumn instanceRows))
+
+module _ (nums : List ℕ) (z : length nums ≡ numsSize) (j : ℕ) (l : j < instanceRows) (p : 1 ≤ instanceCount nums) (m : instanceCount nums ≤ instanceRows) where
+  abbrev final : ℕ
+  final = instanceCount nums - 1
+
+  given-opened : givenBack nums j ≡ set (moved nums j) instancesIndex final
+  unfolding givenBack
+  given-opened = rw (lt-ltb j instanceRows l, ne-eqb (instanceCount nums) 0 (λ q. omega arith), le-leb (instanceCount nums) instanceRows m)
+
+  moved-size : length (moved nums j) ≡ numsSize
+  moved-size = simp (length-set, z)
+
+  pub given-count : instanceCount (givenBack nums j) ≡ final
+  given-count = ap instanceCount given-opened ∙ same (moved nums j) instancesIndex final (omega (arith, moved-size))
+
+  module _ (q : ℕ) (h : q < instanceRows) where
+    pub given-owner : ownerAt (givenBack nums j) q ≡ cond (eqb q j) (ownerAt nums final) (ownerAt nums q)
+    given-owner =
+        ap (λ (t : List ℕ). ownerAt t q) given-opened ∙ before (moved nums j) instancesIndex (ownerColumn .base) q final refl ∙ simp (cell numsSize instanceRows, length-set, z)
+
+    pub given-number : instanceAt (givenBack nums j) q ≡ cond (eqb q j) (instanceAt nums final) (instanceAt nums q)
+    given-number =
+        ap (λ (t : List ℕ). instanceAt t q) given-opened ∙ before (moved nums j) instancesIndex (instanceColumn .base) q final refl ∙ simp (cell numsSize instanceRows, length-set, z)
+
+    pub given-state : stateAt (givenBack nums j) q ≡ cond (eqb q j) (stateAt nums final) (stateAt nums q)
+    given-state =
+        ap (λ (t : List ℕ). stateAt t q) given-opened ∙ before (moved nums j) instancesIndex (stateColumn .base) q final refl ∙ simp (cell numsSize instanceRows, length-set, z)

@@ -14,9 +14,9 @@ use Rattle.rules.specs.Charts.{isProcess}
 use Rattle.rules.specs.Event.{Event}
 use Rattle.rules.specs.Core.{takes, gives, keeps, onCore, coreClass, on, no-core, takes-core, gives-core, keeps-core}
 use Rattle.rules.specs.History.{isTracked, names, activates}
-use Rattle.rules.specs.Lawful.{Fits}
 use Rattle.rules.proofs.Tests.{both, clash}
-use Rattle.rules.proofs.Answers.{Passed, room-fits}
+use Rattle.rules.proofs.Answers.{Passed}
+use Rattle.rules.proofs.Room.{room-parts}
 use Rattle.rules.proofs.CoreWords.{gives-only}
 use Rattle.rules.proofs.Activations.{activates-instances}
 use Rattle.steps.proofs.CoreClasses.{class-on}
@@ -34,11 +34,6 @@ use Rattle.promises.proofs.Grown.{source-row-new}
 use Rattle.promises.proofs.Lookups.{new-core, new-name, core-row, target-row}
 use Rattle.promises.proofs.Columns.{isNewCore, isNewTarget}
 use Rattle.promises.proofs.Entries.{orNone, kind-taken, standing-taken, number-taken, numbered-taken, first-taken}
-
--- ---- the lists of the longer history fit
-
-pub room : (h : List Event) (e : Event) → Passed h e → Fits (e ∷ h)
-room h e f = room-fits h e (f .room)
 
 -- an event on a core is of the class that gives the core back exactly if its word does
 class-gives : (e : Event) → onCore e ≡ true → eqb (coreClass (e .kind) (e .word)) gives-core ≡ gives (e .word)
@@ -58,7 +53,7 @@ class-gives e o = by-test (isProcess (e .kind)) (takes (e .word)) refl (gives (e
 
 module _ (h : List Event) (t : Tables) (s : Shown h t) (e : Event) (f : Passed h e) where
   pub row-bound : (n : List ℕ) → any (sameBytes n) (names (e ∷ h)) ≡ true → rowOf (e ∷ h) n < nameRows
-  row-bound n q = omega (arith, place-bound (sameBytes n) (names (e ∷ h)) q, room h e f .names-fit)
+  row-bound n q = omega (arith, place-bound (sameBytes n) (names (e ∷ h)) q, room-parts h e (f .room) .0)
 
   pub target-bound : isTracked (e .kind) ≡ true → targetRow (t .nums) (lookedUpIn h t e) < nameRows
   target-bound k = rw (target-row h t s e (f .kinds) k) (row-bound (e .target) (target-named h e k))

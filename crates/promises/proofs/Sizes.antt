@@ -1,24 +1,25 @@
--- A line that is taken keeps the sizes of the tables, and their single entries: how many names, cores and instances there are, and the two times.
+-- A line that is taken keeps the sizes of the tables, and their single entries: how many names, cores and entries there are, and the two times.
 use mathlib.Core.Path.{_≡_, _∙_}
 use mathlib.Core.Bool.{cond}
 use mathlib.Core.List.{List, [], _∷_}
 use Prim.Native.Nat.{ℕ}
 use native.Mathlib.Omega.{arith}
 use lib.Dec.{eqb}
+use lib.ListN.{length}
 use Rattle.rules.specs.Event.{Event}
-use Rattle.rules.specs.Verdict.{Accepted}
+use Rattle.rules.specs.History.{entries}
 use Rattle.rules.proofs.Answers.{Passed}
+use Rattle.rules.proofs.Room.{room-parts}
+use Rattle.tables.specs.Entry.{instanceCount}
 use Rattle.tables.specs.Sized.{Sized}
 use Rattle.store.specs.Store.{takenTables}
 use Rattle.store.proofs.Stores.{length-takenNames, length-takenNums, length-takenTicks}
 use Rattle.judge.specs.Feed.{Tables}
 use Rattle.promises.specs.Shown.{firstOf, startedOf, SinglesShown, Shown}
 use Rattle.promises.specs.Taken.{lookedUpIn}
-use Rattle.promises.proofs.Listed.{AllMet}
-use Rattle.promises.proofs.Grown.{names-length, cores-length, instances-length}
-use Rattle.promises.proofs.Lookups.{new-core, new-name, new-instance}
-use Rattle.promises.proofs.Entries.{started-taken, names-taken, cores-taken, instances-taken}
-use Rattle.promises.proofs.Rows.{room}
+use Rattle.promises.proofs.Grown.{names-length, cores-length}
+use Rattle.promises.proofs.Lookups.{new-core, new-name}
+use Rattle.promises.proofs.Entries.{started-taken, names-taken, cores-taken}
 use Rattle.promises.proofs.TickEntries.{first-taken, last-taken}
 
 -- the first time is that of the first event: of this one, where none was before
@@ -39,21 +40,19 @@ module _ (h : List Event) (t : Tables) (s : Shown h t) (e : Event) (state : ℕ)
         ticks-size = length-takenTicks (t .ticks) (t .nums) (lookedUpIn h t e) (e .kind) (e .time) ∙ s .sized .ticks-size;
       }
 
-  pub singles-next : Accepted h → AllMet h → Passed h e → SinglesShown (e ∷ h) (after .nums) (after .ticks)
-  singles-next a met f =
-      let fit = room h e f in
+  pub singles-next : Passed h e → instanceCount (after .nums) ≡ length (entries (e ∷ h)) → SinglesShown (e ∷ h) (after .nums) (after .ticks)
+  singles-next f counted =
+      let fit = room-parts h e (f .room) in
       let old = s .singles in
       record {
         started = started-taken (t .nums) (s .sized .nums-size) (lookedUpIn h t e) state e;
         names-counted =
             names-taken (t .nums) (s .sized .nums-size) (lookedUpIn h t e) state e
-            ∙ rw (new-core h t e, new-name h t e) (omega (arith, old .names-counted, names-length h e (f .kinds), fit .names-fit));
+            ∙ rw (new-core h t e, new-name h t e) (omega (arith, old .names-counted, names-length h e (f .kinds), fit .0));
         cores-counted =
             cores-taken (t .nums) (s .sized .nums-size) (lookedUpIn h t e) state e
-            ∙ rw (new-core h t e) (omega (arith, old .cores-counted, cores-length h e (f .kinds), fit .cores-fit));
-        instances-counted =
-            instances-taken (t .nums) (s .sized .nums-size) (lookedUpIn h t e) state e
-            ∙ rw (new-instance h a met t s e (f .kinds)) (omega (arith, old .instances-counted, instances-length h e, fit .instances-fit));
+            ∙ rw (new-core h t e) (omega (arith, old .cores-counted, cores-length h e (f .kinds), fit .1));
+        entries-counted = counted;
         first = first-taken (t .ticks) (t .nums) (s .sized .ticks-size) (lookedUpIn h t e) (e .kind) (e .time) ∙ first-time h e _ _ (old .started) (old .first);
         last = last-taken (t .ticks) (t .nums) (s .sized .ticks-size) (lookedUpIn h t e) (e .kind) (e .time);
       }

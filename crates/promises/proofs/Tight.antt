@@ -30,8 +30,8 @@ use Rattle.bill.specs.Text.{sheetText}
 use Rattle.bill.specs.Scale.{scaleNumber}
 use Rattle.rules.specs.Charts.{chartOf, processChart, isProcess}
 use Rattle.rules.specs.Core.{takes, gives, keeps, onCore}
-use Rattle.rules.specs.History.{hasInstances, isTracked, named, kindIn, activates, numbers, lastNumber, firstNumber, isFrom, aboveAll, lastCount, names, instances}
-use Rattle.rules.specs.Refusals.{timeFalls, secondKind, sourceClash, targetClash, noRoom, offChart, neverActivated, notAllowed, notNext}
+use Rattle.rules.specs.History.{hasInstances, isTracked, named, kindIn, activates, numbers, lastNumber, firstNumber, isFrom, aboveAll, lastCount, names, needsEntry, instances}
+use Rattle.rules.specs.Refusals.{timeFalls, secondKind, sourceClash, targetClash, isNextActivation, exceedsLimit, needsOne, noRoom, offChart, neverActivated, notAllowed, notNext}
 use Rattle.rules.specs.Refusals.{coreBroken, countFollows, countAllowed, countBroken, eventTests, answerTo}
 use Rattle.rules.specs.Lines.{kindNumber, eventOfLine, eventsOf}
 use Rattle.rules.specs.Trace.{placeOf, tooMuch, versionWrong, parameterWrong, unscaled, placeTests, answerInPlace, answerAt, atEnd, verdictOn}
@@ -87,8 +87,8 @@ unfolding linesOf wholeLines restOf lineText ended unended pieces firstRefusal t
     numberWrong nameWrong noteWrong readLine hasBreak isEventLine eventReading fieldsReading hasNames numbersOf knownReading partsOf fieldOf noteOf
     isProcessLine zeroSource zeroTarget isOwn sourceBroken targetBroken ownBroken presence noteBroken ruleBroken isVersion isVersionLine isComment timeScale
     isCreator isCreationDate otherReading parameterReading sameBytes startsWith pick isNameByte allNameBytes isName numberOf scaleWord scaleOf kindWord
-    kindOf wordOf actionCode actionsOf actionOf among namedBy answerTo eventTests timeFalls secondKind sourceClash targetClash noRoom offChart neverActivated notAllowed notNext
-    coreBroken countBroken names instances chartOf processChart isProcess takes gives keeps onCore hasInstances isTracked named kindIn activates numbers
+    kindOf wordOf actionCode actionsOf actionOf among namedBy answerTo eventTests timeFalls secondKind sourceClash targetClash isNextActivation exceedsLimit needsOne noRoom offChart neverActivated notAllowed notNext
+    coreBroken countBroken needsEntry names instances chartOf processChart isProcess takes gives keeps onCore hasInstances isTracked named kindIn activates numbers
     lastNumber firstNumber isFrom aboveAll lastCount countAllowed countFollows
 second-refused = refl
 

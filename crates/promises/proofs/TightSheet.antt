@@ -32,8 +32,8 @@ use Rattle.bill.specs.Scale.{scaleNumber}
 use Rattle.rules.specs.Lists.{sumOver, ifZero}
 use Rattle.rules.specs.Charts.{chartOf, processChart, isProcess}
 use Rattle.rules.specs.Core.{takes, gives, keeps, onCore}
-use Rattle.rules.specs.History.{hasInstances, isTracked, named, kindIn, activates, numbers, lastNumber, firstNumber, isFrom, aboveAll, lastCount, names, instances}
-use Rattle.rules.specs.Refusals.{timeFalls, secondKind, sourceClash, targetClash, noRoom, offChart, neverActivated, notAllowed, notNext}
+use Rattle.rules.specs.History.{hasInstances, isTracked, named, kindIn, activates, numbers, lastNumber, firstNumber, isFrom, aboveAll, lastCount, names, needsEntry, instances}
+use Rattle.rules.specs.Refusals.{timeFalls, secondKind, sourceClash, targetClash, isNextActivation, exceedsLimit, needsOne, noRoom, offChart, neverActivated, notAllowed, notNext}
 use Rattle.rules.specs.Refusals.{coreBroken, countFollows, countAllowed, countBroken, eventTests, answerTo}
 use Rattle.rules.specs.Sheet.{ticks, sheet}
 use Rattle.rules.specs.Lines.{kindNumber, eventOfLine, eventsOf}
@@ -98,7 +98,7 @@ unfolding sheet ticks takenOf answerAt answerInPlace placeTests tooMuch versionW
     fieldsReading hasNames numbersOf knownReading partsOf pieces fieldOf noteOf isProcessLine zeroSource zeroTarget isOwn sourceBroken targetBroken
     ownBroken presence noteBroken ruleBroken isVersion isVersionLine isComment timeScale isCreator isCreationDate otherReading parameterReading sameBytes
     startsWith isNameByte allNameBytes isName numberOf pick scaleWord scaleOf kindWord kindOf wordOf actionCode actionsOf actionOf among namedBy answerTo
-    eventTests timeFalls secondKind sourceClash targetClash noRoom offChart neverActivated notAllowed notNext coreBroken countBroken names instances chartOf processChart isProcess
+    eventTests timeFalls secondKind sourceClash targetClash isNextActivation exceedsLimit needsOne noRoom offChart neverActivated notAllowed notNext coreBroken countBroken needsEntry names instances chartOf processChart isProcess
     takes gives keeps onCore hasInstances isTracked named kindIn activates numbers lastNumber firstNumber isFrom aboveAll lastCount countAllowed countFollows
 both-sheets = (refl, refl)
 

@@ -1,7 +1,7 @@
 -- What the tables that show a history say of a name or an instance that they are asked for: its kind, its state, its last number or count, its first number. Where
 -- there is no row of it, the history tells nothing of it either.
 use mathlib.Core.Path.{_≡_, refl, sym, ap, _∙_}
-use mathlib.Core.Bool.{Bool, true, false, not, cond}
+use mathlib.Core.Bool.{Bool, true, false, cond}
 use mathlib.Core.Option.{Option, none, some}
 use mathlib.Core.List.{List, [], _∷_}
 use Prim.Native.Nat.{ℕ, zero, suc, _≤_}
@@ -14,11 +14,10 @@ use Rattle.rules.specs.Lists.{any}
 use Rattle.rules.specs.Words.{core, semaphore}
 use Rattle.rules.specs.Event.{Event, Instance, stateOf}
 use Rattle.rules.specs.Core.{held, coreAt}
-use Rattle.rules.specs.History.{hasInstances, names, kindOf, lastNumber, firstNumber, lastCount}
+use Rattle.rules.specs.History.{names, kindOf, lastNumber, firstNumber, hasEntry, lastCount}
 use Rattle.rules.specs.Verdict.{Accepted}
-use Rattle.rules.proofs.Answers.{all-fit}
-use Rattle.rules.proofs.CoreRuns.{unseen-none}
-use Rattle.rules.proofs.Seen.{Worded, first-seen}
+use Rattle.rules.proofs.Room.{all-fit}
+use Rattle.rules.proofs.Seen.{Worded}
 use Rattle.rules.proofs.Tests.{clash}
 use Rattle.rules.proofs.Tracked.{kind-named, named-kind}
 use Rattle.steps.specs.Rows.{opened}
@@ -131,10 +130,8 @@ module _ (h : List Event) (a : Accepted h) (t : Tables) (s : Shown h t) where
 
   -- ---- instances
 
-  -- the state in the row that was found of an instance
-  pub state-told : Worded h → (x : Instance) → hasInstances (x .kind) ≡ true → (r : Found) → InstanceFound h (t .nums) x r →
-      opened (entryOf stateColumn (t .nums) r) ≡ stateOf x h
+  -- the state in the row that was found of an instance: that of one that has an entry
+  pub state-told : (x : Instance) (r : Found) → InstanceFound h (t .nums) x r → opened (entryOf stateColumn (t .nums) r) ≡ cond (hasEntry h x) (stateOf x h) none
   unfolding entryOf
-  state-told w x k (At j) p =
-      rw (lt-ltb j instanceRows (instance-below h a t s j x (p .1))) (p .1 .state)
-  state-told w x k Nothing p = sym (unseen-none (stateOf x h) (first-seen h w x k ∙ ap not p))
+  state-told x (At j) p = rw (lt-ltb j instanceRows (instance-below h a t s j x (p .1)), p .0) (p .1 .state)
+  state-told x Nothing p = rw p

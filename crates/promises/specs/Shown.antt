@@ -9,9 +9,9 @@ use lib.ListN.{length}
 use Rattle.text.specs.Bytes.{sameBytes}
 use Rattle.rules.specs.Words.{core, semaphore}
 use Rattle.rules.specs.Lists.{any, sumOver}
-use Rattle.rules.specs.Event.{Event, Instance, sameInstance, stateOf}
+use Rattle.rules.specs.Event.{Event, Instance, stateOf}
 use Rattle.rules.specs.Core.{Core, unknown, idle, held, coreAt}
-use Rattle.rules.specs.History.{names, cores, instances, kindOf, lastNumber, firstNumber, lastCount}
+use Rattle.rules.specs.History.{names, cores, kindOf, lastNumber, firstNumber, entries, hasEntry, lastCount}
 use Rattle.rules.specs.Sheet.{firstTime as firstEventTime, isHeld, isIdle, isHeldBy, heldTicks, idleTicks, unknownTicks, charge}
 use Rattle.rules.specs.Lines.{eventsOf}
 use Rattle.rules.specs.Trace.{placeOf}
@@ -41,7 +41,7 @@ pub record SinglesShown (h : List Event) (nums ticks : List ℕ) : Type 0 where
   pub started : startedEntry nums ≡ startedOf h
   pub names-counted : nameCount nums ≡ length (names h)
   pub cores-counted : coreCount nums ≡ length (cores h)
-  pub instances-counted : instanceCount nums ≡ length (instances h)
+  pub entries-counted : instanceCount nums ≡ length (entries h)
   pub first : firstTime ticks ≡ firstOf h
   pub last : lastTime ticks ≡ lastOf h
 
@@ -87,10 +87,10 @@ pub record InstanceShown (h : List Event) (nums : List ℕ) (j : ℕ) (x : Insta
   pub number : instanceAt nums j ≡ x .number
   pub state : opened (stateAt nums j) ≡ stateOf x h
 
--- the rows of all instances, in any order: each instance has a row, each row that is counted is one's, and no two rows have the same name and number
+-- the rows of the instances that need an entry, in any order: each of them has a row, each row that is counted is one's, and no two rows have the same name and number
 pub record InstancesShown (h : List Event) (nums : List ℕ) : Type 0 where
-  pub each : (x : Instance) → any (sameInstance x) (instances h) ≡ true → (j : ℕ) × InstanceShown h nums j x
-  pub owned : (j : ℕ) → j < instanceCount nums → (x : Instance) × (any (sameInstance x) (instances h) ≡ true) × InstanceShown h nums j x
+  pub each : (x : Instance) → hasEntry h x ≡ true → (j : ℕ) × InstanceShown h nums j x
+  pub owned : (j : ℕ) → j < instanceCount nums → (x : Instance) × (hasEntry h x ≡ true) × InstanceShown h nums j x
   pub kept : (i j : ℕ) → i < instanceCount nums → j < instanceCount nums → ownerAt nums i ≡ ownerAt nums j → instanceAt nums i ≡ instanceAt nums j → i ≡ j
 
 -- ---- the ticks in the row i of the name n: stored up to `since`, and from then on as the core stands

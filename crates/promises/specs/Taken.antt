@@ -6,10 +6,8 @@ use Prim.Native.Nat.{ℕ}
 use lib.Dec.{eqb}
 use Rattle.text.specs.Bytes.{sameBytes}
 use Rattle.rules.specs.Core.{no-core, coreClass}
-use Rattle.rules.specs.Event.{Event, sameInstance}
-use Rattle.rules.specs.Lists.{any}
-use Rattle.rules.specs.Event.{Instance}
-use Rattle.rules.specs.History.{hasInstances, isTracked, names, instances}
+use Rattle.rules.specs.Event.{Event, Instance}
+use Rattle.rules.specs.History.{hasInstances, isTracked, names, hasEntry}
 use Rattle.lookup.specs.declared.find.Found.{Found}
 use Rattle.lookup.specs.declared.find.Found.the-variants.{At, Nothing}
 use Rattle.lookup.specs.declared.look.LookedUp.{LookedUp}
@@ -29,7 +27,7 @@ lookedUpIn h t e =
       instance = instanceIn (t .nums) (hasInstances (e .kind)) row (e .targetInstance);
     }
 
--- what is found of an instance: some row that shows it, or nothing and the history lacks it
+-- what is found of an instance: some row that shows it, or nothing and it has no entry
 abbrev pub InstanceFound : List Event → List ℕ → Instance → Found → Type 0
-InstanceFound h nums x (At j) = (any (sameInstance x) (instances h) ≡ true) × InstanceShown h nums j x
-InstanceFound h nums x Nothing = any (sameInstance x) (instances h) ≡ false
+InstanceFound h nums x (At j) = (hasEntry h x ≡ true) × InstanceShown h nums j x
+InstanceFound h nums x Nothing = hasEntry h x ≡ false
