@@ -34,7 +34,8 @@ pub struct Moment {
 pub struct History {
     /// In order of first mention; a name's place in this list never changes.
     pub names: Vec<TrackedName>,
-    /// Terminated instances stay here, so that their next event isn't a first.
+    /// Every instance that was seen. Terminated ones stay here, also where they
+    /// need no entry any more, so that their next event isn't a first.
     pub instances: BTreeMap<InstanceId, State>,
     /// The number of the last activate, mtalimitexceeded or runnable start of
     /// the name at this place.
@@ -128,6 +129,27 @@ impl History {
     pub fn instance_is_new(&self, line: &EventLine) -> bool {
         has_instance(line)
             && !self.instance_of(line).is_some_and(|id| self.instances.contains_key(&id))
+    }
+
+    /// How many instances need an entry: "living or older than their entity's
+    /// first activation (all are, while it has none)".
+    pub fn entries(&self) -> usize {
+        self.instances.iter().filter(|(id, state)| self.needs_entry(**id, state)).count()
+    }
+
+    /// Document 02, No. 7: "a TERMINATED instance numbered at or above its
+    /// entity's first activating number (start, for a runnable) needs no entry".
+    /// Every other one that was seen does.
+    fn needs_entry(&self, id: InstanceId, state: State) -> bool {
+        let first = self.first_activations.get(&id.name_place);
+        state != "TERMINATED" || first.map_or(true, |&first| id.number < first)
+    }
+
+    /// Whether the line's instance has an entry. "Give its room back at once":
+    /// those have one that need one.
+    pub fn has_entry(&self, line: &EventLine) -> bool {
+        let Some(id) = self.instance_of(line) else { return false };
+        self.instances.get(&id).is_some_and(|state| self.needs_entry(id, state))
     }
 
     /// The chart state of the line's instance or semaphore, if it is known.

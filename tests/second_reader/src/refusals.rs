@@ -4,7 +4,7 @@
 use crate::charts::{is_chart_event, next_state};
 use crate::cores::{core_event, is_allowed, InstanceId};
 use crate::event_line::{count_of, EventLine, Refusal};
-use crate::history::{is_in_series, names_of, History, NameKind};
+use crate::history::{has_instance, is_in_series, names_of, History, NameKind};
 use crate::semaphores::{fixed_count_is_right, follows};
 
 /// Table of sizes: "tracked names (cores, T, I, R, SEM) | 256, of them 64
@@ -12,8 +12,9 @@ use crate::semaphores::{fixed_count_is_right, follows};
 const MOST_NAMES: usize = 256;
 const MOST_CORES: usize = 64;
 
-/// Table of sizes: "process and runnable instances | 1,024".
-const MOST_INSTANCES: usize = 1_024;
+/// Table of sizes: "process and runnable instances | 1,024", of which document
+/// 02, No. 7, counts those that need an entry.
+pub const MOST_ENTRIES: usize = 1_024;
 
 type Rule = fn(&History, &EventLine) -> bool;
 
@@ -51,20 +52,53 @@ pub fn name_has_a_second_kind(history: &History, line: &EventLine) -> bool {
 
 /// Answer 10: "the names or instances that the line adds don't fit".
 pub fn line_does_not_fit(history: &History, line: &EventLine) -> bool {
+    names_do_not_fit(history, line) || instance_does_not_fit(history, line)
+}
+
+pub fn names_do_not_fit(history: &History, line: &EventLine) -> bool {
     let added: Vec<NameKind> = names_of(line)
         .into_iter()
         .filter(|(name, _)| history.place_of(name).is_none())
         .map(|(_, kind)| kind)
         .collect();
     let added_cores = added.iter().filter(|&&kind| kind == NameKind::Core).count();
-    let added_instances = usize::from(history.instance_is_new(line));
-    history.names.len() + added.len() > MOST_NAMES
-        || history.core_count() + added_cores > MOST_CORES
-        || history.instances.len() + added_instances > MOST_INSTANCES
+    history.names.len() + added.len() > MOST_NAMES || history.core_count() + added_cores > MOST_CORES
+}
+
+/// Document 02, No. 7: "Refusal 10 for instances is then given exactly when
+/// 1,024 entries are living or older than their entity's first activation (all
+/// are, while it has none) and one more is needed." The judge before this request
+/// counted all that were seen, so it would answer 10 here too.
+pub fn instance_does_not_fit(history: &History, line: &EventLine) -> bool {
+    needs_one_more_entry(history, line) && every_entry_is_needed(history)
+}
+
+/// Whether all 1,024 entries are needed. There are never more of them than
+/// instances were seen, which is quicker to ask.
+pub fn every_entry_is_needed(history: &History) -> bool {
+    history.instances.len() >= MOST_ENTRIES && history.entries() >= MOST_ENTRIES
+}
+
+/// "A line needs one more entry if its instance has none, its word is not
+/// mtalimitexceeded, and: its entity has no first activating number, or the
+/// instance is below it, or the line is the next activation."
+pub fn needs_one_more_entry(history: &History, line: &EventLine) -> bool {
+    if !has_instance(line) || history.has_entry(line) || line.event == "mtalimitexceeded" {
+        return false;
+    }
+    match history.first_activation(line) {
+        None => true,
+        Some(first) => line.target_instance < first || is_the_next_activation(history, line),
+    }
+}
+
+fn is_the_next_activation(history: &History, line: &EventLine) -> bool {
+    is_in_series(line) && !instance_number_is_not_the_next(history, line)
 }
 
 /// Answer 11: "chart step not allowed". An instance that was never activated
-/// has no state that a first event could be taken from.
+/// has no state that a first event could be taken from; one that has ended is
+/// still TERMINATED after its room was given back.
 pub fn chart_step_is_not_allowed(history: &History, line: &EventLine) -> bool {
     let step_is_missing = is_chart_event(line.target_type, line.event)
         && next_state(line.target_type, history.state_of(line), line.event).is_none();

@@ -1,7 +1,7 @@
 //! The fixed sample: the cases of the documents, and some made traces for each
 //! number, all from one seed. It is the same whenever it is written.
 
-use crate::cases::all_cases;
+use crate::cases::sample_cases;
 use crate::container::LabelledTrace;
 use crate::making::make_trace;
 use crate::printing::{number_of, run_on};
@@ -20,7 +20,7 @@ const LEAST_MADE: usize = 2;
 const LONGEST: usize = 4_000;
 
 pub fn fixed_sample() -> Vec<LabelledTrace> {
-    let cases = all_cases().into_iter();
+    let cases = sample_cases().into_iter();
     let mut sample: Vec<LabelledTrace> =
         cases.map(|case| LabelledTrace { label: case.label, bytes: case.trace }).collect();
     for number in 0..=14 {

@@ -13,9 +13,9 @@ use std::process::{Child, Command, ExitCode, Output, Stdio};
 use second_reader::making::make_trace;
 use second_reader::making::random::Random;
 use second_reader::printing::{number_of, run_on, Run};
-use second_reader::ways::{ways_of, WAYS};
+use second_reader::ways::{all_ways, least_of, ways_of};
 
-/// Each number and each way comes once in 67 traces: 300 times in 20,000.
+/// Each number comes once in 67 traces: 300 times in 20,000.
 const SHARE: u64 = 67;
 
 struct Task {
@@ -31,7 +31,7 @@ struct Findings {
     /// How often the second reader answered each number.
     numbers: [u64; 15],
     /// How many traces went each way.
-    ways: [u64; WAYS.len()],
+    ways: Vec<u64>,
     disagreements: u64,
 }
 
@@ -64,7 +64,7 @@ fn read_task(arguments: &[String]) -> Result<Task, String> {
 
 fn compare(task: &Task) -> Result<Findings, String> {
     fs::create_dir_all(&task.folder).map_err(|error| format!("{}: {error}", task.folder.display()))?;
-    let mut findings = Findings::default();
+    let mut findings = Findings { ways: vec![0; all_ways().len()], ..Findings::default() };
     for index in 0..task.count {
         let trace = make_trace(task.seed, index).bytes;
         let wanted = run_on(&trace);
@@ -167,11 +167,13 @@ fn shown(path: &Path) -> String {
 /// Prints the figures; true if the two agree and each number and each way came
 /// often enough.
 fn report(findings: &Findings, task: &Task) -> bool {
-    let least = task.count / SHARE;
     let mut often_enough = true;
-    let numbers = findings.numbers.iter().enumerate().map(|(number, count)| (format!("number {number:2}"), count));
-    let ways = WAYS.iter().zip(&findings.ways).map(|(way, count)| (way.to_string(), count));
-    for (what, &count) in numbers.chain(ways) {
+    let numbers = findings.numbers.iter().enumerate().map(|(number, count)| {
+        (format!("number {number:2}"), count, task.count / SHARE)
+    });
+    let ways = all_ways().into_iter().zip(&findings.ways);
+    let ways = ways.map(|(way, count)| (way.to_string(), count, least_of(way, task.count)));
+    for (what, &count, least) in numbers.chain(ways) {
         let rare = count < least;
         often_enough &= !rare;
         println!("{what}: {count:6} times{}", if rare { ", too rare" } else { "" });

@@ -1,7 +1,9 @@
 //! Traces whose answers the documents give. The expected text is written from
 //! the documents, never copied from a run.
 
+mod full_table;
 mod listings;
+mod long_runs;
 mod old_instances;
 mod readings;
 mod requests;
@@ -21,6 +23,14 @@ pub struct Case {
 /// Every case: the examples of document 01, the listings of document 000, the
 /// settled readings, and the requests of document 02 that have landed.
 pub fn all_cases() -> Vec<Case> {
+    let mut cases = sample_cases();
+    cases.extend(long_runs::longer_cases());
+    cases.extend(full_table::cases());
+    cases
+}
+
+/// Those that the sample has: all but many long ones.
+pub fn sample_cases() -> Vec<Case> {
     let mut cases = scope::cases();
     cases.extend(listings::cases());
     cases.extend(readings::cases());
@@ -36,6 +46,12 @@ fn after_prelude(lines: &[&str]) -> Vec<u8> {
         trace.push(b'\n');
     }
     trace
+}
+
+/// So many started instances of runnable r, from 0 on. They all live, so that
+/// each needs an entry, and the next one is `count`.
+fn living(count: usize) -> Vec<String> {
+    (0..count).map(|k| format!("0,P,0,R,r,{k},start")).collect()
 }
 
 fn refused(label: &str, trace: impl Into<Vec<u8>>, number: u8, line: u64) -> Case {

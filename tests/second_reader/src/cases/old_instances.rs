@@ -1,7 +1,7 @@
 //! Document 02, No. 5: instances that were activated before the trace began,
 //! and instances that can't have been.
 
-use super::{accepted, after_prelude, refused, Case, EMPTY_SHEET};
+use super::{accepted, after_prelude, living, refused, Case, EMPTY_SHEET};
 
 const TASK: [&str; 3] = ["cores 0", "processes 1", "A 0"];
 const TASK_ON_A_CORE: [&str; 4] = ["cores 1", "C 0 0 0", "processes 1", "A 0"];
@@ -201,21 +201,22 @@ fn what_is_seen() -> Vec<Case> {
     ]
 }
 
-/// "The lowest number that applies wins", and "With 1,024 instances, 10 comes
-/// before the new 11".
+/// "The lowest number that applies wins". Where 1,024 instances need an entry, an
+/// impossible one is still 11, since No. 7 asks no room for it; 10 comes before
+/// 12 where the line would need room.
 fn order_of_answers() -> Vec<Case> {
     let four = "0,S,0,T,A,4,activate";
     vec![
         last_refused("request-5-11-before-13", &[four, "0,C,0,T,B,0,start", "0,C,0,T,A,9,resume"], 11),
         last_refused("request-5-9-before-11", &[four, "0,A,0,T,A,9,resume"], 9),
         last_refused("request-5-8-before-11", &["7,S,0,T,A,4,activate", "6,C,0,T,A,9,resume"], 8),
-        after_1023_instances("request-5-10-before-11", &[four, "0,C,0,T,A,9,resume"], 10),
+        after_1023_instances("request-5-11-at-a-full-table", &[four, "0,C,0,T,A,9,resume"], 11),
         after_1023_instances("request-5-10-before-12", &["0,C,0,T,A,4,release", "0,S,0,T,A,3,activate"], 10),
     ]
 }
 
 fn after_1023_instances(label: &str, lines: &[&str], number: u8) -> Case {
-    let starts: Vec<String> = (0..1023).map(|k| format!("0,P,0,R,r,{k},start")).collect();
-    let all: Vec<&str> = starts.iter().map(String::as_str).chain(lines.iter().copied()).collect();
+    let others = living(1023);
+    let all: Vec<&str> = others.iter().map(String::as_str).chain(lines.iter().copied()).collect();
     last_refused(label, &all, number)
 }

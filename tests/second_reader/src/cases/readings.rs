@@ -1,7 +1,7 @@
 //! The doubtful points of document 01, as they were settled: every row of the
-//! table of readings but the one that fell with a request of document 02.
+//! table of readings but what fell with the requests of document 02.
 
-use super::{accepted, after_prelude, refused, Case, EMPTY_SHEET, PRELUDE};
+use super::{accepted, after_prelude, living, refused, Case, EMPTY_SHEET, PRELUDE};
 
 pub fn cases() -> Vec<Case> {
     let mut cases = line_ends();
@@ -153,11 +153,6 @@ fn core_lines(count: usize) -> Vec<String> {
     (0..count).map(|k| format!("0,c{k},0,T,A,{k},start")).collect()
 }
 
-/// So many instances of task A, none of which was ever activated.
-fn instance_lines(count: usize) -> Vec<String> {
-    (0..count).map(|k| format!("0,S,0,T,A,{k},mtalimitexceeded")).collect()
-}
-
 fn with_last(mut lines: Vec<String>, last: &str) -> Vec<u8> {
     lines.push(last.to_string());
     after_prelude(&lines.iter().map(String::as_str).collect::<Vec<_>>())
@@ -173,7 +168,7 @@ fn full_tables() -> Vec<Case> {
         refused("reading-255-names-and-one-twice", with_last(semaphore_lines(255), "0,C,0,T,C,0,start"), 9, 258),
         refused("reading-64-cores-and-a-task", with_last(core_lines(64), "0,A,0,T,B,0,start"), 9, 67),
         refused("reading-65-cores", with_last(core_lines(64), "0,c64,0,T,B,0,start"), 10, 67),
-        refused("reading-1024-instances-and-one", with_last(instance_lines(1024), "0,S,0,R,r,0,start"), 10, 1027),
+        refused("reading-1024-instances-and-one", with_last(living(1024), "0,S,0,R,q,0,start"), 10, 1027),
         accepted("reading-release-by-a-65th-core", with_last(core_lines(64), "0,c64,0,T,B,0,release"), 0, &sheet),
     ]
 }

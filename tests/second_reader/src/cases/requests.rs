@@ -1,10 +1,11 @@
 //! Document 02: the requests that have landed, and what was settled about them.
 
-use super::{accepted, after_prelude, old_instances, refused, Case, EMPTY_SHEET};
+use super::{accepted, after_prelude, long_runs, old_instances, refused, Case, EMPTY_SHEET};
 
 pub fn cases() -> Vec<Case> {
     let mut cases = third_waiter();
     cases.extend(old_instances::cases());
+    cases.extend(long_runs::cases());
     cases
 }
 

@@ -3,7 +3,7 @@
 
 use super::draft::EventText;
 use super::entity::Entity;
-use super::old_instances;
+use super::{long_runs, old_instances};
 use super::random::Random;
 use super::steps::{
     all_process_steps, all_runnable_steps, all_semaphore_steps, count_is_right, needs_own_core,
@@ -89,10 +89,12 @@ fn line_of_other_kind(random: &mut Random, time: u64, name: &str, kind: &str) ->
 }
 
 /// Aim 11: a step that the chart doesn't have from the known state, or a first
-/// event of an instance that was never activated.
+/// event of an instance that was never activated; also after many have ended.
 pub fn wrong_step(random: &mut Random) -> Vec<u8> {
-    if random.chance(45) {
-        return old_instances::never_activated(random);
+    match random.below(100) {
+        0..=44 => return old_instances::never_activated(random),
+        45..=59 => return long_runs::absent_after_a_short_run(random, 11),
+        _ => {}
     }
     let mut story = Story::some_events(random);
     let line = match random.below(4) {
@@ -158,10 +160,12 @@ fn wrong_semaphore_step(random: &mut Random, world: &World) -> EventText {
 }
 
 /// Aim 12: an instance number that isn't the next one of its series, or that
-/// begins the series too low.
+/// begins the series too low; also the number of one that has ended.
 pub fn wrong_number(random: &mut Random) -> Vec<u8> {
-    if random.chance(45) {
-        return old_instances::low_activation(random);
+    match random.below(100) {
+        0..=44 => return old_instances::low_activation(random),
+        45..=59 => return long_runs::absent_after_a_short_run(random, 12),
+        _ => {}
     }
     let mut story = Story::some_events(random);
     let runnables = random.chance(35);

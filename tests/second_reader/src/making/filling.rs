@@ -158,11 +158,12 @@ impl Filling {
         self.core_names.push(core);
     }
 
-    /// A name with up to `most` instances, numbered on, as far as they fit.
+    /// A name with up to `most` instances, numbered on, as far as they fit. All
+    /// of them live.
     pub fn add_series(&mut self, random: &mut Random, most: usize) {
         let name = self.new_name(random);
         self.names += 1;
-        let what = *random.pick(&[&("R", "start"), &("T", "activate"), &("T", "mtalimitexceeded"), &("I", "activate")]);
+        let what = *random.pick(&[&("R", "start"), &("T", "activate"), &("I", "activate")]);
         let first = *random.pick(&[&1000u32, &4_294_966_272]);
         for number in first..=first + 1023 {
             if self.instances == INSTANCES || (number - first) as usize == most {
@@ -172,7 +173,8 @@ impl Filling {
             self.pass_time(random);
             self.add(&EventText::new(self.time, ("S", 0), what, (&name, number)));
             if what.0 == "R" {
-                self.follow_ups.push(EventText::new(0, ("P", 0), ("R", "terminate"), (&name, number)));
+                // Not its end, which would give its room back.
+                self.follow_ups.push(EventText::new(0, ("P", 0), ("R", "suspend"), (&name, number)));
             }
         }
     }

@@ -176,14 +176,16 @@ fn new_core_and_process(random: &mut Random, filling: &mut Filling) -> EventText
     EventText::new(filling.time, (&core, 0), what, (&process, 0))
 }
 
-/// A new instance of a known or new process or runnable. It may never have been
-/// activated, its number may be out of series, or its core held.
+/// A new instance of a known or new process or runnable. Its number may be out
+/// of series, or its core held. One that can't be old needs no room, so that it
+/// isn't drawn here.
 fn one_instance_too_many(random: &mut Random, filling: &mut Filling) -> EventText {
     let time = filling.time;
     let core = filling.any_core(random).unwrap_or_else(|| "C".to_string());
     if let Some((name, type_word)) = filling.any_process(random).filter(|_| random.chance(60)) {
-        let event = random.pick(&["release", "activate", "start", "preempt", "run"]);
-        let number = *random.pick(&[&77, &(ACTIVATED + 1)]);
+        let next = ("activate", ACTIVATED + 1);
+        let lines = [&("release", 77), &("start", 77), &("preempt", 77), &("run", 77), &("activate", 77), &next];
+        let (event, number) = *random.pick(&lines);
         return EventText::new(time, (&core, 0), (type_word, event), (&name, number));
     }
     let name = filling.new_name(random);

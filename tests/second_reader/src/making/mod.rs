@@ -11,11 +11,15 @@ mod draft;
 mod entity;
 mod filling;
 mod full_tables;
+mod last_lines;
+mod long_runs;
 mod names;
 mod old_instances;
 mod prelude;
 mod queues;
 pub mod random;
+mod run;
+mod runner;
 mod steps;
 mod story;
 mod wild;
@@ -46,7 +50,7 @@ impl Made {
 
 /// The kinds of traces take turns instead of being drawn, so that each number
 /// comes often in a short run too.
-const TURNS: u64 = 25;
+const TURNS: u64 = 29;
 
 pub fn make_trace(seed: u64, index: u64) -> Made {
     let random = &mut Random::new(seed, index);
@@ -58,7 +62,8 @@ pub fn make_trace(seed: u64, index: u64) -> Made {
         20 => at_limits::make(random),
         21 => full_tables::make(random),
         22 => boundaries::make(random),
-        23 => wild::make_mixed(random),
+        23..=26 => long_runs::make(random),
+        27 => wild::make_mixed(random),
         _ => wild::make_blind(random),
     }
 }
