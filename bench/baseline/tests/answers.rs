@@ -1,33 +1,9 @@
 //! The fast reader's answers to the examples of document 01, to the readings that
 //! were settled, and to document 02's requests that have landed.
 
-use baseline::reading::read_trace;
+mod shared;
 
-const PRELUDE: &str = "#version 2.2.0\n#timeScale ns\n";
-
-fn answer(trace: &[u8]) -> String {
-    let answer = read_trace(trace).expect("bytes in memory can be read");
-    String::from_utf8(answer.text).expect("names are ASCII")
-}
-
-/// The number and the line of the verdict on lines behind the prelude.
-fn verdict(lines: &str) -> (u64, u64) {
-    verdict_on(&format!("{PRELUDE}{lines}"))
-}
-
-/// The verdict if the number is given to the last of the lines.
-fn on_the_last(lines: &str, number: u64) -> (u64, u64) {
-    match number {
-        0 => (0, 0),
-        _ => (number, 3 + lines.matches('\n').count() as u64),
-    }
-}
-
-fn verdict_on(trace: &str) -> (u64, u64) {
-    let text = answer(trace.as_bytes());
-    let words: Vec<&str> = text.split_whitespace().collect();
-    (words[1].parse().expect("a number"), words[3].parse().expect("a line"))
-}
+use shared::{answer, on_the_last, verdict, verdict_on, PRELUDE};
 
 #[test]
 fn the_listing_of_document_01_is_charged_as_shown() {
@@ -188,11 +164,6 @@ fn sizes_at_their_limits() {
     let names = |count: usize| (0..count).map(|n| format!("0,S,0,R,n{n},0,start\n")).collect::<String>();
     assert_eq!(verdict(&names(256)), (0, 0));
     assert_eq!(verdict(&names(257)), (10, 259));
-    let instances = |count: usize| (0..count).map(|n| format!("0,S,0,R,r,{n},start\n")).collect::<String>();
-    assert_eq!(verdict(&instances(1024)), (0, 0));
-    assert_eq!(verdict(&instances(1025)), (10, 1027));
-    let never_started = instances(1023) + "0,S,0,T,A,4,activate\n0,S,0,R,r,1023,resume\n";
-    assert_eq!(verdict(&never_started), (10, 1027));
     let cores = |count: usize| (0..count).map(|n| format!("0,C{n},0,T,A,{n},start\n")).collect::<String>();
     assert_eq!(verdict(&cores(64)), (0, 0));
     assert_eq!(verdict(&cores(65)), (10, 67));

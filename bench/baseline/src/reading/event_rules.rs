@@ -1,6 +1,6 @@
 //! The events of each type, and for each one all that document 01 demands of
 //! its lines, with document 02's requests (No. 1: overfull). What depends on the
-//! lines before is in `history.rs`, No. 5 with it.
+//! lines before is in `history.rs`, No. 5 and No. 7 with it.
 
 /// The five kinds of tracked names.
 #[derive(Clone, Copy, Debug, PartialEq, Eq)]
@@ -39,6 +39,9 @@ pub enum Note {
 /// yet is all of them.
 pub type States = u8;
 pub const ANY: States = 255;
+
+/// The state of processes and runnables that may need no entry.
+pub const TERMINATED: States = 1;
 
 #[derive(Clone, Copy, Debug)]
 pub struct Rule {
@@ -94,7 +97,6 @@ pub fn all() -> Vec<Row> {
 }
 
 fn processes(of: &'static str, kind: Kind) -> Vec<Row> {
-    const TERMINATED: States = 1;
     const ACTIVE: States = 2;
     const RUNNING: States = 4;
     const READY: States = 8;
@@ -126,7 +128,6 @@ fn processes(of: &'static str, kind: Kind) -> Vec<Row> {
 }
 
 fn runnables() -> Vec<Row> {
-    const TERMINATED: States = 1;
     const RUNNING: States = 2;
     const SUSPENDED: States = 4;
     let step = |leaves, enters| Rule { target: Some(Kind::Runnable), leaves, enters, ..PLAIN };

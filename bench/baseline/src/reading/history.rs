@@ -1,8 +1,8 @@
 //! What the lines so far have told, and the refusals 8 to 14.
 
 use super::event_line::Event;
-use super::event_rules::{CoreUse, Kind, ANY};
-use super::instances::{Instances, MOST_INSTANCES};
+use super::event_rules::{CoreUse, Kind, TERMINATED};
+use super::instances::{key_of, name_of, Instances, Key};
 use super::names::{Names, IDLE, MOST_CORES, MOST_NAMES, NONE_YET};
 use super::refusal::Refusal;
 
@@ -14,12 +14,12 @@ pub struct History {
     pub instances: Instances,
 }
 
-/// The core, the target and the row of the instance that a line is about; none
-/// where they are new.
+/// The core, the target and the entry of the instance that a line is about; none
+/// where they are new, and no entry either where it was given back.
 struct Known {
     core: Option<usize>,
     target: Option<usize>,
-    row: Option<usize>,
+    entry: Option<usize>,
 }
 
 impl History {
@@ -49,8 +49,8 @@ impl History {
     #[inline(always)]
     fn take_instance(&mut self, bytes: &[u8], event: &Event, kind: Kind) -> Result<(), Refusal> {
         self.check_kinds(bytes, event, kind)?;
-        let row = event.target_name.and_then(|name| self.instances.find(name, event.instance));
-        let known = Known { core: event.core_name, target: event.target_name, row };
+        let entry = event.target_name.and_then(|name| self.instances.find(key_of(name, event.instance)));
+        let known = Known { core: event.core_name, target: event.target_name, entry };
         self.check_room(event, &known)?;
         self.check_step(event, &known)?;
         self.check_series(event)?;
@@ -80,7 +80,7 @@ impl History {
         let adds = usize::from(adds_core) + usize::from(known.target.is_none());
         let full = self.names.list.len() + adds > MOST_NAMES
             || (adds_core && self.names.core_count == MOST_CORES)
-            || (known.row.is_none() && self.instances.rows.len() == MOST_INSTANCES);
+            || (self.instances.are_full() && self.needs_entry(event, known));
         if full {
             Err(Refusal::Room)
         } else {
@@ -88,13 +88,28 @@ impl History {
         }
     }
 
+    /// Whether the line needs one entry more (02, No. 7). An instance without one
+    /// that is no older than the first activation has ended or never begun, and
+    /// only the next activation begins it; one beyond the limit begins nothing.
+    #[cold]
+    fn needs_entry(&self, event: &Event, known: &Known) -> bool {
+        let begins_nothing = event.rule.series && event.rule.enters == TERMINATED;
+        if known.entry.is_some() || begins_nothing {
+            return false;
+        }
+        known.target.is_none_or(|name| {
+            let name = &self.names.list[name];
+            event.instance < name.first || (event.rule.series && name.is_next(event.instance))
+        })
+    }
+
     /// 11: a step that the chart doesn't have. The first event of an instance may
     /// be any step, unless the instance would have to have been activated: it is
     /// no older than the first that was (02, No. 5).
     #[inline(always)]
     fn check_step(&self, event: &Event, known: &Known) -> Result<(), Refusal> {
-        let allowed = match (known.row, known.target) {
-            (Some(row), _) => self.instances.rows[row].states & event.rule.leaves != 0,
+        let allowed = match (known.entry, known.target) {
+            (Some(entry), _) => self.instances.states(entry) & event.rule.leaves != 0,
             (None, Some(name)) => event.rule.series || event.instance < self.names.list[name].first,
             (None, None) => true,
         };
@@ -105,22 +120,12 @@ impl History {
         }
     }
 
-    /// 12: not the next number of its series, or one that begins the series no
-    /// higher than all that were seen (02, No. 5).
+    /// 12: not the next number of its series.
     #[inline(always)]
     fn check_series(&self, event: &Event) -> Result<(), Refusal> {
-        let (true, Some(name)) = (event.rule.series, event.target_name) else {
-            return Ok(());
-        };
-        let name = &self.names.list[name];
-        let right = match name.last {
-            NONE_YET => event.instance >= name.above_seen,
-            last => event.instance == last + 1,
-        };
-        if right {
-            Ok(())
-        } else {
-            Err(Refusal::Series)
+        match event.target_name {
+            Some(name) if event.rule.series && !self.names.list[name].is_next(event.instance) => Err(Refusal::Series),
+            _ => Ok(()),
         }
     }
 
@@ -130,8 +135,10 @@ impl History {
         let kept = match (event.rule.core, known.core) {
             (CoreUse::None, _) | (CoreUse::Takes, None) => true,
             (CoreUse::Takes, Some(core)) => self.names.list[core].holder == IDLE,
-            (_, None) => known.row.is_none(),
-            (_, Some(core)) => known.row.is_some_and(|row| self.names.list[core].holder == row as u32),
+            (_, None) => known.entry.is_none(),
+            (_, Some(core)) => {
+                known.target.is_some_and(|name| self.names.list[core].holder == key_of(name, event.instance))
+            }
         };
         if kept {
             Ok(())
@@ -143,25 +150,36 @@ impl History {
     #[inline(always)]
     fn store(&mut self, bytes: &[u8], event: &Event, kind: Kind, known: &Known) {
         let target = known.target.unwrap_or_else(|| self.names.add(bytes, event.target, kind));
-        let row = known.row.unwrap_or_else(|| self.add_instance(target, event.instance));
-        self.instances.rows[row].states = event.rule.enters;
+        let key = key_of(target, event.instance);
+        if event.uses_core() {
+            let core = known.core.unwrap_or_else(|| self.add_core(bytes, event));
+            self.settle(core, event.time);
+            self.names.list[core].holder = if event.rule.core == CoreUse::Leaves { IDLE } else { key };
+        }
         if event.rule.series {
             let name = &mut self.names.list[target];
             name.first = name.first.min(event.instance);
             name.last = event.instance;
         }
-        if event.uses_core() {
-            let core = known.core.unwrap_or_else(|| self.add_core(bytes, event));
-            self.settle(core, event.time);
-            self.names.list[core].holder = if event.rule.core == CoreUse::Leaves { IDLE } else { row as u32 };
-        }
+        self.store_entry(event, key, known.entry);
     }
 
-    #[cold]
-    fn add_instance(&mut self, name: usize, number: u64) -> usize {
-        let above_seen = &mut self.names.list[name].above_seen;
-        *above_seen = (number + 1).max(*above_seen);
-        self.instances.add(name, number, ANY)
+    /// An instance that has ended needs its entry only if it is older than the
+    /// first activation, or there is none yet (02, No. 7).
+    #[inline(always)]
+    fn store_entry(&mut self, event: &Event, key: Key, entry: Option<usize>) {
+        let name = &mut self.names.list[name_of(key)];
+        let states = event.rule.enters;
+        let needed = states != TERMINATED || event.instance < name.first;
+        match entry {
+            Some(entry) if needed => self.instances.change(entry, states),
+            Some(entry) => self.instances.remove(entry),
+            None if needed => {
+                name.above_seen = name.above_seen.max(event.instance + 1);
+                self.instances.add(key, states);
+            }
+            None => {}
+        }
     }
 
     /// A core is unknown up to the line that tracks it.
@@ -183,9 +201,9 @@ impl History {
         names[core].since = now;
         match names[core].holder {
             IDLE => names[core].idle += ticks,
-            row => {
+            holder => {
                 names[core].held += ticks;
-                names[self.instances.rows[row as usize].name()].held += ticks;
+                names[name_of(holder)].held += ticks;
             }
         }
     }

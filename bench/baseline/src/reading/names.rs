@@ -2,6 +2,7 @@
 
 use super::bytes::{first_bytes, word_at, Part};
 use super::event_rules::{Kind, States, ANY};
+use super::instances::Key;
 
 pub const MOST_NAMES: usize = 256;
 pub const MOST_CORES: usize = 64;
@@ -10,7 +11,7 @@ const PLACES: usize = 1024;
 const FREE: u16 = u16::MAX;
 
 /// No instance holds the core.
-pub const IDLE: u32 = u32::MAX;
+pub const IDLE: Key = Key::MAX;
 
 /// No line of the series or the count was seen.
 pub const NONE_YET: u64 = u64::MAX;
@@ -23,14 +24,14 @@ pub struct Name {
     /// A process or runnable: the last number of its series. A semaphore: its
     /// last count.
     pub last: u64,
-    /// A process or runnable: the first number of its series, and the number
-    /// above all that were seen of it.
+    /// A process or runnable: the first number of its series; and while it has
+    /// none, the number above all that were seen of it.
     pub first: u64,
     pub above_seen: u64,
     /// A semaphore's state.
     pub states: States,
     /// A core's: the instance that holds it, and since when that is so.
-    pub holder: u32,
+    pub holder: Key,
     pub since: u64,
     /// A core's ticks up to `since`; a process's charge is in `held`.
     pub held: u64,
@@ -41,6 +42,16 @@ pub struct Name {
 impl Name {
     pub fn text(&self) -> Vec<u8> {
         self.bytes[..self.len].to_vec()
+    }
+
+    /// Whether a number is the next of the series. One that begins it is above
+    /// all that were seen (02, No. 5).
+    #[inline(always)]
+    pub fn is_next(&self, number: u64) -> bool {
+        match self.last {
+            NONE_YET => number >= self.above_seen,
+            last => number == last + 1,
+        }
     }
 
     #[inline(always)]
