@@ -2,11 +2,11 @@
 
 use std::io::{self, Read};
 
-use baseline::making::{make_trace, Naming, Plan};
+use baseline::making::{make_trace, Naming, Plan, Size};
 use baseline::reading::read_trace;
 
 fn made(cores: usize, tasks: usize, runnables: usize, bytes: u64, seed: u64) -> Vec<u8> {
-    by_plan(&Plan { cores, tasks, runnables, bytes, seed, naming: Naming::BeginAlike })
+    by_plan(&Plan { cores, tasks, runnables, size: Size::Bytes(bytes), seed, naming: Naming::BeginAlike })
 }
 
 fn by_plan(plan: &Plan) -> Vec<u8> {
@@ -55,7 +55,7 @@ fn made_traces_of_all_sizes_are_accepted() {
 #[test]
 fn names_that_end_alike_are_all_that_is_different() {
     let sheet = |naming| {
-        let plan = Plan { cores: 4, tasks: 40, runnables: 200, bytes: 400_000, seed: 1, naming };
+        let plan = Plan { cores: 4, tasks: 40, runnables: 200, size: Size::Bytes(400_000), seed: 1, naming };
         answer(by_plan(&plan).as_slice())
     };
     let end_alike = sheet(Naming::EndAlike);
@@ -80,6 +80,33 @@ fn a_trace_has_about_the_size_that_was_asked_for() {
     for bytes in [5_000, 100_000, 1_000_000] {
         let len = made(4, 8, 8, bytes, 1).len() as u64;
         assert!((bytes..bytes + 5_000).contains(&len), "{len} of {bytes}");
+    }
+}
+
+#[test]
+fn a_trace_has_as_many_lines_as_were_asked_for() {
+    // in the header, in the first activations, and where lines have been written before
+    for lines in [5, 6, 7, 50, 5_000, 5_001, 5_002, 5_003, 20_000] {
+        let size = Size::Lines(lines);
+        let trace = by_plan(&Plan { cores: 4, tasks: 40, runnables: 200, size, seed: 1, naming: Naming::BeginAlike });
+        assert_eq!(trace.iter().filter(|&&byte| byte == b'\n').count() as u64, lines);
+        assert_eq!(trace.last(), Some(&b'\n'));
+        let text = answer(trace.as_slice());
+        assert!(text.starts_with("verdict 0 "), "{lines} lines: {text}");
+    }
+}
+
+/// What No. 7 of document 02 is for: each tenth of the trace has its share.
+#[test]
+fn processes_and_runnables_begin_and_end_throughout() {
+    let trace = String::from_utf8(made(4, 40, 200, 20_000_000, 1)).expect("made of ASCII");
+    let lines: Vec<&str> = trace.lines().collect();
+    for tenth in lines.chunks_exact(lines.len() / 10) {
+        let share = |end: &str| tenth.iter().filter(|line| line.ends_with(end)).count() as f64 / tenth.len() as f64;
+        assert!(share(",activate") > 0.02, "{}", share(",activate"));
+        assert!(share(",mtalimitexceeded") > 0.001, "{}", share(",mtalimitexceeded"));
+        assert!(share(",start") > 0.15, "{}", share(",start"));
+        assert!((share(",start") - share(",terminate")).abs() < 0.01);
     }
 }
 

@@ -1,13 +1,15 @@
-//! `make_trace [--end-alike] CORES TASKS RUNNABLES BYTES [SEED]`: writes a valid
-//! trace of about so many bytes to standard output. Its names begin alike, or end
-//! alike.
+//! `make_trace [--end-alike] [--lines] CORES TASKS RUNNABLES SIZE [SEED]`: writes
+//! a valid trace of about so many bytes, or of so many lines, to standard output.
+//! Its names begin alike, or end alike.
 
 #![forbid(unsafe_code)]
 
 use std::io;
 use std::process::ExitCode;
 
-use baseline::making::{make_trace, Naming, Plan};
+use baseline::making::{make_trace, Naming, Plan, Size};
+
+const USAGE: &str = "arguments: [--end-alike] [--lines] CORES TASKS RUNNABLES SIZE [SEED]";
 
 fn main() -> ExitCode {
     let arguments: Vec<String> = std::env::args().skip(1).collect();
@@ -23,29 +25,31 @@ fn main() -> ExitCode {
 }
 
 fn plan(arguments: &[String]) -> Result<Plan, String> {
-    let (naming, numbers) = match arguments {
-        [option, numbers @ ..] if option == "--end-alike" => (Naming::EndAlike, numbers),
-        numbers => (Naming::BeginAlike, numbers),
-    };
+    let (options, numbers) = arguments.split_at(arguments.iter().take_while(|word| word.starts_with("--")).count());
     let (sizes, seed) = match numbers {
         [sizes @ .., seed] if numbers.len() == 5 => (sizes, number(seed)?),
         sizes => (sizes, 1),
     };
-    let [cores, tasks, runnables, bytes] = sizes else {
-        return Err("arguments: [--end-alike] CORES TASKS RUNNABLES BYTES [SEED]".to_string());
+    let [cores, tasks, runnables, size] = sizes else {
+        return Err(USAGE.to_string());
     };
-    let plan = Plan {
-        cores: number(cores)?,
-        tasks: number(tasks)?,
-        runnables: number(runnables)?,
-        bytes: number(bytes)?,
-        seed,
-        naming,
-    };
+    let size = Size::Bytes(number(size)?);
+    let (cores, tasks, runnables) = (number(cores)?, number(tasks)?, number(runnables)?);
+    let mut plan = Plan { cores, tasks, runnables, size, seed, naming: Naming::BeginAlike };
+    options.iter().try_for_each(|option| choose(&mut plan, option))?;
     match plan.fault() {
         Some(fault) => Err(fault.to_string()),
         None => Ok(plan),
     }
+}
+
+fn choose(plan: &mut Plan, option: &str) -> Result<(), String> {
+    match (option, plan.size) {
+        ("--end-alike", _) => plan.naming = Naming::EndAlike,
+        ("--lines", Size::Bytes(size)) => plan.size = Size::Lines(size),
+        _ => return Err(USAGE.to_string()),
+    }
+    Ok(())
 }
 
 fn number<N: std::str::FromStr>(text: &str) -> Result<N, String> {

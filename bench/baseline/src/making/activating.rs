@@ -14,18 +14,23 @@ impl World {
         }
     }
 
-    /// Something from outside: an activation while there are any left, else an
-    /// event for a process that waits, or a signal.
+    /// Something from outside: an activation most often, else an event for a
+    /// process that waits, or a signal.
     pub fn stimulate(&mut self) {
         let any = self.random.index(self.processes.len());
-        if self.random.once_in(8) && self.may_exceed_limit(any) {
-            self.exceed_limit(any);
-        } else if let Some(process) = self.random.draw(&mut self.dormant) {
-            self.activate(process);
-        } else if self.random.once_in(2) {
-            self.wake_from_outside();
-        } else {
-            self.write_from_outside();
+        match self.random.below(8) {
+            0 => self.wake_from_outside(),
+            1 => self.write_from_outside(),
+            2 if self.may_exceed_limit(any) => self.exceed_limit(any),
+            _ => self.activate_another(),
+        }
+    }
+
+    /// Activates a process that has ended. Where all live, a signal is written.
+    fn activate_another(&mut self) {
+        match self.random.draw(&mut self.dormant) {
+            Some(process) => self.activate(process),
+            None => self.write_from_outside(),
         }
     }
 
@@ -34,7 +39,6 @@ impl World {
         let target = &mut self.processes[process];
         target.instance = target.next_instance;
         target.next_instance += 1;
-        target.activations_left -= 1;
         target.called = 0;
         target.state = State::Active;
         let number = target.instance;
@@ -48,10 +52,10 @@ impl World {
         self.lines.event(stimulus, "STI", stimulus, "trigger");
     }
 
-    /// Only a task that lives, and one activation is kept for its next life.
+    /// Only a task that lives.
     fn may_exceed_limit(&self, process: usize) -> bool {
         let target = &self.processes[process];
-        target.of == "T" && target.state != State::Terminated && target.activations_left > 1
+        target.of == "T" && target.state != State::Terminated
     }
 
     /// An activation that isn't carried out.
@@ -60,7 +64,6 @@ impl World {
         let target = &mut self.processes[process];
         let number = target.next_instance;
         target.next_instance += 1;
-        target.activations_left -= 1;
         self.lines.event((&target.stimulus, number), "T", (&target.name, number), "mtalimitexceeded");
     }
 

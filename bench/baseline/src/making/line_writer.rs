@@ -8,13 +8,16 @@ pub type Entity<'name> = (&'name str, u64);
 
 pub struct LineWriter {
     text: Vec<u8>,
+    /// How many bytes were cleared, and how many lines there are with them.
+    cleared: u64,
+    lines: u64,
     /// The time of the lines that follow.
     pub now: u64,
 }
 
 impl LineWriter {
     pub fn starting_at(now: u64) -> LineWriter {
-        LineWriter { text: Vec::new(), now }
+        LineWriter { text: Vec::new(), cleared: 0, lines: 0, now }
     }
 
     pub fn text(&self) -> &[u8] {
@@ -22,7 +25,28 @@ impl LineWriter {
     }
 
     pub fn clear(&mut self) {
+        self.cleared += self.text.len() as u64;
         self.text.clear();
+    }
+
+    /// All bytes so far.
+    pub fn bytes(&self) -> u64 {
+        self.cleared + self.text.len() as u64
+    }
+
+    /// All lines so far.
+    pub fn lines(&self) -> u64 {
+        self.lines
+    }
+
+    /// Takes back the last lines, as far as they weren't cleared, so that so many
+    /// are left.
+    pub fn cut_to(&mut self, lines: u64) {
+        while self.lines > lines && self.text.pop().is_some() {
+            let end = self.text.iter().rposition(|&byte| byte == b'\n');
+            self.text.truncate(end.map_or(0, |end| end + 1));
+            self.lines -= 1;
+        }
     }
 
     /// A parameter or a comment.
@@ -40,7 +64,9 @@ impl LineWriter {
         self.put(format_args!("{now},{},{},{of},{},{},{event},{note}\n", source.0, source.1, target.0, target.1));
     }
 
+    /// Adds one line.
     fn put(&mut self, what: Arguments) {
+        self.lines += 1;
         // a list of bytes takes whatever is written to it
         let _ = self.text.write_fmt(what);
     }

@@ -4,30 +4,35 @@
 use super::world::{State, World};
 
 impl World {
-    /// One thing that a running process does.
+    /// One thing that a running process does. It calls runnables most often while
+    /// it has any left, and ends soon when it has none.
     pub fn run_on(&mut self, core: usize, process: usize) {
-        if self.processes[process].called < self.processes[process].runnables.len() {
+        if self.has_calls_left(process) && !self.random.once_in(4) {
             return self.call_next(process);
         }
-        if self.processes[process].uses.is_some() && self.random.once_in(3) {
+        if self.processes[process].uses.is_some() && self.random.once_in(4) {
             return self.use_semaphore(core, process);
         }
         let is_task = self.processes[process].of == "T";
         match self.random.below(100) {
-            0..=31 => self.use_signal(process),
-            32..=55 => self.preempt(core, process),
-            56..=62 if is_task => self.reach_schedule_point(core, process),
-            63..=72 if is_task => self.wait(core, process),
-            73..=82 => self.wake_another(process),
-            83..=94 => self.use_semaphore(core, process),
+            0..=29 => self.use_signal(process),
+            30..=43 => self.preempt(core, process),
+            44..=47 if is_task => self.reach_schedule_point(core, process),
+            48..=54 if is_task => self.wait(core, process),
+            55..=60 => self.wake_another(process),
+            61..=70 => self.use_semaphore(core, process),
             _ => self.end(core, process),
         }
     }
 
-    /// Calls the next runnable of the process, which may be called by the one
-    /// before; else that one ends first.
+    fn has_calls_left(&self, process: usize) -> bool {
+        self.processes[process].called < self.processes[process].runnables.len()
+    }
+
+    /// Calls the next runnable of the process, which now and then is called by the
+    /// one before; else that one ends first.
     fn call_next(&mut self, process: usize) {
-        if self.processes[process].living.len() == self.depth || self.random.once_in(3) {
+        if self.processes[process].living.len() == self.depth || !self.random.once_in(3) {
             if let Some(innermost) = self.processes[process].living.pop() {
                 self.runnable_event(process, innermost, "terminate");
             }
@@ -93,12 +98,14 @@ impl World {
         self.lines.event((&process.name, process.instance), "EVENT", (&process.os_event, 0), event);
     }
 
-    /// Ends an instance that isn't the last one.
+    /// Ends an instance that has called its runnables and uses no semaphore.
     fn end(&mut self, core: usize, process: usize) {
-        if self.processes[process].activations_left > 0 && self.processes[process].uses.is_none() {
-            self.terminate(core, process);
+        if self.has_calls_left(process) {
+            self.call_next(process);
+        } else if self.processes[process].uses.is_some() {
+            self.use_semaphore(core, process);
         } else {
-            self.use_signal(process);
+            self.terminate(core, process);
         }
     }
 }

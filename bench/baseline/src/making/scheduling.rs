@@ -5,11 +5,15 @@ use super::world::{State, World};
 /// Ticks between two steps, at most.
 const STEP: u64 = 8000;
 
+/// Steps for each stimulus, about: processes are activated nearly as often as
+/// they can be carried out, so that cores seldom idle and few processes wait.
+const STIMULI: u64 = 8;
+
 impl World {
     /// One thing that happens, on a core chosen by chance.
     pub fn step(&mut self) {
         self.pass(STEP);
-        if self.random.once_in(24) {
+        if self.random.once_in(STIMULI) {
             self.stimulate();
         }
         let core = self.random.index(self.cores.len());

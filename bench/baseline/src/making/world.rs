@@ -5,11 +5,6 @@ use super::naming::{numbered, Naming};
 use super::plan::Plan;
 use super::random::Random;
 
-/// How often a process is activated in the whole trace. Each of its runnables is
-/// started once in each of its instances, so that there are at most 1,024
-/// instances for 256 names.
-pub const ACTIVATIONS: u32 = 4;
-
 const SIGNALS: usize = 48;
 
 /// The recording starts five seconds after the power was switched on.
@@ -43,7 +38,6 @@ pub struct Process {
     pub instance: u64,
     /// The next number of the series.
     pub next_instance: u64,
-    pub activations_left: u32,
     /// The core that it was on last.
     pub core: usize,
     /// Its runnables, how many of them this instance has called, and those that
@@ -168,7 +162,6 @@ fn new_process(plan: &Plan, number: usize) -> Process {
         state: State::Terminated,
         instance: 0,
         next_instance: 0,
-        activations_left: ACTIVATIONS,
         core: number % plan.cores,
         runnables: (0..plan.runnables).filter(|runnable| runnable % plan.tasks == number).collect(),
         called: 0,
