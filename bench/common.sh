@@ -22,10 +22,14 @@ trap 'exit 129' HUP
 trap 'exit 130' INT
 trap 'exit 143' TERM
 
-# Looks at the numbers $megabytes and $rounds, and makes the folder.
+# NUMBER UNITS: whether it is one that may be asked for.
+look_at() {
+    case $1 in '' | 0* | *[!0-9]*) die "'$1' is no number of $2" ;; esac
+}
+
+# Looks at the number $rounds, and makes the folder.
 start() {
-    case $megabytes in '' | 0* | *[!0-9]*) die "'$megabytes' is no number of megabytes" ;; esac
-    case $rounds in '' | 0* | *[!0-9]*) die "'$rounds' is no number of rounds" ;; esac
+    look_at "$rounds" rounds
     case $(now) in *[!0-9]*) die 'date knows no nanoseconds here' ;; esac
     all_rounds=$(awk -v rounds="$rounds" 'BEGIN { for (i = 1; i <= rounds; i++) print i }')
     mkdir -p "$root/target" || die "cannot make $root/target"
@@ -36,8 +40,48 @@ build_baseline() {
     say 'building'
     cargo build --release --quiet -j1 --manifest-path "$here/baseline/Cargo.toml" --target-dir "$here/baseline/target" ||
         die 'the baseline could not be built'
-    make_trace=$here/baseline/target/release/make_trace
+    make_trace=${MAKE_TRACE:-$here/baseline/target/release/make_trace}
     fast_reader=$here/baseline/target/release/fast_reader
+}
+
+# Builds all, and sets $program: the one that the user gave, or this repository's.
+build() {
+    build_baseline
+    if [ -n "${PROGRAM-}" ]; then
+        program=$PROGRAM
+    else
+        program=$work/pickaxle
+        build_program
+    fi
+    [ -x "$program" ] || die "$program is no program"
+}
+
+build_program() {
+    (cd "$root" && rt check pickaxle) >"$work/log" 2>&1 </dev/null || {
+        tail -n 5 "$work/log" >&2
+        die 'the program was not proved'
+    }
+    (cd "$root" && "$here/native" pickaxle "$program") || die 'the program could not be built for this machine'
+}
+
+# ---- a program that is fed
+
+# PROGRAM: starts it; what is written to 3 from then on is its input, and $work/out has what it prints.
+feed() {
+    mkfifo "$work/pipe" || die 'cannot make a pipe'
+    "$1" <"$work/pipe" >"$work/out" &
+    child=$!
+    exec 3>"$work/pipe"
+}
+
+# The peak memory of the program that is fed, in KiB. Its input is open still, so that it can't have ended, unless it has refused.
+peak() { awk '$1 == "VmHWM:" { print $2 }' "/proc/$child/status" 2>/dev/null; }
+
+end_feed() {
+    exec 3>&-
+    wait "$child"
+    child=''
+    rm "$work/pipe"
 }
 
 # ---- time
