@@ -69,7 +69,7 @@ module _ (h : List Event) (e : Event) where
       by-first none = refl
       by-first (some f) = refl
 
-  -- the state after it, where its word is a step and where it is none
+  -- the state after it, where its word is a step
   entered-state : (r : Step) → stepFor (chartOf (e .kind)) (e .word) ≡ some r → stateOf own (e ∷ h) ≡ some (r .enters)
   entered-state r q = state-own e h ∙ rw q
 

@@ -9,6 +9,10 @@ use lib.ListN.{length}
 use Rattle.text.proofs.Bools.{clash}
 use Rattle.rules.specs.Lists.{any, only, keep, sumOver, oneIf, addUnless, addNew, addAll}
 
+or-false : (a b : Bool) → b ≡ false → a || (b || false) ≡ a
+or-false true b q = refl
+or-false false b q = rw q
+
 module _ {A : Type 0} where
   pub sum-cong : (f g : A → ℕ) (xs : List A) → ((x : A) → f x ≡ g x) → sumOver f xs ≡ sumOver g xs
   sum-cong f g [] q = refl
@@ -59,11 +63,7 @@ module _ {A : Type 0} where
   -- and what is added changes nothing for what it is not
   pub other-one-more : (p : A → Bool) (b : Bool) (xs : List A) (y : A) → p y ≡ false → any p (addUnless b xs y) ≡ any p xs
   other-one-more p true xs y r = refl
-  other-one-more p false xs y r = any-append p xs (y ∷ []) ∙ rw r (last-false (any p xs))
-    where
-      last-false : (b : Bool) → b || false ≡ b
-      last-false true = refl
-      last-false false = refl
+  other-one-more p false xs y r = any-append p xs (y ∷ []) ∙ or-false (any p xs) (p y) r
 
   pub none-one-more : (p : A → Bool) (b : Bool) (xs : List A) (y : A) → any p xs ≡ false → p y ≡ false → any p (addUnless b xs y) ≡ false
   none-one-more p b xs y q r = other-one-more p b xs y r ∙ q
@@ -81,10 +81,6 @@ module _ {A B : Type 0} where
 pub any-less : (a b : Bool) → (a ≡ true → b ≡ true) → b ≡ false → a ≡ false
 any-less true b f q = sym (f refl) ∙ q
 any-less false b f q = refl
-
-or-false : (a b : Bool) → b ≡ false → a || (b || false) ≡ a
-or-false true b q = refl
-or-false false b q = rw q
 
 -- a list of elements whose test for equality is right
 module _ {A : Type 0} (eq : A → A → Bool) (eq-true : (x y : A) → eq x y ≡ true → x ≡ y) (eq-refl : (x : A) → eq x x ≡ true) where

@@ -85,11 +85,11 @@ activation-off-core e t = by-kind (isProcess (e .kind)) refl (eqb (e .kind) runn
 -- ---- an instance that has terminated, at or above the first number: a judge that does not see it answers 11 as one that does, to what is no activation
 
 module _ (k : Known) (e : Event) (i : hasInstances (e .kind) ≡ true) (s : isStep (stepFor (chartOf (e .kind)) (e .word)) ≡ true) where
-  pub seen-ended : k .state ≡ some TERMINATED → notAllowed k e ≡ not (activates (e .kind) (e .word))
+  seen-ended : k .state ≡ some TERMINATED → notAllowed k e ≡ not (activates (e .kind) (e .word))
   unfolding notAllowed offChart neverActivated
   seen-ended q = rw (q, from-terminated (e .kind) (e .word) i s) (or-false (not (activates (e .kind) (e .word))))
 
-  pub unseen-ended : k .state ≡ none → reaches (k .first) (e .targetInstance) ≡ true → notAllowed k e ≡ not (activates (e .kind) (e .word))
+  unseen-ended : k .state ≡ none → reaches (k .first) (e .targetInstance) ≡ true → notAllowed k e ≡ not (activates (e .kind) (e .word))
   unfolding notAllowed offChart neverActivated isStep
   unseen-ended q r = rw (q, i, r) (by-step (stepFor (chartOf (e .kind)) (e .word)) refl s)
     where
