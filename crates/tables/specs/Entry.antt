@@ -46,6 +46,10 @@ instanceRows = instanceLimit
 abbrev pub nameRoom : ℕ
 nameRoom = nameMost
 
+-- "Keep a lent index of 512 places" (02, No. 11)
+abbrev pub placeRows : ℕ
+placeRows = 512
+
 -- ---- nums
 
 -- the remembered verdict, the line level, and how many names, cores and instances there are
@@ -119,6 +123,10 @@ instanceColumn = column (past ownerColumn) instanceRows
 abbrev pub stateColumn : Column
 stateColumn = column (past instanceColumn) instanceRows
 
+-- the index of the names, by place: 0 where it is free, else the row of a name and 1
+abbrev pub placeColumn : Column
+placeColumn = column (past stateColumn) placeRows
+
 -- ---- ticks
 
 -- the first and the last event time
@@ -147,7 +155,7 @@ abbrev pub namesSize : ℕ
 namesSize = nameRoom * nameRows
 
 abbrev pub numsSize : ℕ
-numsSize = past stateColumn
+numsSize = past placeColumn
 
 abbrev pub ticksSize : ℕ
 ticksSize = past sinceColumn
@@ -217,6 +225,11 @@ instanceAt = entryAt instanceColumn
 
 abbrev pub stateAt : List ℕ → ℕ → ℕ
 stateAt = entryAt stateColumn
+
+-- ---- the index in nums, all its places
+
+abbrev pub places : List ℕ → List ℕ
+places nums = take placeRows (drop (placeColumn .base) nums)
 
 -- ---- ticks: the first and the last event time; by name a core's held ticks or a process's charge, idle and unknown ticks, and the time up
 -- to which a core's ticks are counted

@@ -11,6 +11,9 @@ pub const INSTANCE_ROWS: usize = INSTANCE_LIMIT as usize;
 
 pub const NAME_ROOM: usize = NAME_MOST;
 
+// how many places the index of the names has
+pub const PLACE_ROWS: usize = 512;
+
 // single entries of nums
 pub const VERDICT: usize = 0;
 
@@ -57,6 +60,11 @@ pub const INSTANCE: usize = OWNER + INSTANCE_ROWS;
 
 pub const STATE: usize = INSTANCE + INSTANCE_ROWS;
 
+// the index of the names: 0 for a free place, else the row of a name and 1
+pub const PLACE: usize = STATE + INSTANCE_ROWS;
+
+pub const PLACES_END: usize = PLACE + PLACE_ROWS;
+
 // single entries of ticks, and its columns with an entry for each of 256 names
 pub const FIRST: usize = 0;
 
@@ -73,6 +81,6 @@ pub const SINCE: usize = UNKNOWN + NAME_ROWS;
 // the sizes of the three tables
 pub const NAMES_SIZE: usize = NAME_ROOM * NAME_ROWS;
 
-pub const NUMS_SIZE: usize = STATE + INSTANCE_ROWS;
+pub const NUMS_SIZE: usize = PLACES_END;
 
 pub const TICKS_SIZE: usize = SINCE + NAME_ROWS;
