@@ -1,11 +1,10 @@
--- What the look-ups find, for any test: the first number that passes, the last number that passes; and what the tests of a row mean.
+-- What the look-ups find: the last number that passes a test, for any test; each look-up in tables of their sizes; and what the tests of a row mean.
 use mathlib.Core.Path.{_≡_, refl, sym, ap, subst, _∙_}
 use mathlib.Core.Bool.{Bool, true, false, _&&_, _||_, cond, and-false}
 use mathlib.Core.List.{List}
 use mathlib.Core.Logic.{⊎-elim}
 use Prim.Native.Nat.{ℕ, zero, suc, _+_, _-_, _*_, _≤_, _<_}
 use native.Mathlib.Nat.{not-suc-le-zero, le-of-suc-le-suc, eq-or-lt-of-le}
-use native.Mathlib.Numerals.{add-one}
 use native.Mathlib.Omega.{arith}
 use lib.Dec.{eqb, ltb}
 use lib.ListN.{length, take, drop}
@@ -13,17 +12,14 @@ use borrow.Author.Tests.{le-leb, lt-ltb, eq-eqb}
 use Rattle.text.specs.Bytes.{sameBytes}
 use Rattle.text.proofs.Bools.{is-false, or-l, or-r}
 use Rattle.text.proofs.Words.{same-eq, eq-same}
-use Rattle.tables.specs.Entry.{nameRows, instanceRows, nameRoom, namesSize, numsSize, nameCount, lengthAt, nameAt, instanceCount, ownerAt, instanceAt}
+use Rattle.tables.specs.Entry.{nameRows, instanceRows, placeRows, nameRoom, namesSize, numsSize, lengthAt, nameAt, instanceCount, ownerAt, instanceAt, places}
 use Rattle.tables.proofs.Means.{Means, means-le, means-lt, means-eq, means-and}
 use Rattle.tables.proofs.NameBytes.{lent-name, name-size}
+use Rattle.index.specs.Hash.{homeOf}
+use Rattle.index.specs.Index.{entry}
 use Rattle.lookup.specs.declared.find.Found.{Found}
 use Rattle.lookup.specs.declared.find.Found.the-variants.{At, Nothing}
-use Rattle.lookup.specs.Find.{firstFrom, lastBelow, rowIs, findName, instanceIs, findInstance, reachesIn, findFrom}
-
--- what a search says: the number found is the first that passes of n from i on, or none of them passes
-abbrev First : (ℕ → Bool) → ℕ → ℕ → Found → Type 0
-First f i n (At k) = (i ≤ k) × (k < i + n) × (f k ≡ true) × ((m : ℕ) → i ≤ m → m < k → f m ≡ false)
-First f i n Nothing = (m : ℕ) → i ≤ m → m < i + n → f m ≡ false
+use Rattle.lookup.specs.Find.{lastBelow, rowIs, seekFrom, findName, instanceIs, findInstance, reachesIn, findFrom}
 
 -- the number found is the last that passes below n, or none does
 abbrev Last : (ℕ → Bool) → ℕ → Found → Type 0
@@ -32,21 +28,6 @@ Last f n Nothing = (m : ℕ) → m < n → f m ≡ false
 
 module _ (f : ℕ → Bool) where
   -- ---- the steps of a search, as code takes them
-
-  less : (i n : ℕ) → i < n → n - i ≡ suc (n - (i + 1))
-  less i n h = omega arith
-
-  pub first-hit : (i n : ℕ) → i < n → f i ≡ true → firstFrom f i (n - i) ≡ At i
-  unfolding firstFrom
-  first-hit i n h e = rw (less i n h, firstFrom, e)
-
-  pub first-miss : (i n : ℕ) → i < n → f i ≡ false → firstFrom f i (n - i) ≡ firstFrom f (i + 1) (n - (i + 1))
-  unfolding firstFrom
-  first-miss i n h e = rw (less i n h, firstFrom, e) (ap (λ k. firstFrom f k (n - (i + 1))) (sym (add-one i)))
-
-  pub first-end : (i n : ℕ) → n ≤ i → firstFrom f i (n - i) ≡ Nothing
-  unfolding firstFrom
-  first-end i n h = let e : n - i ≡ 0 = omega arith in rw (e, firstFrom)
 
   back : (n : ℕ) → 0 < n → n ≡ suc (n - 1)
   back n h = omega arith
@@ -76,22 +57,6 @@ module _ (f : ℕ → Bool) where
 
   -- ---- what was found
 
-  first-step : (b : Bool) (i n : ℕ) (r : Found) → f i ≡ b → First f (suc i) n r → First f i (suc n) (cond b (At i) r)
-  first-step true i n r e h = (omega arith, omega arith, e, λ m lo hi. absurd (omega arith))
-  first-step false i n (At k) e h = (omega arith, omega arith, h .2, λ m lo hi. ⊎-elim (λ q. rw q at e) (λ l. h .3 m l hi) (eq-or-lt-of-le lo))
-  first-step false i n Nothing e h = λ m lo hi. ⊎-elim (λ q. rw q at e) (λ l. h m l (omega arith)) (eq-or-lt-of-le lo)
-
-  first : (i n : ℕ) → First f i n (firstFrom f i n)
-  unfolding firstFrom
-  first i zero = λ m lo hi. absurd (omega arith)
-  first i (suc n) = first-step (f i) i n (firstFrom f (suc i) n) refl (first (suc i) n)
-
-  pub first-at : (n i : ℕ) → firstFrom f 0 n ≡ At i → (i < n) × (f i ≡ true) × ((k : ℕ) → k < i → f k ≡ false)
-  first-at n i e = let r = subst (First f 0 n) e (first 0 n) in (omega arith, r .2, λ k h. r .3 k (omega arith) h)
-
-  pub first-none : (n : ℕ) → firstFrom f 0 n ≡ Nothing → (k : ℕ) → k < n → f k ≡ false
-  first-none n e k h = subst (First f 0 n) e (first 0 n) k (omega arith) (omega arith)
-
   last-step : (b : Bool) (n : ℕ) (r : Found) → f n ≡ b → Last f n r → Last f (suc n) (cond b (At n) r)
   last-step true n r e h = (omega arith, e, λ m lo hi. absurd (omega arith))
   last-step false n (At k) e h = (omega arith, h .1, λ m lo hi. ⊎-elim (λ q. rw q e) (λ l. h .2 m lo l) (eq-or-lt-of-le (le-of-suc-le-suc hi)))
@@ -110,7 +75,8 @@ module _ (f : ℕ → Bool) where
 
 -- ---- the look-ups, in tables of their sizes
 
-pub name-found : (names nums name : List ℕ) → length names ≡ namesSize → length nums ≡ numsSize → findName names nums name ≡ firstFrom (rowIs names nums name) 0 (nameCount nums)
+pub name-found : (names nums name : List ℕ) → length names ≡ namesSize → length nums ≡ numsSize
+    → findName names nums name ≡ seekFrom (entry (places nums) (homeOf name)) (rowIs names nums name) 0 placeRows
 unfolding findName
 name-found names nums name h k = rw (eq-eqb (length names) namesSize h, eq-eqb (length nums) numsSize k)
 

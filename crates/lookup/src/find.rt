@@ -1,11 +1,13 @@
 // Looking a name or an instance up.
 ghost use mathlib.Core.Path.{_≡_};
 ghost use mathlib.Core.Bool.{false};
-ghost use Prim.Native.Nat.{_+_, _≤_};
+ghost use Prim.Native.Nat.{_+_, _≤_, _<_};
 ghost use lib.ListN.{length};
-ghost use Rattle.tables.specs.Entry.{numsSize, instanceRows};
-ghost use Rattle.lookup.specs.Find.{instanceIs, reachesIn, findName, findInstance, findFrom, lastBelow};
+ghost use Rattle.tables.specs.Entry.{namesSize, numsSize, instanceRows, placeRows};
+ghost use Rattle.index.specs.Index.{entry};
+ghost use Rattle.lookup.specs.Find.{rowIs, seekFrom, instanceIs, reachesIn, findName, findInstance, findFrom, lastBelow};
 use crate::row::row_is;
+use index::hash::home_of;
 use tables::entry::*;
 
 pub enum Found {
@@ -13,7 +15,26 @@ pub enum Found {
     Nothing,
 }
 
-// The first row that holds the name.
+// The row of a name, by the index: from its home on up to a free place, or all around.
+fn seek(names: &[u8], nums: &[u32], index: &[u32], name: &[u8], home: usize) -> Found
+    requires { ⌜ (length (now names) ≡ namesSize) × ((length (now nums) ≡ numsSize) × ((length (now index) ≡ placeRows) × (home < placeRows))) ⌝ }
+    ensures { λ r. ⌜ r ≡ seekFrom (entry (now (index .entry)) home) (rowIs (now (names .entry)) (now (nums .entry)) (now (name .entry))) 0 placeRows ⌝ }
+{
+    let mut d = 0;
+    while d < PLACE_ROWS {
+        let e = index[(home + d) % PLACE_ROWS] as usize;
+        if e == 0 {
+            return Found::Nothing;
+        }
+        if row_is(names, nums, name, e - 1) {
+            return Found::At(e - 1);
+        }
+        d += 1;
+    }
+    Found::Nothing
+}
+
+// The row that holds the name, by the index.
 pub fn find_name(names: &[u8], nums: &[u32], name: &[u8]) -> Found
     ensures { λ r. ⌜ r ≡ findName (now (names .entry)) (now (nums .entry)) (now (name .entry)) ⌝ }
 {
@@ -23,15 +44,7 @@ pub fn find_name(names: &[u8], nums: &[u32], name: &[u8]) -> Found
     if nums.len() != NUMS_SIZE {
         return Found::Nothing;
     }
-    let n = nums[NAMES] as usize;
-    let mut i = 0;
-    while i < n {
-        if row_is(names, nums, name, i) {
-            return Found::At(i);
-        }
-        i += 1;
-    }
-    Found::Nothing
+    seek(names, nums, &nums[PLACE..PLACES_END], name, home_of(name))
 }
 
 // Whether row j is the instance of an owner with a number.

@@ -1,65 +1,48 @@
--- `lookup::find::find_name` meets its contract: in tables of another size nothing is found. The invariant: the first row that holds the name is the
--- first such row from `i` on.
-use mathlib.Core.Path.{_≡_, sym, _∙_}
-use Prim.Native.Nat.{_-_, _≤_}
-use native.Mathlib.Nat.{sub-zero}
+-- `lookup::find::find_name` meets its contract: in tables of another size nothing is found, in others the search from the name's home is the answer.
+use mathlib.Core.Path.{sym, ap, _∙_}
 use native.Mathlib.Omega.{arith}
 use borrow.Author.Needs.{needs}
 use borrow.Author.Tests.{eq-eqb, ne-eqb}
-use Rattle.tables.specs.Entry.{namesIndex}
-use Rattle.lookup.specs.Find.{rowIs, firstFrom, findName}
-use Rattle.lookup.proofs.Found.{first-hit, first-miss, first-end, name-found}
+use Rattle.tables.specs.Entry.{placeRows, places}
+use Rattle.index.specs.Index.{entry}
+use Rattle.index.proofs.Folds.{home-lt}
+use Rattle.index.proofs.Indexes.{places-size}
+use Rattle.lookup.specs.Find.{rowIs, seekFrom, findName}
+use Rattle.lookup.proofs.Found.{name-found}
 use Rattle.lookup.proofs.find.find_name.Statement.{statement}
 use Rattle.lookup.proofs.find.find_name.Tie as tie
 
-abbrev Inv-loop : tie.InvT-loop
-Inv-loop names nums name n i₀ i = (i ≤ n) × (findName names nums name ≡ firstFrom (rowIs names nums name) i (n - i))
-
-abbrev μ-loop : tie.MeasureT-loop
-μ-loop names nums name n i₀ i = n - i
-
-returns : tie.Need-returns Inv-loop μ-loop
+returns : tie.Need-returns
 unfolding findName
 returns c = rw (ne-eqb _ _ (c .if1 .taken))
 
-returns-2 : tie.Need-returns-2 Inv-loop μ-loop
+returns-2 : tie.Need-returns-2
 unfolding findName
 returns-2 c = rw (eq-eqb _ _ (c .before .if1 .left), ne-eqb _ _ (c .if2 .taken))
 
-loop-holds : tie.Need-loop-holds Inv-loop μ-loop
-loop-holds c = (search needs, rw sub-zero (name-found _ _ _ (c .before .before .if1 .left) (c .before .if2 .left)))
+seek-requires : tie.Need-seek-requires
+seek-requires c κs =
+    let sized = c .before .before in
+    let a = sized .before .before .before .before .before .args in
+    (sized .before .if1 .left, (sized .if2 .left, (places-size (a .nums .now) (sized .if2 .left), omega (arith, c .home-of .ensures, home-lt (a .name .now)))))
 
-here : tie.Need-returns-3 Inv-loop μ-loop
-here c =
-    let turn = c .before .before in
-    let l = turn .before .loop in
-    sym (l .inv .1 ∙ first-hit _ (l .i) _ (turn .loop-test .taken) (sym (c .before .row-is .ensures) ∙ c .if3 .taken))
-
-loop-again : tie.Need-loop-again Inv-loop μ-loop
-loop-again c =
-    let turn = c .before .before in
-    let l = turn .before .loop in
-    (search needs, l .inv .1 ∙ first-miss _ (l .i) _ (turn .loop-test .taken) (sym (c .before .row-is .ensures) ∙ c .if3 .left))
-
-none-left : tie.Need-returns-4 Inv-loop μ-loop
-none-left c =
-    let l = c .before .loop in
-    sym (l .inv .1 ∙ first-end _ (l .i) _ (c .loop-test .left))
+returns-3 : tie.Need-returns-3
+returns-3 c =
+    let sized = c .before .before .before in
+    let a = sized .before .before .before .before .before .args in
+    c .seek .ensures
+    ∙ ap (λ h. seekFrom (entry (places (a .nums .now)) h) (rowIs (a .names .now) (a .nums .now) (a .name .now)) 0 placeRows) (c .before .home-of .ensures)
+    ∙ sym (name-found _ _ _ (sized .before .if1 .left) (sized .if2 .left))
 
 pub find-name-spec : {M : Type 1} → statement M
 find-name-spec =
     tie.close
     (tie.spec
-    Inv-loop
-    μ-loop
     returns
     returns-2
     (λ c. search needs)
-    (λ c. omega (arith, c .shared-slice-known4 .given namesIndex))
-    loop-holds
-    (λ c κs. search needs)
-    here
-    (λ c. omega (arith, c .before .before .before .before .shared-slice-known4 .given namesIndex))
     (λ c. search needs)
-    loop-again
-    none-left)
+    (λ c. search needs)
+    (λ c κs. search needs)
+    seek-requires
+    returns-3)
