@@ -13,18 +13,20 @@ use Rattle.rules.specs.Words.{core, semaphore}
 use Rattle.rules.specs.Core.{no-core, takes-core, gives-core}
 use Rattle.rules.specs.Event.{Event}
 use Rattle.rules.specs.History.{hasInstances, activates}
-use Rattle.tables.specs.Entry.{idleCore, Tables, tables, storeAt, firstNumberColumn, numberedAt, nameRows, instanceRows, nameRoom, linesIndex, startedIndex, namesIndex, coresIndex}
-use Rattle.tables.specs.Entry.{lineCount, startedEntry, nameCount, coreCount, instanceCount, firstTime}
+use Rattle.tables.specs.Entry.{idleCore, Tables, tables, storeAt, firstNumberColumn, numberedAt, nameRows, instanceRows, placeRows, nameRoom, linesIndex, startedIndex, namesIndex, coresIndex}
+use Rattle.tables.specs.Entry.{lineCount, startedEntry, nameCount, coreCount, instanceCount, firstTime, places}
 use Rattle.tables.specs.Sized.{Sized}
 use Rattle.tables.proofs.Stores.{other}
 use Rattle.tables.proofs.Sizes.{sizes-mean}
+use Rattle.index.specs.Hash.{homeOf}
+use Rattle.index.specs.Index.{free}
 use Rattle.lookup.specs.declared.find.Found.{Found}
 use Rattle.lookup.specs.declared.find.Found.the-variants.{At, Nothing}
 use Rattle.lookup.specs.declared.look.LookedUp.{LookedUp}
 use Rattle.lookup.specs.LookedUp.{newCore, newName}
-use Rattle.store.specs.Store.{coreRow, targetRow, storeName, storeRow, storeSums, storeInstance, storeStanding, storeHolder, storeNumber, storeActivation}
+use Rattle.store.specs.Store.{coreRow, targetRow, storeName, storeRow, storePlace, storeSums, storeInstance, storeStanding, storeHolder, storeNumber, storeActivation}
 use Rattle.store.specs.Store.{needsRow, putRow, givenBack, withoutRow, withEntry}
-use Rattle.store.specs.Store.{takenNames, withRows, withTarget, withCore, withCounts, takenNums, settled, withTimes, withSums, takenTicks}
+use Rattle.store.specs.Store.{takenNames, withRows, withTarget, withCore, withCounts, withPlaces, takenEntries, takenNums, settled, withTimes, withSums, takenTicks}
 use Rattle.store.specs.Store.{takenTables, stored}
 
 -- ---- tables of the right sizes
@@ -75,13 +77,19 @@ counts-stored {a} {b} {d} nums names cores p q r =
 
 -- ---- the stores to nums after one another, with the rows and counts as they were before them
 
-pub nums-taken : {k w i p x y : ℕ} {a b d f g : List ℕ} (nums : List ℕ) (s : LookedUp) (t : ℕ) (e : Event) → k ≡ e .kind → w ≡ e .word
+pub entries-taken : {k w i p x y : ℕ} {a b d f g : List ℕ} (nums : List ℕ) (s : LookedUp) (t : ℕ) (e : Event) → k ≡ e .kind → w ≡ e .word
     → i ≡ coreRow nums s → p ≡ targetRow nums s → x ≡ newCore s → y ≡ newName s k
     → a ≡ withRows nums s k (length (e .source)) (length (e .target)) → b ≡ withTarget a p t k w (e .targetInstance) (e .count)
     → d ≡ withCore b (s .class) i p (e .targetInstance) → f ≡ withCounts d (x + y) x
-    → g ≡ withEntry f (s .instance) p k (e .targetInstance) t → g ≡ takenNums nums s t e
+    → g ≡ withEntry f (s .instance) p k (e .targetInstance) t → g ≡ takenEntries nums s t e
+unfolding takenEntries
+entries-taken nums s t e pk pw pi pp px py pa pb pd pf pg = pg ∙ rw (pf, pd, pb, pa, pi, pp, px, py, pk, pw)
+
+-- and the places after them
+pub nums-taken : {k i p : ℕ} {a b : List ℕ} (nums : List ℕ) (s : LookedUp) (t : ℕ) (e : Event) → k ≡ e .kind → i ≡ coreRow nums s → p ≡ targetRow nums s
+    → a ≡ takenEntries nums s t e → b ≡ withPlaces a s k i p (e .source) (e .target) → b ≡ takenNums nums s t e
 unfolding takenNums
-nums-taken nums s t e pk pw pi pp px py pa pb pd pf pg = pg ∙ rw (pf, pd, pb, pa, pi, pp, px, py, pk, pw)
+nums-taken nums s t e pk pi pp pa pb = pb ∙ rw (pa, pi, pp, pk)
 
 -- and so the stores to ticks
 pub ticks-taken : {i p : ℕ} {a b d : List ℕ} (ticks nums : List ℕ) (s : LookedUp) (kind time : ℕ) → i ≡ coreRow nums s → p ≡ targetRow nums s
@@ -116,6 +124,10 @@ length-storeName names i name =
 pub length-storeRow : (nums : List ℕ) (i kind n : ℕ) → length (storeRow nums i kind n) ≡ length nums
 unfolding storeRow
 length-storeRow nums i kind n = length-cond (ltb i nameRows) _ nums (simp length-set) refl
+
+pub length-storePlace : (nums : List ℕ) (i home : ℕ) → length (storePlace nums i home) ≡ length nums
+unfolding storePlace
+length-storePlace nums i home = length-cond (ltb i nameRows && ltb (free (places nums) home) placeRows) _ nums (simp length-set) refl
 
 pub length-storeSums : (ticks : List ℕ) (i unknown since : ℕ) → length (storeSums ticks i unknown since) ≡ length ticks
 unfolding storeSums
@@ -159,6 +171,13 @@ length-withRows nums s kind n m =
     length-two (eqb (newCore s) 1) (eqb (newName s kind) 1) (λ l. storeRow l (targetRow nums s) kind m) _ nums
     (λ l. length-storeRow l (targetRow nums s) kind m)
     (length-storeRow nums (nameCount nums) core n)
+
+pub length-withPlaces : (nums : List ℕ) (s : LookedUp) (kind i p : ℕ) (source target : List ℕ) → length (withPlaces nums s kind i p source target) ≡ length nums
+unfolding withPlaces
+length-withPlaces nums s kind i p source target =
+    length-two (eqb (newCore s) 1) (eqb (newName s kind) 1) (λ l. storePlace l p (homeOf target)) _ nums
+    (λ l. length-storePlace l p (homeOf target))
+    (length-storePlace nums i (homeOf source))
 
 pub length-withSums : (ticks nums : List ℕ) (s : LookedUp) (kind time : ℕ) → length (withSums ticks nums s kind time) ≡ length ticks
 unfolding withSums
@@ -207,9 +226,13 @@ length-withEntry nums f i kind n t =
     (length-cond (needsRow nums i n t) (putRow nums f i n t) (withoutRow nums f) (length-putRow nums f i n t) (length-withoutRow nums f))
     refl
 
+pub length-takenEntries : (nums : List ℕ) (s : LookedUp) (t : ℕ) (e : Event) → length (takenEntries nums s t e) ≡ length nums
+unfolding takenEntries
+length-takenEntries nums s t e = simp (length-withEntry, length-withCounts, length-withCore, length-withTarget, length-withRows)
+
 pub length-takenNums : (nums : List ℕ) (s : LookedUp) (t : ℕ) (e : Event) → length (takenNums nums s t e) ≡ length nums
 unfolding takenNums
-length-takenNums nums s t e = simp (length-withEntry, length-withCounts, length-withCore, length-withTarget, length-withRows)
+length-takenNums nums s t e = length-withPlaces _ s (e .kind) _ _ (e .source) (e .target) ∙ length-takenEntries nums s t e
 
 pub length-settled : (ticks : List ℕ) (class i p time : ℕ) → length (settled ticks class i p time) ≡ length ticks
 unfolding settled

@@ -12,7 +12,7 @@ use Rattle.tables.specs.Entry.{Tables, tables, lineCount}
 use Rattle.tables.specs.Sized.{isSized}
 use Rattle.lookup.specs.declared.find.Found.the-variants.{Nothing}
 use Rattle.lookup.specs.declared.look.LookedUp.{LookedUp}
-use Rattle.store.specs.Store.{withRows, withTarget, withCore, withCounts, withEntry, takenNums, takenTables, stored}
+use Rattle.store.specs.Store.{withRows, withTarget, withCore, withCounts, withEntry, withPlaces, takenEntries, takenNums, takenTables, stored}
 
 pub take-unique : (t : Tables) (s : LookedUp) (state : ℕ) (e : Event) (x y : Tables) → x ≡ stored t s state e → y ≡ stored t s state e → x ≡ y
 take-unique t s state = unique (stored t s state)
@@ -29,5 +29,5 @@ unseen = record { class = no-core; source = Nothing; target = Nothing; instance 
 
 -- it counts a line in a table of a wrong size too
 pub take-not-any-size : ShutsOut {A = Given} (λ (t, s, e). stored t s 0 e) (λ (t, s, e). takenTables t s 0 e)
-unfolding stored isSized takenNums withEntry withCounts withCore withTarget withRows isTracked hasInstances activates isProcess
+unfolding stored isSized takenNums withPlaces takenEntries withEntry withCounts withCore withTarget withRows isTracked hasInstances activates isProcess
 take-not-any-size = shut-out (λ t. eqb (lineCount (t .nums)) 0) (tables [] (0 ∷ 0 ∷ 0 ∷ []) [], unseen, unjudged) refl refl

@@ -10,10 +10,12 @@ use Rattle.rules.specs.Words.{core, semaphore, TERMINATED}
 use Rattle.rules.specs.Core.{no-core, takes-core, gives-core}
 use Rattle.rules.specs.Event.{Event}
 use Rattle.rules.specs.History.{hasInstances, activates}
-use Rattle.tables.specs.Entry.{Tables, tables, storeAt, nameRows, instanceRows, nameRoom, linesIndex, startedIndex, namesIndex, coresIndex, instancesIndex, firstIndex, lastIndex}
-use Rattle.tables.specs.Entry.{kindColumn, lengthColumn, standingColumn, numberColumn, numberedColumn, firstNumberColumn, ownerColumn, instanceColumn, stateColumn, heldColumn, idleColumn, unknownColumn, sinceColumn}
-use Rattle.tables.specs.Entry.{idleCore, heldBy, lineCount, startedEntry, nameCount, coreCount, instanceCount, numberedAt, firstNumberAt, ownerAt, instanceAt, stateAt, firstTime, heldAt, idleAt, sinceAt}
+use Rattle.tables.specs.Entry.{Tables, tables, storeAt, nameRows, instanceRows, placeRows, nameRoom, linesIndex, startedIndex, namesIndex, coresIndex, instancesIndex, firstIndex, lastIndex}
+use Rattle.tables.specs.Entry.{kindColumn, lengthColumn, standingColumn, numberColumn, numberedColumn, firstNumberColumn, ownerColumn, instanceColumn, stateColumn, heldColumn, idleColumn, unknownColumn, sinceColumn, placeColumn}
+use Rattle.tables.specs.Entry.{idleCore, heldBy, lineCount, startedEntry, nameCount, coreCount, instanceCount, numberedAt, firstNumberAt, ownerAt, instanceAt, stateAt, firstTime, heldAt, idleAt, sinceAt, places}
 use Rattle.tables.specs.Sized.{isSized}
+use Rattle.index.specs.Hash.{homeOf}
+use Rattle.index.specs.Index.{free}
 use Rattle.lookup.specs.declared.find.Found.{Found}
 use Rattle.lookup.specs.declared.find.Found.the-variants.{At, Nothing}
 use Rattle.lookup.specs.declared.look.LookedUp.{LookedUp}
@@ -43,6 +45,12 @@ storeRow nums i kind n =
     (let one = storeAt lengthColumn (storeAt kindColumn nums i kind) i (n % 2 ^ 32) in
     storeAt firstNumberColumn (storeAt numberedColumn (storeAt numberColumn (storeAt standingColumn one i 0) i 0) i 0) i 0)
     nums
+
+-- the row i of a new name into the index, from its home on: "with the next free place tried on a clash" (02, No. 11)
+unfoldable pub storePlace : List ℕ → ℕ → ℕ → List ℕ
+storePlace nums i home =
+    let p = free (places nums) home in
+    cond (ltb i nameRows && ltb p placeRows) (storeAt placeColumn nums p (i + 1)) nums
 
 -- a new name's ticks: none held or idle, and for a core those before it was tracked unknown
 unfoldable pub storeSums : List ℕ → ℕ → ℕ → ℕ → List ℕ
@@ -129,13 +137,23 @@ withCounts nums names cores =
     let one = set (set nums linesIndex ((lineCount nums + 1) % 2 ^ 32)) startedIndex 1 in
     set (set one namesIndex ((nameCount nums + names) % 2 ^ 32)) coresIndex ((coreCount nums + cores) % 2 ^ 32)
 
-unfoldable pub takenNums : List ℕ → LookedUp → ℕ → Event → List ℕ
-takenNums nums s t e =
+-- the places of new names, in the rows i and p: the source's before the target's
+unfoldable pub withPlaces : List ℕ → LookedUp → ℕ → ℕ → ℕ → List ℕ → List ℕ → List ℕ
+withPlaces nums s kind i p source target =
+    let one = cond (eqb (newCore s) 1) (storePlace nums i (homeOf source)) nums in
+    cond (eqb (newName s kind) 1) (storePlace one p (homeOf target)) one
+
+-- all but the places
+unfoldable pub takenEntries : List ℕ → LookedUp → ℕ → Event → List ℕ
+takenEntries nums s t e =
     let n = e .targetInstance in
     let one = withRows nums s (e .kind) (length (e .source)) (length (e .target)) in
     let two = withTarget one (targetRow nums s) t (e .kind) (e .word) n (e .count) in
     let three = withCounts (withCore two (s .class) (coreRow nums s) (targetRow nums s) n) (newCore s + newName s (e .kind)) (newCore s) in
     withEntry three (s .instance) (targetRow nums s) (e .kind) n t
+
+unfoldable pub takenNums : List ℕ → LookedUp → ℕ → Event → List ℕ
+takenNums nums s t e = withPlaces (takenEntries nums s t e) s (e .kind) (coreRow nums s) (targetRow nums s) (e .source) (e .target)
 
 -- the ticks from `since` on go to the core's sum, and those it was held also to its holder's charge
 unfoldable pub settled : List ℕ → ℕ → ℕ → ℕ → ℕ → List ℕ

@@ -2,6 +2,7 @@
 pub mod entries;
 pub mod instances;
 pub mod nums;
+pub mod places;
 pub mod rows;
 pub mod take;
 pub mod ticks;

@@ -3,13 +3,14 @@ ghost use mathlib.Core.Path.{_≡_};
 ghost use lib.ListN.{length};
 ghost use Rattle.rules.specs.Lines.{eventFrom};
 ghost use Rattle.tables.specs.Entry.{numsSize};
-ghost use Rattle.store.specs.Store.{withRows, withTarget, withCore, withCounts, takenNums};
+ghost use Rattle.store.specs.Store.{withRows, withTarget, withCore, withCounts, takenEntries, takenNums};
 use crate::entries::store_activation;
 use crate::entries::store_holder;
 use crate::entries::store_number;
 use crate::entries::store_row;
 use crate::entries::store_standing;
 use crate::instances::store_entry;
+use crate::places::store_places;
 use crate::rows::*;
 use line::event::Event;
 use lookup::look::LookedUp;
@@ -84,8 +85,8 @@ fn store_counts(nums: &mut [u32], names: u32, cores: u32)
     nums[CORES] = wrapping_add_u32(nums[CORES], cores);
 }
 
-// The numbers and states after an event line.
-pub(crate) fn take_nums(
+// All after an event line but the places of new names.
+fn take_entries(
     nums: &mut [u32],
     s: LookedUp,
     state: u32,
@@ -95,7 +96,7 @@ pub(crate) fn take_nums(
     target: &[u8],
 )
     requires { ⌜ length (now nums) ≡ numsSize ⌝ }
-    ensures { λ _. ⌜ now (nums .exit) ≡ takenNums (now (nums .entry)) s state (eventFrom e (now (source .entry)) (now (target .entry)) count) ⌝ }
+    ensures { λ _. ⌜ now (nums .exit) ≡ takenEntries (now (nums .entry)) s state (eventFrom e (now (source .entry)) (now (target .entry)) count) ⌝ }
 {
     let e_kind = e.kind;
     let action = e.action;
@@ -111,4 +112,25 @@ pub(crate) fn take_nums(
     store_core(nums, s.class, i, p, e.target_instance);
     store_counts(nums, core + name, core);
     store_entry(nums, row, p, kind, e.target_instance, state);
+}
+
+// The numbers and states after an event line.
+pub(crate) fn take_nums(
+    nums: &mut [u32],
+    s: LookedUp,
+    state: u32,
+    e: Event,
+    count: u32,
+    source: &[u8],
+    target: &[u8],
+)
+    requires { ⌜ length (now nums) ≡ numsSize ⌝ }
+    ensures { λ _. ⌜ now (nums .exit) ≡ takenNums (now (nums .entry)) s state (eventFrom e (now (source .entry)) (now (target .entry)) count) ⌝ }
+{
+    let e_kind = e.kind;
+    let kind = kind_number(e_kind);
+    let i = core_row(nums, s);
+    let p = target_row(nums, s);
+    take_entries(nums, s, state, e, count, source, target);
+    store_places(nums, s, kind, i, p, source, target);
 }

@@ -1,76 +1,35 @@
--- `store::nums::take_nums` meets its contract: the stores one after another, with the rows as they were before them.
-use native.Mathlib.Omega.{arith}
+-- `store::nums::take_nums` meets its contract: the places of new names after all other stores, in the rows as they were before them.
 use borrow.Author.Needs.{needs}
-use Rattle.rules.specs.History.{isTracked}
-use Rattle.lookup.proofs.Added.{one-at-most, one-core}
 use Rattle.store.proofs.Stores.{nums-taken}
 use Rattle.store.proofs.nums.take_nums.Statement.{statement}
 use Rattle.store.proofs.nums.take_nums.Tie as tie
 
--- the stores, last to first: nums comes back from each before it is lent to the next
-abbrev counts-stored : tie.After-store-entry → tie.After-store-counts
-counts-stored c = let back = c .before .before in back .before .before
+-- from the places to the entries: nums comes back from these before it is lent to the others
+abbrev entries-taken : tie.After-store-places → tie.After-take-entries
+entries-taken c = let back = c .before .before in back .before .before
 
-abbrev core-stored : tie.After-store-counts-arg → tie.After-store-core
-core-stored c = c .before .before .before
-
-abbrev target-stored : tie.After-store-core → tie.After-store-target
-target-stored c = let back = c .before .before in back .before .before
-
-abbrev rows-stored : tie.After-store-target → tie.After-store-rows
-rows-stored c = let back = c .before .before in back .before .before
-
--- the place before them, where the rows and counts are known, and from it the rows, last to first
-abbrev counted : tie.After-store-rows → tie.After-new-name
-counted c = c .before .before
-
-abbrev target-found : tie.After-new-name → tie.After-target-row
+-- the rows before them, last to first, and the event's kind
+abbrev target-found : tie.After-take-entries → tie.After-target-row
 target-found c = c .before .before
 
 abbrev core-found : tie.After-target-row → tie.After-core-row
 core-found c = c .before .before
 
--- the event's word, after its kind, and the start: nums and both texts are known on the way
-abbrev worded : tie.After-core-row → tie.After-action-code
-worded c = c .before .before
-
-abbrev start : tie.After-kind-number → tie.Start
-start c = let known = c .before .before .before in known .before
-
-small : tie.Need-add-store-counts
-small c =
-    let n = counted (rows-stored (target-stored (core-stored c))) in
-    let k = worded (core-found (target-found n)) .before in
-    let s = start k .args .s in
-    omega (
-      arith,
-      one-core s (n .before .new-core .ensures),
-      one-at-most (isTracked (k .kind-number .result)) (s .target) (n .new-name .ensures),
-    )
+abbrev kind-known : tie.After-core-row → tie.After-kind-number
+kind-known c = c .before .before
 
 returns : tie.Need-returns
 returns c =
-    let g = c .before .before in
-    let h = counts-stored g in
-    let d = core-stored (h .before) in
-    let t = target-stored d in
-    let r = rows-stored t in
-    let n = counted r in
-    let p = target-found n in
+    let b = c .before .before in
+    let a = entries-taken b in
+    let p = target-found a in
     let i = core-found p in
-    let w = worded i in
     nums-taken _ _ _ _
-    (w .before .kind-number .ensures)
-    (w .action-code .ensures)
+    (kind-known i .kind-number .ensures)
     (i .core-row .ensures)
     (p .target-row .ensures)
-    (n .before .new-core .ensures)
-    (n .new-name .ensures)
-    (r .store-rows .ensures)
-    (t .store-target .ensures)
-    (d .store-core .ensures)
-    (h .store-counts .ensures)
-    (g .store-entry .ensures)
+    (a .take-entries .ensures)
+    (b .store-places .ensures)
 
 pub take-nums-spec : {M : Type 1} → statement M
 take-nums-spec =
@@ -79,13 +38,6 @@ take-nums-spec =
     (λ c κs. search needs)
     (λ c κs. search needs)
     (λ c κs. search needs)
-    (λ c κs. search needs)
-    (λ c κs. search needs)
-    (λ c κs. search needs)
-    (λ c κs. search needs)
-    (λ c κs. search needs)
-    (λ c κs. search needs)
-    small
     (λ c κs. search needs)
     (λ c κs. search needs)
     (λ c. search needs)
