@@ -1,16 +1,21 @@
--- Which states are in range by kind: computed by the definitions and beside what document 01's charts say.
+-- Which states are in range by kind, computed by the definitions and beside what document 01's charts say; and which index is the one that two names give in order.
 use mathlib.Core.Path.{_≡_, refl}
+use mathlib.Core.Bool.{true, false}
 use mathlib.Core.List.{List, [], _∷_}
 use Prim.Native.Nat.{ℕ}
 use lib.ListN.{replicate, set}
+use Rattle.text.specs.Bytes.{sameBytes}
 use Rattle.rules.specs.Lists.{only}
 use Rattle.rules.specs.Words.{core, task, interrupt, runnable, semaphore}
 use Rattle.rules.specs.Words.{TERMINATED, ACTIVE, RUNNING, READY, WAITING, POLLING, PARKING, SUSPENDED, FREE, USED, FULL, OVERFULL}
 use Rattle.rules.specs.Chart.{isStateOf}
 use Rattle.rules.specs.Charts.{isProcess, processChart, runnableChart, semaphoreChart, chartOf}
 use Rattle.rules.specs.History.{hasInstances}
-use Rattle.tables.specs.Entry.{storeAt, namesIndex, instancesIndex, kindColumn, ownerColumn, stateColumn, numsSize}
-use Rattle.ranges.specs.Range.{holderOk, coreOk, standingOk, instanceOk}
+use Rattle.tables.specs.Entry.{storeAt, namesIndex, instancesIndex, kindColumn, lengthColumn, ownerColumn, stateColumn, placeColumn, numsSize}
+use Rattle.index.specs.First.{firstOf}
+use Rattle.index.specs.Hash.{step, folded, homeOf}
+use Rattle.index.specs.Index.{free, indexOf, homeAt, indexFrom}
+use Rattle.ranges.specs.Range.{holderOk, coreOk, standingOk, instanceOk, indexOk}
 
 -- one name, of the kind k, and two instances: the first is its own and in the state s, the second belongs to no name
 abbrev rows : ℕ → ℕ → List ℕ
@@ -45,3 +50,24 @@ pub name-states :
     ≡ ((0 ∷ []) ∷ (0 ∷ []) ∷ (0 ∷ []) ∷ (0 ∷ FREE ∷ USED ∷ FULL ∷ OVERFULL ∷ []) ∷ [])
 unfolding standingOk isProcess isStateOf chartOf semaphoreChart
 name-states = refl
+
+-- two names with one home, 72: "A" in row 0 and "XK" in row 1; and an index with row 0 in the place p, row 1 in the place q, and v in the place 0
+abbrev twoNames : List ℕ
+twoNames = set (set (set (replicate 128 0) 0 65) 64 88) 65 75
+
+abbrev indexed : ℕ → ℕ → ℕ → List ℕ
+indexed p q v =
+    storeAt placeColumn (storeAt placeColumn (storeAt placeColumn (storeAt lengthColumn (storeAt lengthColumn (set (replicate numsSize 0) namesIndex 2) 0 1) 1 2) p 1) q 2) 0 v
+
+-- each row in turn in the first free place: not the later row first, no place passed over, no row left out, nothing else in the index
+pub index-order :
+    (indexOk twoNames (indexed 72 73 0)
+    ∷ indexOk twoNames (indexed 73 72 0)
+    ∷ indexOk twoNames (indexed 72 74 0)
+    ∷ indexOk twoNames (indexed 72 0 0)
+    ∷ indexOk twoNames (indexed 72 73 1)
+    ∷ indexOk twoNames (indexed 72 73 3)
+    ∷ [])
+    ≡ (true ∷ false ∷ false ∷ false ∷ false ∷ false ∷ [])
+unfolding indexOk indexFrom indexOf free firstOf homeAt homeOf folded step sameBytes
+index-order = refl

@@ -1,17 +1,28 @@
 -- "A fresh start .. never gives 16": tables of zeros are in range, and so are those that a fresh start leaves.
-use mathlib.Core.Path.{_≡_, ap}
+use mathlib.Core.Path.{_≡_, sym, ap, _∙_}
 use mathlib.Core.List.{List}
 use mathlib.Core.Logic.{⊎-elim}
 use Prim.Native.Nat.{ℕ}
 use native.Mathlib.Omega.{arith}
-use lib.ListN.{getD}
+use lib.ListN.{length, getD}
+use lib.Seq.{ext-getD}
 use Rattle.tables.specs.Entry.{verdictIndex, verdictLineIndex, linesIndex, scaleIndex, creatorIndex, dateIndex, startedIndex, namesIndex, coresIndex, instancesIndex}
-use Rattle.tables.specs.Entry.{firstIndex, lastIndex, namesSize, numsSize, ticksSize}
+use Rattle.tables.specs.Entry.{firstIndex, lastIndex, namesSize, numsSize, ticksSize, placeRows, places}
 use Rattle.tables.specs.Sized.{Sized}
 use Rattle.tables.specs.Fresh.{Cleared, clearedOf}
 use Rattle.tables.proofs.Zeros.{zeros, entry-zero, length-zeros, clear-answers}
+use Rattle.index.specs.Index.{indexOf, indexFrom}
+use Rattle.index.proofs.Indexes.{places-size, place-entry}
 use Rattle.ranges.specs.Range.{tableAnswer}
 use Rattle.ranges.proofs.Valid.{Valid, answers}
+
+-- no name is in the index, and no place is taken
+zeros-indexed : (names nums : List ℕ) → length nums ≡ numsSize → ((i : ℕ) → getD nums i 0 ≡ 0) → places nums ≡ indexFrom names nums
+unfolding indexFrom indexOf
+zeros-indexed names nums z n =
+    rw (n namesIndex)
+    (ext-getD 0 (places nums) (zeros placeRows) (places-size nums z ∙ sym (length-zeros placeRows))
+    (λ i h. place-entry nums i (omega (arith, places-size nums z)) ∙ n _ ∙ sym (entry-zero placeRows i)))
 
 zeros-valid : (names nums ticks : List ℕ) → Sized names nums ticks → ((i : ℕ) → getD nums i 0 ≡ 0) → ((i : ℕ) → getD ticks i 0 ≡ 0) → Valid names nums ticks
 zeros-valid names nums ticks s n t =
@@ -31,6 +42,7 @@ zeros-valid names nums ticks s n t =
       first-time = omega (arith, t firstIndex);
       name-row = λ i h. absurd (omega (arith, n namesIndex));
       instance-row = λ j h. absurd (omega (arith, n instancesIndex));
+      indexed = zeros-indexed names nums (s .nums-size) n;
     }
 
 pub fresh-valid : Valid (zeros namesSize) (zeros numsSize) (zeros ticksSize)

@@ -1,6 +1,6 @@
--- A test at each of a number of rows: each passes, or one fails; and what the whole means.
-use mathlib.Core.Path.{_≡_, refl, sym, _∙_}
-use mathlib.Core.Bool.{Bool, true, false}
+-- A test at each of a number of rows: each passes, or one fails; two tests; and what the whole means.
+use mathlib.Core.Path.{_≡_, refl, sym, ap, _∙_}
+use mathlib.Core.Bool.{Bool, true, false, _&&_, and-false}
 use mathlib.Core.Logic.{⊎-elim}
 use Prim.Native.Nat.{ℕ, zero, suc, _<_}
 use native.Mathlib.Nat.{le-of-suc-le-suc, not-suc-le-zero, eq-or-lt-of-le}
@@ -24,6 +24,18 @@ up-all f (suc n) h = sym (pass (up-all f n (λ k l. h k (omega arith))) (sym (h 
 
 pub up-not : (f : ℕ → Bool) (n k : ℕ) → k < n → f k ≡ false → upTo f n ≡ false
 up-not f n k h e = is-false (upTo f n) (λ u. let z : true ≡ false = sym (up-each f n u k h) ∙ e in let o : _≡_ {A = ℕ} 0 1 = cc in omega arith)
+
+-- of four tests the middle ones change places
+pub crossed : (a b c d : Bool) → (a && b) && (c && d) ≡ (a && c) && (b && d)
+crossed true true c d = refl
+crossed true false c d = sym (and-false c)
+crossed false b c d = refl
+
+-- two tests made of each row in turn
+pub up-and : (f g : ℕ → Bool) (n : ℕ) → upTo (λ k. f k && g k) n ≡ upTo f n && upTo g n
+unfolding upTo
+up-and f g zero = refl
+up-and f g (suc n) = ap (λ b. b && (f n && g n)) (up-and f g n) ∙ crossed (upTo f n) (upTo g n) (f n) (g n)
 
 pub means-up : {f : ℕ → Bool} {P : ℕ → Type 0} (n : ℕ) → ((k : ℕ) → Means (f k) (P k)) → Means (upTo f n) ((k : ℕ) → k < n → P k)
 means-up {f} n m = record { holds = λ e k h. m k .holds (up-each f n e k h); shows = λ p. up-all f n (λ k h. m k .shows (p k h)) }

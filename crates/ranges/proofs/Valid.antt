@@ -8,6 +8,7 @@ use native.Mathlib.Omega.{arith}
 use lib.ListN.{length, drop, length-take}
 use Rattle.text.specs.Name.{isName}
 use Rattle.text.proofs.Names.{name-length}
+use Rattle.text.proofs.Words.{same-eq, eq-same}
 use Rattle.line.specs.Event.{maxTime}
 use Rattle.rules.specs.Words.{core, semaphore}
 use Rattle.rules.specs.Limits.{verdictLineLimit, lineLimit, coreLimit, lastRefusal}
@@ -16,11 +17,12 @@ use Rattle.rules.specs.Charts.{chartOf}
 use Rattle.rules.specs.History.{hasInstances}
 use Rattle.tables.specs.Entry.{nameRows, instanceRows, nameRoom, verdictNumber, verdictLine, lineCount, scaleEntry, creatorEntry, dateEntry, startedEntry}
 use Rattle.tables.specs.Entry.{nameCount, coreCount, instanceCount, kindAt, lengthAt, standingAt, numberedAt, ownerAt, stateAt}
-use Rattle.tables.specs.Entry.{firstTime, lastTime, heldAt, idleAt, unknownAt, sinceAt, nameAt}
+use Rattle.tables.specs.Entry.{firstTime, lastTime, heldAt, idleAt, unknownAt, sinceAt, nameAt, places}
 use Rattle.tables.specs.Sized.{Sized, isSized}
 use Rattle.tables.proofs.Means.{Means, means-le, means-lt, means-true, means-and, means-as, fails}
 use Rattle.tables.proofs.Sizes.{sizes-mean}
-use Rattle.ranges.specs.Range.{lineLevelOk, countsOk, timesOk, standingOk, maxSum, sumsOk, bytesOk, nameOk, instanceOk, inRange, tableAnswer}
+use Rattle.index.specs.Index.{indexFrom}
+use Rattle.ranges.specs.Range.{lineLevelOk, countsOk, timesOk, standingOk, maxSum, sumsOk, bytesOk, nameOk, instanceOk, indexOk, inRange, tableAnswer}
 use Rattle.ranges.proofs.UpTo.{means-up}
 
 -- ---- what is in range
@@ -59,6 +61,7 @@ pub record Valid (names nums ticks : List ℕ) : Type 0 where
   pub first-time : firstTime ticks ≤ lastTime ticks
   pub name-row : (i : ℕ) → i < nameCount nums → NameRow names nums ticks i
   pub instance-row : (j : ℕ) → j < instanceCount nums → InstanceRow nums j
+  pub indexed : places nums ≡ indexFrom names nums
 
 -- ---- what the tests mean
 
@@ -95,7 +98,7 @@ bytes-mean : (names nums : List ℕ) (i : ℕ) → Means (bytesOk names nums i) 
 unfolding bytesOk
 bytes-mean names nums i = means-and (means-le (lengthAt nums i) nameRoom) (means-true (isName (nameAt names nums i)))
 
-name-mean : (names nums ticks : List ℕ) (i : ℕ) → Means (nameOk names nums ticks i) (NameRow names nums ticks i)
+pub name-mean : (names nums ticks : List ℕ) (i : ℕ) → Means (nameOk names nums ticks i) (NameRow names nums ticks i)
 unfolding nameOk
 name-mean names nums ticks i =
     means-as
@@ -129,6 +132,10 @@ instance-mean nums j =
     (λ p. record { owner = p .0; owner-kind = p .1 .0; state = p .1 .1 })
     (λ r. (r .owner, (r .owner-kind, r .state)))
 
+index-mean : (names nums : List ℕ) → Means (indexOk names nums) (places nums ≡ indexFrom names nums)
+unfolding indexOk
+index-mean names nums = record { holds = same-eq (places nums) (indexFrom names nums); shows = eq-same (places nums) (indexFrom names nums) }
+
 module _ (names nums ticks : List ℕ) where
   range-mean : Sized names nums ticks → Means (inRange names nums ticks) (Valid names nums ticks)
   unfolding inRange
@@ -137,7 +144,8 @@ module _ (names nums ticks : List ℕ) where
       (means-and (line-level-mean nums)
       (means-and (counts-mean nums)
       (means-and (times-mean ticks)
-      (means-and (means-up (nameCount nums) (name-mean names nums ticks)) (means-up (instanceCount nums) (instance-mean nums))))))
+      (means-and (means-up (nameCount nums) (name-mean names nums ticks))
+      (means-and (means-up (instanceCount nums) (instance-mean nums)) (index-mean names nums))))))
       (λ p.
       record {
         sizes = s;
@@ -154,11 +162,12 @@ module _ (names nums ticks : List ℕ) where
         last-time = p .1 .1 .0 .0;
         first-time = p .1 .1 .0 .1;
         name-row = p .1 .1 .1 .0;
-        instance-row = p .1 .1 .1 .1;
+        instance-row = p .1 .1 .1 .1 .0;
+        indexed = p .1 .1 .1 .1 .1;
       })
       (λ v. (
         (v .verdict, (v .verdict-line, (v .lines, (v .scale, (v .creator, v .date))))),
-        ((v .started, (v .name-count, (v .core-count, v .instance-count))), ((v .last-time, v .first-time), (v .name-row, v .instance-row))),
+        ((v .started, (v .name-count, (v .core-count, v .instance-count))), ((v .last-time, v .first-time), (v .name-row, (v .instance-row, v .indexed)))),
       ))
 
 -- ---- the answer

@@ -6,6 +6,7 @@ use mathlib.Core.List.{List}
 use Prim.Native.Nat.{ℕ, zero, suc, _-_, _≤_}
 use lib.Dec.{eqb, leb, ltb}
 use lib.ListN.{length}
+use Rattle.text.specs.Bytes.{sameBytes}
 use Rattle.text.specs.Name.{isName}
 use Rattle.line.specs.Event.{maxTime}
 use Rattle.rules.specs.Words.{core, semaphore}
@@ -15,8 +16,9 @@ use Rattle.rules.specs.Charts.{isProcess, chartOf}
 use Rattle.rules.specs.History.{hasInstances}
 use Rattle.tables.specs.Entry.{nameRows, instanceRows, nameRoom, numsSize, idleCore, heldFrom}
 use Rattle.tables.specs.Entry.{verdictNumber, verdictLine, lineCount, scaleEntry, creatorEntry, dateEntry, startedEntry, nameCount, coreCount, instanceCount}
-use Rattle.tables.specs.Entry.{kindAt, lengthAt, standingAt, numberedAt, ownerAt, stateAt, firstTime, lastTime, heldAt, idleAt, unknownAt, sinceAt, nameAt}
+use Rattle.tables.specs.Entry.{kindAt, lengthAt, standingAt, numberedAt, ownerAt, stateAt, firstTime, lastTime, heldAt, idleAt, unknownAt, sinceAt, nameAt, places}
 use Rattle.tables.specs.Sized.{isSized}
+use Rattle.index.specs.Index.{indexFrom}
 
 -- the verdict is one that is remembered, at a line up to the one past the last; at most 1,000,000,000 lines; the line level's entries
 unfoldable pub lineLevelOk : List ℕ → Bool
@@ -75,6 +77,10 @@ instanceOk nums j =
     ltb (ownerAt nums j) (nameCount nums)
     && (hasInstances (kindAt nums (ownerAt nums j)) && isStateOf (chartOf (kindAt nums (ownerAt nums j))) (stateAt nums j))
 
+-- "An index other than the table's names give in order is 16" (02, No. 11)
+unfoldable pub indexOk : List ℕ → List ℕ → Bool
+indexOk names nums = sameBytes (places nums) (indexFrom names nums)
+
 -- the test passes at each number below n
 unfoldable pub upTo : (ℕ → Bool) → ℕ → Bool
 upTo f zero = true
@@ -83,7 +89,8 @@ upTo f (suc n) = upTo f n && f n
 unfoldable pub inRange : List ℕ → List ℕ → List ℕ → Bool
 inRange names nums ticks =
     lineLevelOk nums
-    && (countsOk nums && (timesOk ticks && (upTo (nameOk names nums ticks) (nameCount nums) && upTo (instanceOk nums) (instanceCount nums))))
+    && (countsOk nums
+    && (timesOk ticks && (upTo (nameOk names nums ticks) (nameCount nums) && (upTo (instanceOk nums) (instanceCount nums) && indexOk names nums))))
 
 -- "the judge tests 15 and 16 before all others, 15 first"
 unfoldable pub tableAnswer : List ℕ → List ℕ → List ℕ → ℕ

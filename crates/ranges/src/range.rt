@@ -1,11 +1,17 @@
 // The sizes of lent tables, 15, and the ranges of their entries, 16.
 ghost use mathlib.Core.Path.{_≡_};
+ghost use mathlib.Core.Bool.{_&&_};
 ghost use Prim.Native.Nat.{_<_, _≤_};
 ghost use lib.ListN.{length};
 ghost use Rattle.tables.specs.Sized.{Sized};
-ghost use Rattle.tables.specs.Entry.{namesSize, numsSize, ticksSize, nameRows, instanceRows};
+ghost use Rattle.tables.specs.Entry.{namesSize, numsSize, ticksSize, nameRows, instanceRows, placeRows};
+ghost use Rattle.index.specs.Index.{homeAt};
 ghost use Rattle.ranges.specs.Range.{Counted, countsOk, lineLevelOk, timesOk, holderOk, coreOk, standingOk, sumsOk, bytesOk, nameOk, instanceOk, upTo, inRange};
 ghost use Rattle.ranges.specs.Range.{tableAnswer};
+ghost use Rattle.ranges.specs.IndexCode.{rowPlaced};
+use crate::placed::home_at;
+use crate::placed::row_placed;
+use crate::placed::taken_places;
 use crate::state::of_semaphore;
 use crate::state::state_ok;
 use line::event::MAX_TIME;
@@ -66,18 +72,22 @@ fn core_ok(nums: &[u32], standing: u32) -> bool
     holder_ok(nums, standing - HELD_FROM)
 }
 
-// The state of a name by its kind: a core's; of a semaphore none yet (0) or one of its chart's; any other name has none.
+// The state of a name by its kind: a core's; of a semaphore none yet (0) or one of its chart's; any other name has none. Most names have none,
+// so that is asked first.
 fn standing_ok(nums: &[u32], kind: u32, standing: u32) -> bool
     requires { ⌜ Counted (now nums) ⌝ }
     ensures { λ r. ⌜ r ≡ standingOk (now (nums .entry)) kind standing ⌝ }
 {
+    if standing == 0 {
+        return kind != CORE;
+    }
     if kind == CORE {
         return core_ok(nums, standing);
     }
     if kind == SEMAPHORE {
-        return (standing == 0) | of_semaphore(standing);
+        return of_semaphore(standing);
     }
-    standing == 0
+    false
 }
 
 // The tick sums and the time since of name i.
@@ -129,13 +139,18 @@ fn instance_ok(nums: &[u32], j: usize) -> bool
     state_ok(nums[KIND + owner as usize], nums[STATE + j])
 }
 
-fn names_ok(names: &[u8], nums: &[u32], ticks: &[u64], n: usize) -> bool
-    requires { ⌜ (n ≤ nameRows) × (Sized (now names) (now nums) (now ticks) × Counted (now nums)) ⌝ }
-    ensures { λ r. ⌜ r ≡ upTo (nameOk (now (names .entry)) (now (nums .entry)) (now (ticks .entry))) n ⌝ }
+// Whether the row of each of n names is in its range and is where it belongs in the index: in one loop, which is quicker than two.
+fn names_ok(names: &[u8], nums: &[u32], ticks: &[u64], index: &[u32], n: usize) -> bool
+    requires { ⌜ (n ≤ nameRows) × (Sized (now names) (now nums) (now ticks) × (Counted (now nums) × (length (now index) ≡ placeRows))) ⌝ }
+    ensures { λ r. ⌜ r ≡ upTo (λ i. nameOk (now (names .entry)) (now (nums .entry)) (now (ticks .entry)) i && rowPlaced (now (index .entry)) (homeAt (now (names .entry)) (now (nums .entry)) i) i) n ⌝ }
 {
     let mut i = 0;
     while i < n {
         if !name_ok(names, nums, ticks, i) {
+            return false;
+        }
+        let home = home_at(names, nums, i);
+        if !row_placed(index, home, i) {
             return false;
         }
         i += 1;
@@ -157,7 +172,8 @@ fn instances_ok(nums: &[u32], n: usize) -> bool
     true
 }
 
-// Whether every entry is in its range. The counts are tested first, since they tell how many rows there are to test.
+// Whether every entry is in its range. The counts are tested first, since they tell how many rows there are to test. The index is right where each row is where it belongs and as many
+// places are taken as there are rows.
 fn in_range(names: &[u8], nums: &[u32], ticks: &[u64]) -> bool
     requires { ⌜ Sized (now names) (now nums) (now ticks) ⌝ }
     ensures { λ r. ⌜ r ≡ inRange (now (names .entry)) (now (nums .entry)) (now (ticks .entry)) ⌝ }
@@ -167,8 +183,9 @@ fn in_range(names: &[u8], nums: &[u32], ticks: &[u64]) -> bool
     }
     let n = nums[NAMES] as usize;
     let m = nums[INSTANCES] as usize;
-    let rows = names_ok(names, nums, ticks, n) & instances_ok(nums, m);
-    line_level_ok(nums) & (times_ok(ticks) & rows)
+    let index = &nums[PLACE..PLACES_END];
+    let rows = names_ok(names, nums, ticks, index, n) & instances_ok(nums, m);
+    line_level_ok(nums) & (times_ok(ticks) & (rows & (taken_places(index) == n)))
 }
 
 // 15 for tables of a wrong size, 16 for an entry out of its range, else 0.
