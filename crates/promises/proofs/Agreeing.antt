@@ -7,8 +7,10 @@ use native.Mathlib.Omega.{arith}
 use lib.ListN.{length, getD, take, drop}
 use Rattle.rules.specs.Event.{Event, Instance}
 use Rattle.steps.specs.Rows.{opened}
-use Rattle.tables.specs.Entry.{nameRoom, startedIndex, namesIndex, coresIndex, instancesIndex, instanceCount, ownerAt, instanceAt}
+use Rattle.tables.specs.Entry.{nameRoom, startedIndex, namesIndex, coresIndex, instancesIndex, instanceCount, ownerAt, instanceAt, nameAt, places, numsSize}
 use Rattle.tables.specs.Entry.{kindColumn, lengthColumn, standingColumn, numberColumn, numberedColumn, firstNumberColumn, ownerColumn, instanceColumn, stateColumn}
+use Rattle.index.specs.Index.{indexOf, homeAt, indexFrom}
+use Rattle.index.proofs.Indexes.{same-places, index-names}
 use Rattle.judge.specs.Feed.{tables}
 use Rattle.promises.specs.Shown.{SinglesShown, NameShown, InstanceShown, InstancesShown, Shown}
 
@@ -27,12 +29,15 @@ module _ (h : List Event) (names nums nums' ticks : List ℕ) (g : AgreeFrom sta
     last = s .last;
   }
 
+  bytes-later : (i : ℕ) → nameAt names nums' i ≡ nameAt names nums i
+  bytes-later i = ap (λ m. take m (drop (nameRoom * i) names)) (g (lengthColumn .base + i) (omega arith))
+
   name-later : (i : ℕ) (n : List ℕ) → NameShown h names nums i n → NameShown h names nums' i n
   name-later i n s =
       let k = g (kindColumn .base + i) (omega arith) in
       let d = g (numberedColumn .base + i) (omega arith) in
       record {
-        name = ap (λ m. take m (drop (nameRoom * i) names)) (g (lengthColumn .base + i) (omega arith)) ∙ s .name;
+        name = bytes-later i ∙ s .name;
         size = g (lengthColumn .base + i) (omega arith) ∙ s .size;
         kind = s .kind ∙ ap some (sym k);
         standing = rw (k, g (standingColumn .base + i) (omega arith)) (s .standing);
@@ -67,6 +72,14 @@ module _ (h : List Event) (names nums nums' ticks : List ℕ) (g : AgreeFrom sta
         s .kept i j (rw count-later at b) (rw count-later at d) (sym (owner-later i) ∙ o ∙ owner-later j) (sym (number-later i) ∙ n ∙ number-later j);
   }
 
+  -- the places and the rows' names are as they were
+  index-later : length nums ≡ numsSize → length nums' ≡ numsSize → places nums ≡ indexFrom names nums → places nums' ≡ indexFrom names nums'
+  unfolding indexFrom
+  index-later z z' e =
+      same-places nums nums' z z' (λ j b. g j (omega arith))
+      ∙ e
+      ∙ sym (ap (indexOf (homeAt names nums')) (g namesIndex (omega arith)) ∙ index-names names nums names nums' (λ r b. bytes-later r))
+
   pub shown-later : length nums' ≡ length nums → Shown h (tables names nums ticks) → Shown h (tables names nums' ticks)
   shown-later z s = record {
     sized = record { names-size = s .sized .names-size; nums-size = z ∙ s .sized .nums-size; ticks-size = s .sized .ticks-size };
@@ -74,4 +87,5 @@ module _ (h : List Event) (names nums nums' ticks : List ℕ) (g : AgreeFrom sta
     each-name = λ n m. name-later _ n (s .each-name n m);
     instance-rows = instances-later (s .instance-rows);
     each-ticks = s .each-ticks;
+    indexed = index-later (s .sized .nums-size) (z ∙ s .sized .nums-size) (s .indexed);
   }

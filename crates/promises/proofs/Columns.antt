@@ -1,5 +1,5 @@
--- The stores of an event line to nums, one after another: new rows, the target's state and number, the core's state and its holder's number, the counts, and what is kept of the
--- instance. Each entry has the value that is stored to it, and every other one is as it was.
+-- The stores of an event line to nums, one after another: new rows, the target's state and number, the core's state and its holder's number, the counts, what is kept of the
+-- instance, and the places of new names. Each entry has the value that is stored to it, and every other one is as it was.
 use mathlib.Core.Path.{_≡_, refl, sym, ap, _∙_}
 use mathlib.Core.Bool.{Bool, true, false, not, _&&_, cond}
 use mathlib.Core.List.{List}
@@ -12,20 +12,22 @@ use Rattle.rules.specs.Words.{core, semaphore}
 use Rattle.rules.specs.Core.{no-core, gives-core}
 use Rattle.rules.specs.History.{hasInstances, activates}
 use Rattle.tables.specs.Entry.{idleCore, heldBy, nameRows, instanceRows, numsSize, linesIndex, startedIndex, namesIndex, coresIndex, instancesIndex}
-use Rattle.tables.specs.Entry.{kindColumn, standingColumn, numberColumn, numberedColumn, firstNumberColumn, ownerColumn, stateColumn}
+use Rattle.tables.specs.Entry.{kindColumn, standingColumn, numberColumn, numberedColumn, firstNumberColumn, ownerColumn, stateColumn, placeColumn}
 use Rattle.tables.specs.Entry.{lineCount, nameCount, coreCount, instanceCount}
 use Rattle.tables.specs.Entry.{standingAt, numberAt, numberedAt, firstNumberAt}
 use Rattle.tables.proofs.Stores.{other, single, Outside}
+use Rattle.index.specs.Hash.{homeOf}
 use Rattle.lookup.specs.declared.find.Found.{Found}
 use Rattle.lookup.specs.declared.find.Found.the-variants.{At, Nothing}
 use Rattle.lookup.specs.declared.look.LookedUp.{LookedUp}
 use Rattle.lookup.specs.LookedUp.{newCore, newName}
-use Rattle.store.specs.Store.{targetRow, storeRow, storeInstance, storeStanding, storeHolder, storeNumber, storeActivation, needsRow, putRow, withoutRow, withEntry, withRows, withTarget, withCore, withCounts}
+use Rattle.store.specs.Store.{targetRow, storeRow, storePlace, storeInstance, storeStanding, storeHolder, storeNumber, storeActivation}
+use Rattle.store.specs.Store.{needsRow, putRow, withoutRow, withEntry, withRows, withTarget, withCore, withCounts, withPlaces}
 use Rattle.store.proofs.Stores.{length-storeRow, length-storeStanding}
 use Rattle.promises.proofs.Choices.{same-choice}
 use Rattle.promises.proofs.KindTests.{no-activation}
 use Rattle.promises.proofs.RowStores.{length-if, entry-if, kept-if, made, standing-standing, holder-standing, holder-number, row-beside, standing-beside}
-use Rattle.promises.proofs.RowStores.{holder-beside, number-beside, instance-beside, given-beside, activation-beside, Counts, activation-counts, activation-first}
+use Rattle.promises.proofs.RowStores.{holder-beside, number-beside, instance-beside, given-beside, place-beside, activation-beside, Counts, activation-counts, activation-first}
 
 -- ---- the rows of new names
 
@@ -177,3 +179,13 @@ unfolding withEntry
 entry-beside nums f i kind n t x out d =
     kept-if (hasInstances kind) _ nums x (λ k.
     entry-if (needsRow nums i n t) (putRow nums f i n t) (withoutRow nums f) x (λ a. put-beside nums f i n t x out d) (λ b. without-beside nums f x out d))
+
+-- ---- the places of new names
+
+pub places-beside : (nums : List ℕ) (s : LookedUp) (kind i p : ℕ) (source target : List ℕ) (j : ℕ) → Outside placeColumn placeColumn j →
+    getD (withPlaces nums s kind i p source target) j 0 ≡ getD nums j 0
+unfolding withPlaces
+places-beside nums s kind i p source target j out =
+    let one = cond (eqb (newCore s) 1) (storePlace nums i (homeOf source)) nums in
+    kept-if (eqb (newName s kind) 1) (storePlace one p (homeOf target)) one j (λ t. place-beside one p (homeOf target) j out)
+    ∙ kept-if (eqb (newCore s) 1) _ nums j (λ t. place-beside nums i (homeOf source) j out)

@@ -14,17 +14,17 @@ use Rattle.rules.specs.History.{activates}
 use Rattle.tables.specs.Entry.{idleCore, heldBy, verdictIndex, verdictLineIndex, linesIndex, scaleIndex, creatorIndex}
 use Rattle.tables.specs.Entry.{dateIndex, startedIndex, namesIndex, coresIndex, instancesIndex}
 use Rattle.tables.specs.Entry.{nameRows, numsSize}
-use Rattle.tables.specs.Entry.{kindColumn, lengthColumn, standingColumn, numberColumn, numberedColumn, firstNumberColumn, ownerColumn}
+use Rattle.tables.specs.Entry.{kindColumn, lengthColumn, standingColumn, numberColumn, numberedColumn, firstNumberColumn, ownerColumn, placeColumn}
 use Rattle.tables.specs.Entry.{verdictNumber, verdictLine, lineCount, scaleEntry, creatorEntry, dateEntry, startedEntry, nameCount, coreCount, instanceCount}
 use Rattle.tables.specs.Entry.{kindAt, lengthAt, standingAt, numberAt, numberedAt, firstNumberAt}
 use Rattle.tables.proofs.Stores.{Outside}
 use Rattle.lookup.specs.declared.look.LookedUp.{LookedUp}
 use Rattle.lookup.specs.LookedUp.{newCore, newName}
-use Rattle.store.specs.Store.{coreRow, targetRow, storeNumber, withRows, withTarget, withCore, withCounts, takenNums}
+use Rattle.store.specs.Store.{coreRow, targetRow, storeNumber, withRows, withTarget, withCore, withCounts, takenEntries, takenNums}
 use Rattle.store.proofs.Stores.{length-withRows, length-withTarget, length-withCore, length-withCounts}
 use Rattle.promises.proofs.RowStores.{row-kind, row-length, row-standing, row-number, row-numbered, row-first, number-number, number-numbered, Counts}
 use Rattle.promises.proofs.Columns.{isNewCore, isNewTarget, Fills, rows-stored, rows-beside, target-beside, target-standing, target-number, target-first}
-use Rattle.promises.proofs.Columns.{core-beside, core-standing, core-number, counts-beside, counts-stored, entry-beside}
+use Rattle.promises.proofs.Columns.{core-beside, core-standing, core-number, counts-beside, counts-stored, entry-beside, places-beside}
 
 -- ---- all the stores
 
@@ -58,10 +58,15 @@ module _ (nums : List ℕ) (z : length nums ≡ numsSize) (s : LookedUp) (t : �
   pub counted-size : length counted ≡ numsSize
   counted-size = length-withCounts cored (newCore s + newName s (e .kind)) (newCore s) ∙ cored-size
 
+  -- the places are stored to last, and no other entry with them
+  pub from-entries : (j : ℕ) → j < placeColumn .base → getD (takenNums nums s t e) j 0 ≡ getD (takenEntries nums s t e) j 0
+  unfolding takenNums
+  from-entries j h = places-beside (takenEntries nums s t e) s (e .kind) (coreRow nums s) (targetRow nums s) (e .source) (e .target) j (λ l u. omega arith)
+
   -- an entry is not reached by the stores after its own: of a name's row, of an instance's, and a single one
   pub from-counted : (j : ℕ) → j < ownerColumn .base → (instancesIndex ≡ j → ⊥) → getD (takenNums nums s t e) j 0 ≡ getD counted j 0
-  unfolding takenNums
-  from-counted j h d = entry-beside counted (s .instance) (targetRow nums s) (e .kind) (e .targetInstance) t j (λ l u. omega arith) d
+  unfolding takenEntries
+  from-counted j h d = from-entries j (omega arith) ∙ entry-beside counted (s .instance) (targetRow nums s) (e .kind) (e .targetInstance) t j (λ l u. omega arith) d
 
   from-cored : (j : ℕ) → kindColumn .base ≤ j → j < ownerColumn .base → getD (takenNums nums s t e) j 0 ≡ getD cored j 0
   from-cored j h k = from-counted j k (λ q. omega arith) ∙ counts-beside cored _ _ j h

@@ -31,6 +31,7 @@ use Rattle.promises.proofs.Later.{enters-shown}
 use Rattle.promises.proofs.Answers.{answers-agree}
 use Rattle.promises.proofs.Entries.{lines-taken, verdict-number-kept, verdict-line-kept, scale-kept, creator-kept, date-kept}
 use Rattle.promises.proofs.Names.{each-name-next}
+use Rattle.promises.proofs.IndexNext.{indexed-next}
 use Rattle.promises.proofs.RowsAfter.{counted-next}
 use Rattle.promises.proofs.Instances.{instances-next}
 use Rattle.promises.proofs.Sums.{each-ticks-next}
@@ -72,6 +73,7 @@ module _ (h : List Event) (a : Accepted h) (met : AllMet h) (t : Tables) (s : Sh
         each-name = each-name-next h a met t s event f m state l;
         instance-rows = instances-next h a met t s event f m state l;
         each-ticks = each-ticks-next h a t s event f m state;
+        indexed = indexed-next h met t s event f m state;
       }
 
   level : LevelKept (t .nums) (next .nums)

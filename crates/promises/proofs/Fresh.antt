@@ -6,6 +6,7 @@ use Rattle.rules.specs.History.{names, instances}
 use Rattle.rules.specs.Lines.{eventsOf}
 use Rattle.rules.specs.Trace.{placeOf}
 use Rattle.rules.proofs.Tests.{clash}
+use Rattle.ranges.proofs.FreshTables.{fresh-valid}
 use Rattle.judge.specs.Feed.{placeIn, freshTables}
 use Rattle.judge.proofs.Sizes.{fresh-sized}
 use Rattle.promises.specs.Shown.{Shown, Shows}
@@ -18,6 +19,7 @@ fresh-shown = record {
   each-name = λ n m. absurd (clash _ m refl);
   instance-rows = record { each = λ x m. absurd (clash _ m refl); owned = λ j b. absurd (omega (arith, b)); kept = λ i j b d o n. absurd (omega (arith, b)) };
   each-ticks = λ n m. absurd (clash _ m refl);
+  indexed = fresh-valid .indexed;
 }
 
 pub fresh-shows : Shows [] freshTables

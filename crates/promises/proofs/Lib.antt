@@ -25,6 +25,7 @@ pub mod NameKinds
 pub mod NameNumbers
 pub mod Standings
 pub mod Names
+pub mod IndexNext
 pub mod Moves
 pub mod RowsAfter
 pub mod Instances
@@ -47,6 +48,7 @@ pub mod Limits
 pub mod Fresh
 pub mod Verdicts
 pub mod Judged
+pub mod ByIndex
 pub mod Numbers
 pub mod Refused
 pub mod Figures

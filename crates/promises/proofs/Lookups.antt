@@ -2,7 +2,7 @@
 -- an event line finds in the tables what the history has. And the rows of names to which a line that is taken stores are those of the longer history.
 use mathlib.Core.Path.{_≡_, refl, sym, ap, subst, _∙_}
 use mathlib.Core.Bool.{Bool, true, false, not, _&&_, cond}
-use mathlib.Core.Option.{some}
+use mathlib.Core.Option.{Option, none, some}
 use mathlib.Core.List.{List, _∷_}
 use Prim.Native.Nat.{ℕ, _+_, _<_}
 use native.Mathlib.Omega.{arith}
@@ -24,10 +24,13 @@ use Rattle.rules.proofs.Tracked.{target-is}
 use Rattle.rules.proofs.Seen.{own-number}
 use Rattle.steps.proofs.CoreClasses.{class-on}
 use Rattle.tables.specs.Entry.{instanceRows, nameRows, nameCount, instanceCount, nameAt}
+use Rattle.index.specs.First.{firstOf}
+use Rattle.index.proofs.Firsts.{first-at, first-none}
 use Rattle.lookup.specs.declared.find.Found.{Found}
 use Rattle.lookup.specs.declared.find.Found.the-variants.{At, Nothing}
-use Rattle.lookup.specs.Find.{firstFrom, lastBelow, rowIs, findName, instanceIs, findInstance}
-use Rattle.lookup.proofs.Found.{first-at, first-none, last-at, last-none, name-found, instance-found, row-name, name-row, instance-means}
+use Rattle.lookup.specs.Find.{lastBelow, rowIs, findName, rowFound, walkName, instanceIs, findInstance}
+use Rattle.lookup.proofs.Found.{last-at, last-none, instance-found, row-name, name-row, instance-means}
+use Rattle.lookup.proofs.Walks.{find-walks}
 use Rattle.lookup.specs.LookedUp.{lookIf, instanceIn, lookedUp, rowsAdded, newCore, newName, isNothing}
 use Rattle.store.specs.Store.{rowOr, coreRow, targetRow}
 use Rattle.judge.specs.Feed.{Tables}
@@ -58,12 +61,12 @@ module _ {A : Type 0} (f : ℕ → Bool) (g : A → Bool) (xs : List A)
       by-test true t = absurd (clash (f (place g xs)) (there t) (q (place g xs) (place-bound g xs t)))
       by-test false t = refl
 
-  first-sought : firstFrom f 0 (length xs) ≡ seek g xs
-  first-sought = searched (firstFrom f 0 (length xs)) (by-found (firstFrom f 0 (length xs)) refl)
+  first-sought : rowFound (firstOf f 0 (length xs)) ≡ seek g xs
+  first-sought = searched (rowFound (firstOf f 0 (length xs))) (by-found (firstOf f 0 (length xs)) refl)
     where
-      by-found : (r : Found) → firstFrom f 0 (length xs) ≡ r → Searched r
-      by-found (At i) q = let p = first-at f (length xs) i q in (p .0, p .1)
-      by-found Nothing q = first-none f (length xs) q
+      by-found : (r : Option ℕ) → firstOf f 0 (length xs) ≡ r → Searched (rowFound r)
+      by-found (some i) q = let p = first-at f (length xs) i q in (p .0, p .1)
+      by-found none q = first-none f (length xs) q
 
 -- ---- the rows that there are
 
@@ -78,9 +81,10 @@ instance-below h a t s j x p = omega (arith, p .below, s .singles .entries-count
 
 module _ (h : List Event) (a : Accepted h) (m : AllMet h) (t : Tables) (s : Shown h t) where
   pub found-name : (n : List ℕ) → findName (t .names) (t .nums) n ≡ seek (sameBytes n) (names h)
+  unfolding walkName
   found-name n =
-      name-found (t .names) (t .nums) n (s .sized .names-size) (s .sized .nums-size)
-      ∙ ap (firstFrom (rowIs (t .names) (t .nums) n) 0) (s .singles .names-counted)
+      find-walks (t .names) (t .nums) (s .sized .names-size) (s .sized .nums-size) (omega (arith, s .singles .names-counted, all-fit h a .names-fit)) (s .indexed) n
+      ∙ ap (λ (k : ℕ). rowFound (firstOf (rowIs (t .names) (t .nums) n) 0 k)) (s .singles .names-counted)
       ∙ first-sought (rowIs (t .names) (t .nums) n) (sameBytes n) (names h) told there
     where
       told : (i : ℕ) → i < length (names h) → rowIs (t .names) (t .nums) n i ≡ true → (any (sameBytes n) (names h) ≡ true) × (rowOf h n ≡ i)

@@ -178,7 +178,11 @@ module _ (nums : List ℕ) (z : length nums ≡ numsSize) where
             elsewhere : (q ≡ j → ⊥) → ⊥ ⊎ ((r : ℕ) × (r < instanceCount nums) × (r ≡ j → ⊥) × (q ≡ newPlace r))
             elsewhere d = inr (q, omega (arith, back-count), d, rw (ne-eqb q final (λ y. omega (arith, back-count, y))))
 
--- ---- what was carried is carried by another name, and from nums with the same rows
+-- ---- what was carried is carried by another name, and from and to nums with the same rows
+
+-- a row found again, and again
+found-again : (nums one nums' : List ℕ) (r q p : ℕ) → SameRow nums one r q → SameRow one nums' q p → SameRow nums nums' r p
+found-again nums one nums' r q p v w = record { owner = w .owner ∙ v .owner; number = w .number ∙ v .number; state = w .state ∙ v .state }
 
 pub carried-as : (nums nums' : List ℕ) (k : ℕ) (P Q : ℕ → Type 0) → ((q : ℕ) → P q → Q q) → Carried nums nums' k P → Carried nums nums' k Q
 carried-as nums nums' k P Q f c = record { place = c .place; kept = c .kept; from = λ q b. ⊎-elim (λ p. inl (f q p)) (λ r. inr r) (c .from q b) }
@@ -189,7 +193,20 @@ carried-over nums one nums' k P z same c = record { place = c .place; kept = kep
     kept : (r : ℕ) → r < instanceCount nums → (r ≡ k → ⊥) → (c .place r < instanceCount nums') × SameRow nums nums' r (c .place r)
     kept r b d =
         let w = c .kept r (rw z b) d in
-        (w .0, record { owner = w .1 .owner ∙ same r .owner; number = w .1 .number ∙ same r .number; state = w .1 .state ∙ same r .state })
+        (w .0, found-again nums one nums' r r (c .place r) (same r) (w .1))
 
     from : (q : ℕ) → q < instanceCount nums' → P q ⊎ ((r : ℕ) × (r < instanceCount nums) × (r ≡ k → ⊥) × (q ≡ c .place r))
     from q b = ⊎-elim (λ p. inl p) (λ r. inr (r .0, rw (← z) (r .1), r .2, r .3)) (c .from q b)
+
+module _ (one nums' : List ℕ) (z : instanceCount nums' ≡ instanceCount one) (same : (r : ℕ) → r < instanceCount one → SameRow one nums' r r) where
+  pub carried-on : (nums : List ℕ) (k : ℕ) (P : ℕ → Type 0) → Carried nums one k P → Carried nums nums' k P
+  carried-on nums k P c = record {
+    place = c .place;
+    kept = λ r b d. let w = c .kept r b d in (rw z (w .0), found-again nums one nums' r (c .place r) (c .place r) (w .1) (same (c .place r) (w .0)));
+    from = λ q b. c .from q (rw z at b);
+  }
+
+  pub has-on : (q i n t : ℕ) → HasRow one q i n t → HasRow nums' q i n t
+  has-on q i n t w =
+      let r = same q (w .below) in
+      record { below = rw z (w .below); owner = r .owner ∙ w .owner; number = r .number ∙ w .number; state = r .state ∙ w .state }

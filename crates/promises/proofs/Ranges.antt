@@ -182,4 +182,5 @@ module _ (h : List Event) (a : Accepted h) (met : AllMet h) (t : Tables) (s : Sh
             let n = name-at h i (omega (arith, b, counts .names-counted)) in
             subst (NameRow (t .names) (t .nums) (t .ticks)) (n .2) (name-row (n .0) (n .1));
         instance-row = λ j b. let r = s .instance-rows .owned j b in instance-row j (r .0) (entry-listed h (r .0) (r .1)) (r .2);
+        indexed = s .indexed;
       }

@@ -8,11 +8,12 @@ use lib.Dec.{eqb, leb, ltb}
 use lib.ListN.{length, getD, set, length-set}
 use borrow.Author.Tests.{eqb-true, ne-eqb, le-leb, lt-ltb, ltb-true, ltb-false}
 use Rattle.rules.proofs.Tests.{both}
-use Rattle.tables.specs.Entry.{heldBy, nameRows, instanceRows, numsSize, instancesIndex, instanceCount}
-use Rattle.tables.specs.Entry.{kindColumn, lengthColumn, standingColumn, numberColumn, numberedColumn, firstNumberColumn, ownerColumn, instanceColumn, stateColumn}
-use Rattle.tables.specs.Entry.{kindAt, lengthAt, standingAt, numberAt, numberedAt, firstNumberAt, ownerAt, instanceAt, stateAt, storeAt}
+use Rattle.tables.specs.Entry.{heldBy, nameRows, instanceRows, placeRows, numsSize, instancesIndex, instanceCount}
+use Rattle.tables.specs.Entry.{kindColumn, lengthColumn, standingColumn, numberColumn, numberedColumn, firstNumberColumn, ownerColumn, instanceColumn, stateColumn, placeColumn}
+use Rattle.tables.specs.Entry.{kindAt, lengthAt, standingAt, numberAt, numberedAt, firstNumberAt, ownerAt, instanceAt, stateAt, places, storeAt}
 use Rattle.tables.proofs.Stores.{same, other, cell, before, Outside, outside, beside}
-use Rattle.store.specs.Store.{storeRow, storeInstance, storeStanding, storeHolder, storeNumber, storeActivation, givenBack}
+use Rattle.index.specs.Index.{free}
+use Rattle.store.specs.Store.{storeRow, storePlace, storeInstance, storeStanding, storeHolder, storeNumber, storeActivation, givenBack}
 use Rattle.store.proofs.Stores.{length-first}
 
 -- ---- a store that is made or not
@@ -120,6 +121,15 @@ module _ (nums : List ℕ) (i j : ℕ) where
   instance-beside owner number state out =
       kept-if (ltb i instanceRows && ltb owner nameRows) _ nums j
       (λ t. let h = ltb-true i instanceRows (both (ltb i instanceRows) _ t .0) in simp (beside ownerColumn stateColumn instanceRows))
+
+-- ---- a store to the index
+
+pub place-beside : (nums : List ℕ) (i home j : ℕ) → Outside placeColumn placeColumn j → getD (storePlace nums i home) j 0 ≡ getD nums j 0
+unfolding storePlace
+place-beside nums i home j out =
+    let p = free (places nums) home in
+    kept-if (ltb i nameRows && ltb p placeRows) _ nums j
+    (λ t. outside placeColumn nums p (i + 1) (ltb-true p placeRows (both (ltb i nameRows) (ltb p placeRows) t .1)) j out)
 
 -- ---- the number of an activation or start
 

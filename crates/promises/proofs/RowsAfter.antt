@@ -7,7 +7,7 @@ use mathlib.Core.List.{List, _∷_}
 use Prim.Native.Nat.{ℕ, zero, suc, _+_, _≤_, _<_}
 use native.Mathlib.Omega.{arith}
 use lib.Dec.{eqb, leb}
-use lib.ListN.{length}
+use lib.ListN.{length, getD}
 use borrow.Author.Tests.{lt-ltb}
 use Rattle.text.proofs.Bools.{is-false}
 use Rattle.rules.specs.Lists.{oneIf}
@@ -23,11 +23,11 @@ use Rattle.rules.proofs.Seen.{own-number}
 use Rattle.rules.proofs.Room.{all-fit, entries-now}
 use Rattle.rules.proofs.Entries.{entry-exactly, entry-listed, listed, entries-counted}
 use Rattle.steps.specs.Rows.{opened}
-use Rattle.tables.specs.Entry.{column, entryAt, instanceRows, nameRows, numsSize, instancesIndex, numberedColumn, firstNumberColumn, ownerColumn, instanceColumn, stateColumn}
+use Rattle.tables.specs.Entry.{column, entryAt, instanceRows, nameRows, numsSize, instancesIndex, numberedColumn, firstNumberColumn, ownerColumn, instanceColumn, stateColumn, placeColumn}
 use Rattle.tables.specs.Entry.{instanceCount, kindAt, numberedAt, firstNumberAt}
 use Rattle.lookup.specs.declared.find.Found.{Found}
 use Rattle.lookup.specs.declared.find.Found.the-variants.{At, Nothing}
-use Rattle.store.specs.Store.{targetRow, needsRow, putRow, withoutRow, withEntry, takenNums, takenTables}
+use Rattle.store.specs.Store.{targetRow, needsRow, putRow, withoutRow, withEntry, takenEntries, takenTables}
 use Rattle.judge.specs.Feed.{Tables}
 use Rattle.promises.specs.Places.{rowOf}
 use Rattle.promises.specs.Shown.{InstanceShown, Shown}
@@ -36,10 +36,10 @@ use Rattle.promises.proofs.KindTests.{instances-tracked, no-semaphore}
 use Rattle.promises.proofs.Origins.{target-named}
 use Rattle.promises.proofs.Listed.{instance-kind, AllMet}
 use Rattle.promises.proofs.Lookups.{looked-up-instance, target-row}
-use Rattle.promises.proofs.Entries.{counted, counted-size, from-counted, rows-before, count-before}
+use Rattle.promises.proofs.Entries.{counted, counted-size, from-entries, from-counted, rows-before, count-before}
 use Rattle.promises.proofs.Rows.{target-bound}
 use Rattle.promises.proofs.Names.{each-name-next}
-use Rattle.promises.proofs.Moves.{SameRow, Carried, HasRow, unmoved, found-count, found-own, found-carried, next-count, next-own, next-carried, back-count, back-carried, carried-as, carried-over}
+use Rattle.promises.proofs.Moves.{SameRow, Carried, HasRow, unmoved, found-count, found-own, found-carried, next-count, next-own, next-carried, back-count, back-carried, carried-as, carried-over, carried-on, has-on}
 
 module _ (h : List Event) (a : Accepted h) (met : AllMet h) (t : Tables) (s : Shown h t) (e : Event) (f : Passed h e) (m : Met e) (state : ℕ)
     (l : opened state ≡ stateOf (instanceOf e) (e ∷ h)) where
@@ -204,9 +204,13 @@ module _ (h : List Event) (a : Accepted h) (met : AllMet h) (t : Tables) (s : Sh
   kindless : hasInstances (e .kind) ≡ false → (g : List Event) → Accepted g → hasEntry g own ≡ false
   kindless i g b = is-false _ (λ q. clash _ (instance-kind g b own (entry-listed g own q) .0) i)
 
-  pub rows-after : RowsAfter (after .nums)
-  unfolding takenNums withEntry
-  rows-after = by-kind (hasInstances (e .kind)) refl
+  -- before the places are stored to
+  abbrev unplaced : List ℕ
+  unplaced = takenEntries (t .nums) (lookedUpIn h t e) state e
+
+  rows-before-places : RowsAfter unplaced
+  unfolding takenEntries withEntry
+  rows-before-places = by-kind (hasInstances (e .kind)) refl
     where
       by-kind : (b : Bool) → hasInstances (e .kind) ≡ b →
           RowsAfter (cond b (cond (needsRow one owner (e .targetInstance) state) (putRow one (lookedUpIn h t e .instance) owner (e .targetInstance) state) (withoutRow one (lookedUpIn h t e .instance))) one)
@@ -215,5 +219,35 @@ module _ (h : List Event) (a : Accepted h) (met : AllMet h) (t : Tables) (s : Sh
 
   -- ---- so there are as many as there are entries
 
+  counted-rows : (nums' : List ℕ) → RowsAfter nums' → instanceCount nums' ≡ length (entries (e ∷ h))
+  counted-rows nums' r = omega (arith, r .counts, entries-counted h e (f .number), s .singles .entries-counted)
+
+  -- ---- and no store to a place reaches them
+
+  pub rows-after : RowsAfter (after .nums)
+  rows-after =
+      let r = rows-before-places in
+      record {
+        row = r .row;
+        to = r .to;
+        carried = carried-on unplaced (after .nums) as-many as-before nums (r .row) (Stored (r .to)) (r .carried);
+        had = r .had;
+        had-none = r .had-none;
+        has = λ y. has-on unplaced (after .nums) as-many as-before (r .to) owner (e .targetInstance) state (r .has y);
+        counts = rw as-many (r .counts);
+      }
+    where
+      entry : (j : ℕ) → j < placeColumn .base → getD (after .nums) j 0 ≡ getD unplaced j 0
+      entry = from-entries (t .nums) (s .sized .nums-size) (lookedUpIn h t e) state e
+
+      as-many : instanceCount (after .nums) ≡ instanceCount unplaced
+      as-many = entry instancesIndex (omega arith)
+
+      as-before : (r : ℕ) → r < instanceCount unplaced → SameRow unplaced (after .nums) r r
+      as-before r b =
+          let fit = entries-now (e ∷ h) (all-fit (e ∷ h) (passed-accepted h a e f)) in
+          let d : r < instanceRows = omega (arith, counted-rows unplaced rows-before-places) in
+          record { owner = entry (ownerColumn .base + r) (omega arith); number = entry (instanceColumn .base + r) (omega arith); state = entry (stateColumn .base + r) (omega arith) }
+
   pub counted-next : instanceCount (after .nums) ≡ length (entries (e ∷ h))
-  counted-next = omega (arith, rows-after .counts, entries-counted h e (f .number), s .singles .entries-counted)
+  counted-next = counted-rows (after .nums) rows-after

@@ -19,7 +19,8 @@ use Rattle.steps.specs.Rows.{opened}
 use Rattle.tables.specs.Sized.{Sized}
 use Rattle.tables.specs.Entry.{idleCore, heldBy, creatorEntry, dateEntry, startedEntry, nameCount, coreCount, instanceCount}
 use Rattle.tables.specs.Entry.{kindAt, lengthAt, standingAt, numberAt, numberedAt, firstNumberAt, ownerAt, instanceAt}
-use Rattle.tables.specs.Entry.{stateAt, firstTime, lastTime, heldAt, idleAt, unknownAt, sinceAt, nameAt}
+use Rattle.tables.specs.Entry.{stateAt, firstTime, lastTime, heldAt, idleAt, unknownAt, sinceAt, nameAt, places}
+use Rattle.index.specs.Index.{indexFrom}
 use Rattle.judge.specs.Feed.{Tables, placeIn}
 use Rattle.promises.specs.Places.{rowOf}
 
@@ -126,6 +127,8 @@ pub record Shown (h : List Event) (t : Tables) : Type 0 where
   pub each-name : (n : List ℕ) → any (sameBytes n) (names h) ≡ true → NameShown h (t .names) (t .nums) (rowOf h n) n
   pub instance-rows : InstancesShown h (t .nums)
   pub each-ticks : (n : List ℕ) → any (sameBytes n) (names h) ≡ true → TicksShown h (t .ticks) (rowOf h n) n
+  -- the places: those that the rows by name give in their order
+  pub indexed : places (t .nums) ≡ indexFrom (t .names) (t .nums)
 
 -- of lines: the entries of the line level, and the events of the lines. The remembered verdict is apart.
 pub record Shows (h : List (List ℕ)) (t : Tables) : Type 0 where
