@@ -17,7 +17,7 @@ First f i n (some k) = (i ≤ k) × (k < i + n) × (f k ≡ true) × ((m : ℕ) 
 First f i n none = (m : ℕ) → i ≤ m → m < i + n → f m ≡ false
 
 -- of the numbers from i on, one less is left
-pub one-less : (i n : ℕ) → i < n → n - i ≡ suc (n - (i + 1))
+one-less : (i n : ℕ) → i < n → n - i ≡ suc (n - (i + 1))
 one-less i n h = omega arith
 
 module _ (f : ℕ → Bool) where

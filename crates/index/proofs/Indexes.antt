@@ -25,7 +25,7 @@ same-places nums nums' z z' g =
     (λ p h. let l : p < placeRows = omega (arith, places-size nums' z') in place-entry nums' p l ∙ g (placeColumn .base + p) (omega arith) ∙ sym (place-entry nums p l))
 
 -- the index hangs on the homes of its rows only
-pub index-homes : (home home' : ℕ → ℕ) (n : ℕ) → ((k : ℕ) → k < n → home k ≡ home' k) → indexOf home n ≡ indexOf home' n
+index-homes : (home home' : ℕ → ℕ) (n : ℕ) → ((k : ℕ) → k < n → home k ≡ home' k) → indexOf home n ≡ indexOf home' n
 unfolding indexOf
 index-homes home home' zero h = refl
 index-homes home home' (suc n) h = rw (index-homes home home' n (λ k l. h k (omega arith)), h n (omega arith))

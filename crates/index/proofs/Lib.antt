@@ -1,6 +1,7 @@
 -- The laws of a search, of the home of a name and of the index, which the crates above cite.
 pub mod Firsts
 pub mod Folds
+pub mod Tally
 pub mod Right
 pub mod Indexes
 pub mod Examples

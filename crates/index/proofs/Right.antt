@@ -1,22 +1,23 @@
 -- An index is right: each row lies at a distance from its home, with earlier rows in every place between, and nothing else is in the index.
 -- The index that inserting gives is right, and no other is. For any homes.
 use mathlib.Core.Path.{_≡_, refl, sym, ap, subst, _∙_}
-use mathlib.Core.Bool.{Bool, true, false}
+use mathlib.Core.Bool.{true, false}
 use mathlib.Core.Option.{Option, none, some}
-use mathlib.Core.List.{List, [], _∷_}
-use mathlib.Core.Logic.{_⊎_, inl, inr, ⊎-elim}
+use mathlib.Core.List.{List}
+use mathlib.Core.Logic.{⊎-elim}
 use Prim.Native.Nat.{ℕ, zero, suc, _+_, _-_, _≤_, _<_}
 use native.Mathlib.Nat.{mod-lt, mod-eq-of-lt, add-mod-right, eq-or-lt-of-le, le-of-suc-le-suc}
 use native.Mathlib.Omega.{arith}
 use lib.Dec.{eqb}
-use lib.ListN.{length, getD, set, replicate, length-set, length-replicate, getD-replicate}
+use lib.ListN.{length, getD, set, length-set, length-replicate, getD-replicate}
 use lib.Seq.{getD-set-same, getD-set-other, ext-getD}
 use borrow.Author.Tests.{eqb-true, eqb-false}
-use Rattle.text.proofs.Bools.{lt-or-ge}
+use Rattle.text.proofs.Bools.{lt-or-ge, same-or-not}
 use Rattle.tables.specs.Entry.{placeRows}
-use Rattle.index.specs.First.{firstOf}
-use Rattle.index.specs.Index.{place, entry, placeFound, free, indexOf}
+use Rattle.index.specs.Index.{place, entry, sought, placeFound, free, indexOf}
+use Rattle.index.specs.Taken.{takenPlaces}
 use Rattle.index.proofs.Firsts.{first-at, first-none}
+use Rattle.index.proofs.Tally.{taken-put, taken-most, all-taken}
 
 pub record Held (l : List ℕ) (h r : ℕ) : Type 0 where
   pub far : ℕ
@@ -32,13 +33,6 @@ pub record Right (home : ℕ → ℕ) (n : ℕ) (l : List ℕ) : Type 0 where
 
 pub place-lt : (h d : ℕ) → place h d < placeRows
 place-lt h d = mod-lt (h + d) (omega arith)
-
-same-or-not : (p q : ℕ) → (p ≡ q) ⊎ (p ≡ q → ⊥)
-same-or-not p q = by-test (eqb p q) refl
-  where
-    by-test : (b : Bool) → eqb p q ≡ b → (p ≡ q) ⊎ (p ≡ q → ⊥)
-    by-test true e = inl (eqb-true p q e)
-    by-test false e = inr (eqb-false p q e)
 
 -- ---- no other index is right
 
@@ -79,7 +73,7 @@ module _ (home : ℕ → ℕ) (n : ℕ) where
 
 -- ---- a row put into a free place
 
-module _ (home : ℕ → ℕ) (n : ℕ) (l : List ℕ) (d : ℕ) (x : Right home n l) (f : firstOf (λ d. eqb (entry l (home n) d) 0) 0 placeRows ≡ some d) where
+module _ (home : ℕ → ℕ) (n : ℕ) (l : List ℕ) (d : ℕ) (x : Right home n l) (f : sought l (home n) (λ e. eqb e 0) ≡ some d) where
   abbrev to : ℕ
   to = place (home n) d
 
@@ -142,37 +136,6 @@ module _ (home : ℕ → ℕ) (n : ℕ) (l : List ℕ) (d : ℕ) (x : Right home
 
 -- ---- a free place is always met: each row takes one place at most
 
-abbrev isZero : ℕ → ℕ
-isZero zero = 1
-isZero (suc v) = 0
-
-abbrev zeros : List ℕ → ℕ
-zeros [] = 0
-zeros (v ∷ l) = isZero v + zeros l
-
-is-zero-le : (v : ℕ) → isZero v ≤ 1
-is-zero-le zero = omega arith
-is-zero-le (suc v) = omega arith
-
-zeros-set : (l : List ℕ) (p v : ℕ) → zeros l ≤ zeros (set l p v) + 1
-zeros-set [] p v = omega arith
-zeros-set (w ∷ l) zero v = omega (arith, is-zero-le w)
-zeros-set (w ∷ l) (suc p) v = omega (arith, zeros-set l p v)
-
-zeros-replicate : (n : ℕ) → zeros (replicate n 0) ≡ n
-zeros-replicate zero = refl
-zeros-replicate (suc n) = omega (arith, zeros-replicate n)
-
-zeros-index : (home : ℕ → ℕ) (n : ℕ) → placeRows ≤ zeros (indexOf home n) + n
-unfolding indexOf
-zeros-index home zero = omega (arith, zeros-replicate placeRows)
-zeros-index home (suc n) = omega (arith, zeros-index home n, zeros-set (indexOf home n) (free (indexOf home n) (home n)) (suc n))
-
-no-zeros : (l : List ℕ) → ((p : ℕ) → p < length l → getD l p 0 ≡ 0 → ⊥) → zeros l ≡ 0
-no-zeros [] h = refl
-no-zeros (zero ∷ l) h = absurd (h 0 (omega arith) refl)
-no-zeros (suc v ∷ l) h = omega (arith, no-zeros l (λ p k. h (suc p) (omega arith)))
-
 -- every place lies at some distance from home
 all-around : (h p : ℕ) → h < placeRows → p < placeRows → (d : ℕ) × (d < placeRows) × (place h d ≡ p)
 all-around h p a b =
@@ -181,13 +144,13 @@ all-around h p a b =
     (λ g. let e : h + (p - h) ≡ p = omega arith in (p - h, omega arith, rw e (mod-eq-of-lt b)))
     (lt-or-ge p h)
 
-pub always-free : (home : ℕ → ℕ) (n : ℕ) → n < placeRows → home n < placeRows → length (indexOf home n) ≡ placeRows
-    → firstOf (λ d. eqb (entry (indexOf home n) (home n) d) 0) 0 placeRows ≡ none → ⊥
+always-free : (home : ℕ → ℕ) (n : ℕ) → n < placeRows → home n < placeRows → length (indexOf home n) ≡ placeRows
+    → sought (indexOf home n) (home n) (λ e. eqb e 0) ≡ none → ⊥
 always-free home n m h s e =
-    let z = no-zeros (indexOf home n) (λ p l q.
+    let all = all-taken (indexOf home n) (λ p l q.
     let w = all-around (home n) p h (omega arith) in
     eqb-false _ _ (first-none (λ d. eqb (entry (indexOf home n) (home n) d) 0) placeRows e (w .0) (w .1)) (ap (λ q. getD (indexOf home n) q 0) (w .2) ∙ q)) in
-    omega (arith, zeros-index home n)
+    omega (arith, taken-most home n)
 
 -- ---- the index that inserting gives is right
 
@@ -198,9 +161,9 @@ right-index home zero m b = record {
   small = λ p l. omega (arith, getD-replicate {A = ℕ} placeRows p 0 0 l);
   held = λ r h. absurd (omega arith);
 }
-right-index home (suc n) m b = by-free (right-index home n (omega arith) (λ r h. b r (omega arith))) (firstOf (λ d. eqb (entry (indexOf home n) (home n) d) 0) 0 placeRows) refl
+right-index home (suc n) m b = by-free (right-index home n (omega arith) (λ r h. b r (omega arith))) (sought (indexOf home n) (home n) (λ e. eqb e 0)) refl
   where
-    by-free : Right home n (indexOf home n) → (r : Option ℕ) → firstOf (λ d. eqb (entry (indexOf home n) (home n) d) 0) 0 placeRows ≡ r
+    by-free : Right home n (indexOf home n) → (r : Option ℕ) → sought (indexOf home n) (home n) (λ e. eqb e 0) ≡ r
         → Right home (suc n) (set (indexOf home n) (placeFound (home n) r) (suc n))
     by-free x (some d) e = right-put home n (indexOf home n) d x e
     by-free x none e = absurd (always-free home n (omega arith) (b n (omega arith)) (x .size) e)
@@ -208,8 +171,17 @@ right-index home (suc n) m b = by-free (right-index home n (omega arith) (λ r h
 -- below placeRows rows the next row finds a free place
 pub free-met : (home : ℕ → ℕ) (n : ℕ) → n < placeRows → ((r : ℕ) → r ≤ n → home r < placeRows) → (free (indexOf home n) (home n) < placeRows) × (getD (indexOf home n) (free (indexOf home n) (home n)) 0 ≡ 0)
 unfolding free
-free-met home n m b = by-free (firstOf (λ d. eqb (entry (indexOf home n) (home n) d) 0) 0 placeRows) refl
+free-met home n m b = by-free (sought (indexOf home n) (home n) (λ e. eqb e 0)) refl
   where
-    by-free : (r : Option ℕ) → firstOf (λ d. eqb (entry (indexOf home n) (home n) d) 0) 0 placeRows ≡ r → (placeFound (home n) r < placeRows) × (getD (indexOf home n) (placeFound (home n) r) 0 ≡ 0)
+    by-free : (r : Option ℕ) → sought (indexOf home n) (home n) (λ e. eqb e 0) ≡ r → (placeFound (home n) r < placeRows) × (getD (indexOf home n) (placeFound (home n) r) 0 ≡ 0)
     by-free (some d) e = (place-lt (home n) d, eqb-true _ _ (first-at (λ d. eqb (entry (indexOf home n) (home n) d) 0) placeRows d e .1))
     by-free none e = absurd (always-free home n m (b n (omega arith)) (right-index home n (omega arith) (λ r h. b r (omega arith)) .size) e)
+
+-- so each row takes one place
+pub taken-index : (home : ℕ → ℕ) (n : ℕ) → n ≤ placeRows → ((r : ℕ) → r < n → home r < placeRows) → takenPlaces (indexOf home n) ≡ n
+unfolding indexOf
+taken-index home zero m b = omega (arith, taken-most home 0)
+taken-index home (suc n) m b =
+    let x = right-index home n (omega arith) (λ r h. b r (omega arith)) in
+    let f = free-met home n (omega arith) (λ r h. b r (omega arith)) in
+    omega (arith, taken-put (indexOf home n) (free (indexOf home n) (home n)) (suc n) (omega (arith, x .size, f .0)) (f .1) (omega arith), taken-index home n (omega arith) (λ r h. b r (omega arith)))

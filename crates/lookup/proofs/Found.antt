@@ -12,14 +12,14 @@ use borrow.Author.Tests.{le-leb, lt-ltb, eq-eqb}
 use Rattle.text.specs.Bytes.{sameBytes}
 use Rattle.text.proofs.Bools.{is-false, or-l, or-r}
 use Rattle.text.proofs.Words.{same-eq, eq-same}
-use Rattle.tables.specs.Entry.{nameRows, instanceRows, placeRows, nameRoom, namesSize, numsSize, lengthAt, nameAt, instanceCount, ownerAt, instanceAt, places}
+use Rattle.tables.specs.Entry.{nameRows, instanceRows, nameRoom, namesSize, numsSize, lengthAt, nameAt, instanceCount, ownerAt, instanceAt, places}
 use Rattle.tables.proofs.Means.{Means, means-le, means-lt, means-eq, means-and}
 use Rattle.tables.proofs.NameBytes.{lent-name, name-size}
 use Rattle.index.specs.Hash.{homeOf}
-use Rattle.index.specs.Index.{entry}
+use Rattle.index.specs.Index.{sought}
 use Rattle.lookup.specs.declared.find.Found.{Found}
 use Rattle.lookup.specs.declared.find.Found.the-variants.{At, Nothing}
-use Rattle.lookup.specs.Find.{lastBelow, rowIs, seekFrom, findName, instanceIs, findInstance, reachesIn, findFrom}
+use Rattle.lookup.specs.Find.{lastBelow, rowIs, endsAt, rowMet, findName, instanceIs, findInstance, reachesIn, findFrom}
 
 -- the number found is the last that passes below n, or none does
 abbrev Last : (ℕ → Bool) → ℕ → Found → Type 0
@@ -76,7 +76,7 @@ module _ (f : ℕ → Bool) where
 -- ---- the look-ups, in tables of their sizes
 
 pub name-found : (names nums name : List ℕ) → length names ≡ namesSize → length nums ≡ numsSize
-    → findName names nums name ≡ seekFrom (entry (places nums) (homeOf name)) (rowIs names nums name) 0 placeRows
+    → findName names nums name ≡ rowMet (places nums) (homeOf name) (sought (places nums) (homeOf name) (endsAt names nums name))
 unfolding findName
 name-found names nums name h k = rw (eq-eqb (length names) namesSize h, eq-eqb (length nums) numsSize k)
 

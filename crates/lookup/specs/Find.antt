@@ -1,15 +1,15 @@
 -- What a look-up finds: the row of a name, by the index; the last row of an instance, and of one that bears a number or a higher one.
-use mathlib.Core.Bool.{Bool, _&&_, cond}
+use mathlib.Core.Bool.{Bool, _&&_, _||_, cond}
 use mathlib.Core.Option.{Option, none, some}
 use mathlib.Core.List.{List}
 use Prim.Native.Nat.{ℕ, zero, suc, _-_}
 use lib.Dec.{eqb, leb, ltb}
 use lib.ListN.{length}
 use Rattle.text.specs.Bytes.{sameBytes}
-use Rattle.tables.specs.Entry.{nameRows, instanceRows, placeRows, nameRoom, namesSize, numsSize, nameCount, lengthAt, nameAt, instanceCount, ownerAt, instanceAt, places}
+use Rattle.tables.specs.Entry.{nameRows, instanceRows, nameRoom, namesSize, numsSize, nameCount, lengthAt, nameAt, instanceCount, ownerAt, instanceAt, places}
 use Rattle.index.specs.Hash.{homeOf}
 use Rattle.index.specs.First.{firstOf}
-use Rattle.index.specs.Index.{entry}
+use Rattle.index.specs.Index.{entry, sought}
 use Rattle.lookup.specs.declared.find.Found.{Found}
 use Rattle.lookup.specs.declared.find.Found.the-variants.{At, Nothing}
 
@@ -22,16 +22,19 @@ lastBelow f (suc n) = cond (f n) (At n) (lastBelow f n)
 unfoldable pub rowIs : List ℕ → List ℕ → List ℕ → ℕ → Bool
 rowIs names nums name i = ltb i nameRows && (eqb (lengthAt nums i) (length name) && (leb (lengthAt nums i) nameRoom && sameBytes (nameAt names nums i) name))
 
--- of n entries from the distance i on, those of rows that fail the test are passed over: a free place ends the search, and a row that passes is found
-unfoldable pub seekFrom : (ℕ → ℕ) → (ℕ → Bool) → ℕ → ℕ → Found
-seekFrom g t i zero = Nothing
-seekFrom g t i (suc n) = cond (eqb (g i) 0) Nothing (cond (t (g i - 1)) (At (g i - 1)) (seekFrom g t (suc i) n))
+-- by the index: a search ends at a free place, or at that of a row that holds the name
+unfoldable pub endsAt : List ℕ → List ℕ → List ℕ → ℕ → Bool
+endsAt names nums name e = eqb e 0 || rowIs names nums name (e - 1)
 
--- by the index, from the name's home on
+-- the row at the distance found: none where the place is free
+abbrev pub rowMet : List ℕ → ℕ → Option ℕ → Found
+rowMet l home none = Nothing
+rowMet l home (some d) = cond (eqb (entry l home d) 0) Nothing (At (entry l home d - 1))
+
 unfoldable pub findName : List ℕ → List ℕ → List ℕ → Found
 findName names nums name =
     cond (eqb (length names) namesSize && eqb (length nums) numsSize)
-    (seekFrom (entry (places nums) (homeOf name)) (rowIs names nums name) 0 placeRows)
+    (rowMet (places nums) (homeOf name) (sought (places nums) (homeOf name) (endsAt names nums name)))
     Nothing
 
 -- by a walk of all rows, the first that holds the name. In tables that 16 does not refuse it is the same (`find-walks`, lookup/proofs/Walks.antt)

@@ -4,8 +4,8 @@ ghost use mathlib.Core.Bool.{false};
 ghost use Prim.Native.Nat.{_+_, _≤_, _<_};
 ghost use lib.ListN.{length};
 ghost use Rattle.tables.specs.Entry.{namesSize, numsSize, instanceRows, placeRows};
-ghost use Rattle.index.specs.Index.{entry};
-ghost use Rattle.lookup.specs.Find.{rowIs, seekFrom, instanceIs, reachesIn, findName, findInstance, findFrom, lastBelow};
+ghost use Rattle.index.specs.Index.{sought};
+ghost use Rattle.lookup.specs.Find.{endsAt, rowMet, instanceIs, reachesIn, findName, findInstance, findFrom, lastBelow};
 use crate::row::row_is;
 use index::hash::home_of;
 use tables::entry::*;
@@ -18,7 +18,7 @@ pub enum Found {
 // The row of a name, by the index: from its home on up to a free place, or all around.
 fn seek(names: &[u8], nums: &[u32], index: &[u32], name: &[u8], home: usize) -> Found
     requires { ⌜ (length (now names) ≡ namesSize) × ((length (now nums) ≡ numsSize) × ((length (now index) ≡ placeRows) × (home < placeRows))) ⌝ }
-    ensures { λ r. ⌜ r ≡ seekFrom (entry (now (index .entry)) home) (rowIs (now (names .entry)) (now (nums .entry)) (now (name .entry))) 0 placeRows ⌝ }
+    ensures { λ r. ⌜ r ≡ rowMet (now (index .entry)) home (sought (now (index .entry)) home (endsAt (now (names .entry)) (now (nums .entry)) (now (name .entry)))) ⌝ }
 {
     let mut d = 0;
     while d < PLACE_ROWS {

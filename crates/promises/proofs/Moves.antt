@@ -9,6 +9,7 @@ use native.Mathlib.Omega.{arith}
 use lib.Dec.{eqb}
 use lib.ListN.{length, set}
 use borrow.Author.Tests.{eqb-true, eqb-false, eq-eqb, ne-eqb, lt-ltb}
+use Rattle.text.proofs.Bools.{same-or-not}
 use Rattle.tables.specs.Entry.{nameRows, instanceRows, numsSize, instancesIndex, ownerColumn, instanceColumn, stateColumn, instanceCount, ownerAt, instanceAt, stateAt}
 use Rattle.tables.proofs.Stores.{same, before}
 use Rattle.lookup.specs.declared.find.Found.the-variants.{At, Nothing}
@@ -34,13 +35,6 @@ pub record HasRow (nums : List ℕ) (q i n t : ℕ) : Type 0 where
   pub owner : ownerAt nums q ≡ i
   pub number : instanceAt nums q ≡ n
   pub state : stateAt nums q ≡ t
-
-same-or-not : (r j : ℕ) → (r ≡ j) ⊎ (r ≡ j → ⊥)
-same-or-not r j = by-test (eqb r j) refl
-  where
-    by-test : (b : Bool) → eqb r j ≡ b → (r ≡ j) ⊎ (r ≡ j → ⊥)
-    by-test true q = inl (eqb-true r j q)
-    by-test false q = inr (eqb-false r j q)
 
 -- ---- no row is stored and none is given back
 

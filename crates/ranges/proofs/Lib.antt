@@ -1,7 +1,6 @@
 -- The laws of the ranges, which the proofs of this crate and of the crates above it cite.
 pub mod UpTo
 pub mod States
-pub mod Tally
 pub mod Tested
 pub mod Valid
 pub mod FreshTables

@@ -13,16 +13,16 @@ use Rattle.text.specs.Bytes.{sameBytes}
 use Rattle.text.proofs.Bools.{and-l, and-r, or-l, or-r, clash}
 use Rattle.text.proofs.Words.{same-eq, eq-same}
 use Rattle.tables.specs.Entry.{placeRows, nameCount, places}
-use Rattle.index.specs.First.{firstOf}
-use Rattle.index.specs.Index.{entry, placeFound, indexOf, homeAt, indexFrom}
+use Rattle.index.specs.Index.{entry, sought, placeFound, indexOf, homeAt, indexFrom}
+use Rattle.index.specs.Taken.{takenPlaces}
 use Rattle.index.proofs.Firsts.{first-at, first-is}
 use Rattle.index.proofs.Folds.{home-at-lt}
-use Rattle.index.proofs.Right.{Held, Right, right-same, right-index}
+use Rattle.index.proofs.Tally.{taken-by}
+use Rattle.index.proofs.Right.{Held, Right, right-same, right-index, taken-index}
 use Rattle.index.proofs.Indexes.{places-size}
 use Rattle.ranges.specs.Range.{Counted, nameOk, upTo, indexOk}
-use Rattle.ranges.specs.IndexCode.{vacant, holdsRow, rowPlaced, takenPlaces}
+use Rattle.ranges.specs.IndexCode.{vacant, holdsRow, rowPlaced, nameTests}
 use Rattle.ranges.proofs.UpTo.{up-each, up-all, crossed, up-and}
-use Rattle.ranges.proofs.Tally.{taken-by, taken-index}
 
 -- ---- an entry is vacant to row r if it is of no row before r
 
@@ -40,11 +40,11 @@ earlier r e v = let z = eqb-false e 0 (or-l (eqb e 0) (ltb r e) v) in (omega ari
 
 module _ (l : List ℕ) (home : ℕ → ℕ) where
   -- the distance at which row r is looked for, and the place
-  abbrev sought : ℕ → Option ℕ
-  sought r = firstOf (λ d. vacant r (entry l (home r) d)) 0 placeRows
+  abbrev looked : ℕ → Option ℕ
+  looked r = sought l (home r) (vacant r)
 
   abbrev spot : ℕ → ℕ
-  spot r = placeFound (home r) (sought r)
+  spot r = placeFound (home r) (looked r)
 
   -- a row that is held is where it is looked for
   held-placed : (r : ℕ) → Held l (home r) r → rowPlaced l (home r) r ≡ true
@@ -55,11 +55,11 @@ module _ (l : List ℕ) (home : ℕ → ℕ) where
       (eq-eqb _ _ (x .there))
 
   -- where a row passes, it lies where it is looked for
-  placed-found : (r : ℕ) → rowPlaced l (home r) r ≡ true → (d : ℕ) × (sought r ≡ some d) × (entry l (home r) d ≡ suc r)
+  placed-found : (r : ℕ) → rowPlaced l (home r) r ≡ true → (d : ℕ) × (looked r ≡ some d) × (entry l (home r) d ≡ suc r)
   unfolding rowPlaced
-  placed-found r t = by-found (sought r) refl t
+  placed-found r t = by-found (looked r) refl t
     where
-      by-found : (o : Option ℕ) → sought r ≡ o → holdsRow l (home r) r o ≡ true → (d : ℕ) × (sought r ≡ some d) × (entry l (home r) d ≡ suc r)
+      by-found : (o : Option ℕ) → looked r ≡ o → holdsRow l (home r) r o ≡ true → (d : ℕ) × (looked r ≡ some d) × (entry l (home r) d ≡ suc r)
       by-found (some d) e t = (d, e, eqb-true _ _ t)
       by-found none e t = absurd (clash false t refl)
 
@@ -129,7 +129,7 @@ module _ (l : List ℕ) (home : ℕ → ℕ) (n : ℕ) (size : length l ≡ plac
 
 -- the code tests a name's row and its place in one turn, and counts the places last: between them stand the other tests
 pub index-tested : (names nums ticks : List ℕ) → Counted nums → (others : Bool)
-    → (upTo (λ i. nameOk names nums ticks i && rowPlaced (places nums) (homeAt names nums i) i) (nameCount nums) && others) && eqb (takenPlaces (places nums)) (nameCount nums)
+    → (upTo (nameTests names nums ticks (places nums)) (nameCount nums) && others) && eqb (takenPlaces (places nums)) (nameCount nums)
     ≡ upTo (nameOk names nums ticks) (nameCount nums) && (others && indexOk names nums)
 unfolding indexOk indexFrom
 index-tested names nums ticks s others =

@@ -1,14 +1,12 @@
--- How the code tests an index, without a second one: each row is where it belongs, and as many places are taken as there are rows. That this is the test of `indexOk` is `index-tested`
--- (ranges/proofs/Tested.antt), where the first is tested along with the name's row.
-use mathlib.Core.Bool.{Bool, false, not, _||_}
+-- How the code tests an index, without a second one: each row is where it belongs, and as many places are taken as there are rows (`takenPlaces`, index/specs/Taken.antt). That this
+-- is the test of `indexOk` is `index-tested` (ranges/proofs/Tested.antt).
+use mathlib.Core.Bool.{Bool, false, _&&_, _||_}
 use mathlib.Core.Option.{Option, none, some}
-use mathlib.Core.List.{List, [], _∷_}
-use Prim.Native.Nat.{ℕ, suc, _+_}
+use mathlib.Core.List.{List}
+use Prim.Native.Nat.{ℕ, suc}
 use lib.Dec.{eqb, ltb}
-use Rattle.rules.specs.Lists.{oneIf}
-use Rattle.tables.specs.Entry.{placeRows}
-use Rattle.index.specs.First.{firstOf}
-use Rattle.index.specs.Index.{entry}
+use Rattle.index.specs.Index.{entry, sought, homeAt}
+use Rattle.ranges.specs.Range.{nameOk}
 
 -- an entry is of no row before row r
 unfoldable pub vacant : ℕ → ℕ → Bool
@@ -21,9 +19,8 @@ holdsRow l home r (some d) = eqb (entry l home d) (suc r)
 
 -- the first place from home on that holds no row before row r holds row r
 unfoldable pub rowPlaced : List ℕ → ℕ → ℕ → Bool
-rowPlaced l home r = holdsRow l home r (firstOf (λ d. vacant r (entry l home d)) 0 placeRows)
+rowPlaced l home r = holdsRow l home r (sought l home (vacant r))
 
--- how many places are taken
-unfoldable pub takenPlaces : List ℕ → ℕ
-takenPlaces [] = 0
-takenPlaces (v ∷ l) = oneIf (not (eqb v 0)) + takenPlaces l
+-- a name's row is in its range, and is where it belongs in the index l: what the code tests of each name in one turn
+abbrev pub nameTests : List ℕ → List ℕ → List ℕ → List ℕ → ℕ → Bool
+nameTests names nums ticks l i = nameOk names nums ticks i && rowPlaced l (homeAt names nums i) i

@@ -5,7 +5,8 @@ ghost use Prim.Native.Nat.{_<_, _≤_};
 ghost use lib.ListN.{length};
 ghost use Rattle.tables.specs.Entry.{namesSize, numsSize, nameRows, placeRows, nameRoom, lengthAt};
 ghost use Rattle.index.specs.Index.{homeAt};
-ghost use Rattle.ranges.specs.IndexCode.{rowPlaced, takenPlaces};
+ghost use Rattle.index.specs.Taken.{takenPlaces};
+ghost use Rattle.ranges.specs.IndexCode.{rowPlaced};
 use index::hash::home_of;
 use tables::entry::*;
 

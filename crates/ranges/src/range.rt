@@ -1,14 +1,12 @@
 // The sizes of lent tables, 15, and the ranges of their entries, 16.
 ghost use mathlib.Core.Path.{_≡_};
-ghost use mathlib.Core.Bool.{_&&_};
 ghost use Prim.Native.Nat.{_<_, _≤_};
 ghost use lib.ListN.{length};
 ghost use Rattle.tables.specs.Sized.{Sized};
 ghost use Rattle.tables.specs.Entry.{namesSize, numsSize, ticksSize, nameRows, instanceRows, placeRows};
-ghost use Rattle.index.specs.Index.{homeAt};
 ghost use Rattle.ranges.specs.Range.{Counted, countsOk, lineLevelOk, timesOk, holderOk, coreOk, standingOk, sumsOk, bytesOk, nameOk, instanceOk, upTo, inRange};
 ghost use Rattle.ranges.specs.Range.{tableAnswer};
-ghost use Rattle.ranges.specs.IndexCode.{rowPlaced};
+ghost use Rattle.ranges.specs.IndexCode.{nameTests};
 use crate::placed::home_at;
 use crate::placed::row_placed;
 use crate::placed::taken_places;
@@ -142,7 +140,7 @@ fn instance_ok(nums: &[u32], j: usize) -> bool
 // Whether the row of each of n names is in its range and is where it belongs in the index: in one loop, which is quicker than two.
 fn names_ok(names: &[u8], nums: &[u32], ticks: &[u64], index: &[u32], n: usize) -> bool
     requires { ⌜ (n ≤ nameRows) × (Sized (now names) (now nums) (now ticks) × (Counted (now nums) × (length (now index) ≡ placeRows))) ⌝ }
-    ensures { λ r. ⌜ r ≡ upTo (λ i. nameOk (now (names .entry)) (now (nums .entry)) (now (ticks .entry)) i && rowPlaced (now (index .entry)) (homeAt (now (names .entry)) (now (nums .entry)) i) i) n ⌝ }
+    ensures { λ r. ⌜ r ≡ upTo (nameTests (now (names .entry)) (now (nums .entry)) (now (ticks .entry)) (now (index .entry))) n ⌝ }
 {
     let mut i = 0;
     while i < n {

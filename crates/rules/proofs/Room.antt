@@ -61,7 +61,7 @@ module _ {A : Type 0} where
   longer-pass eq p xs [] = omega arith
   longer-pass eq p xs (y ∷ ys) = omega (arith, one-passes p (any (eq y) xs) xs y, longer-pass eq p (addNew eq xs y) ys)
 
-at-most-one : (b : Bool) → oneIf b ≤ 1
+pub at-most-one : (b : Bool) → oneIf b ≤ 1
 at-most-one true = omega arith
 at-most-one false = omega arith
 

@@ -81,16 +81,16 @@ fn mixed() -> Vec<Vec<String>> {
     ["", "_Brake", "_Hoist_10ms", "_Winch_Position"].map(numbered).into()
 }
 
-/// Two or three words, one after the other.
+/// Two words, one after the other, and with a time behind them.
 fn worded() -> Vec<Vec<String>> {
     let words = [
         "Anchor", "Boom", "Brake", "Cable", "Davit", "Drum", "Gear", "Hoist", "Hook", "Log", "Motor", "Pump", "Rope",
         "Slew", "Valve", "Winch",
     ];
     let two = words.iter().flat_map(|a| words.iter().map(move |b| format!("TASK_{a}_{b}"))).take(240).collect();
-    let three =
+    let timed =
         words.iter().flat_map(|a| words.iter().map(move |b| format!("{a}{b}_{}ms", 5 * a.len()))).take(240).collect();
-    vec![two, three]
+    vec![two, timed]
 }
 
 fn all_sets() -> Vec<Vec<String>> {

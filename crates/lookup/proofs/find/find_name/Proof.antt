@@ -3,11 +3,11 @@ use mathlib.Core.Path.{sym, ap, _∙_}
 use native.Mathlib.Omega.{arith}
 use borrow.Author.Needs.{needs}
 use borrow.Author.Tests.{eq-eqb, ne-eqb}
-use Rattle.tables.specs.Entry.{placeRows, places}
-use Rattle.index.specs.Index.{entry}
+use Rattle.tables.specs.Entry.{places}
+use Rattle.index.specs.Index.{sought}
 use Rattle.index.proofs.Folds.{home-lt}
 use Rattle.index.proofs.Indexes.{places-size}
-use Rattle.lookup.specs.Find.{rowIs, seekFrom, findName}
+use Rattle.lookup.specs.Find.{endsAt, rowMet, findName}
 use Rattle.lookup.proofs.Found.{name-found}
 use Rattle.lookup.proofs.find.find_name.Statement.{statement}
 use Rattle.lookup.proofs.find.find_name.Tie as tie
@@ -31,7 +31,7 @@ returns-3 c =
     let sized = c .before .before .before in
     let a = sized .before .before .before .before .before .args in
     c .seek .ensures
-    ∙ ap (λ h. seekFrom (entry (places (a .nums .now)) h) (rowIs (a .names .now) (a .nums .now) (a .name .now)) 0 placeRows) (c .before .home-of .ensures)
+    ∙ ap (λ h. rowMet (places (a .nums .now)) h (sought (places (a .nums .now)) h (endsAt (a .names .now) (a .nums .now) (a .name .now)))) (c .before .home-of .ensures)
     ∙ sym (name-found _ _ _ (sized .before .if1 .left) (sized .if2 .left))
 
 pub find-name-spec : {M : Type 1} → statement M

@@ -6,8 +6,8 @@ use native.Mathlib.Omega.{arith}
 use lib.ListN.{drop}
 use borrow.Author.Needs.{needs}
 use Rattle.tables.specs.Entry.{placeRows}
-use Rattle.ranges.specs.IndexCode.{takenPlaces}
-use Rattle.ranges.proofs.Tally.{turn-taken, turn-free, taken-end}
+use Rattle.index.specs.Taken.{takenPlaces}
+use Rattle.index.proofs.Tally.{turn-taken, turn-free, taken-end}
 use Rattle.ranges.proofs.placed.taken_places.Statement.{statement}
 use Rattle.ranges.proofs.placed.taken_places.Tie as tie
 

@@ -1,27 +1,21 @@
 -- `ranges::range::names_ok` meets its contract. The invariant: every row before `i` passes both tests. That a name's row passes says how long it may be, which its home needs.
 use mathlib.Core.Path.{_≡_, sym, ap, _∙_}
-use mathlib.Core.Bool.{Bool, true, _&&_}
-use mathlib.Core.List.{List}
+use mathlib.Core.Bool.{true}
 use Prim.Native.Nat.{ℕ, _-_, _≤_, _<_}
 use native.Mathlib.Omega.{arith}
 use borrow.Author.Count.{below-none, below-more}
 use borrow.Author.Needs.{needs}
 use Rattle.tables.proofs.Chains.{pass, stop, passed, failed}
-use Rattle.index.specs.Index.{homeAt}
 use Rattle.index.proofs.Folds.{home-at-lt}
 use Rattle.ranges.specs.Range.{nameOk}
-use Rattle.ranges.specs.IndexCode.{rowPlaced}
+use Rattle.ranges.specs.IndexCode.{rowPlaced, nameTests}
 use Rattle.ranges.proofs.UpTo.{up-all, up-not}
 use Rattle.ranges.proofs.Valid.{name-mean}
 use Rattle.ranges.proofs.range.names_ok.Statement.{statement}
 use Rattle.ranges.proofs.range.names_ok.Tie as tie
 
--- both tests of row k
-abbrev rowTests : List ℕ → List ℕ → List ℕ → List ℕ → ℕ → Bool
-rowTests names nums ticks index k = nameOk names nums ticks k && rowPlaced index (homeAt names nums k) k
-
 abbrev Inv-loop : tie.InvT-loop
-Inv-loop names nums ticks index n i₀ i = (i ≤ n) × ((k : ℕ) → k < i → rowTests names nums ticks index k ≡ true)
+Inv-loop names nums ticks index n i₀ i = (i ≤ n) × ((k : ℕ) → k < i → nameTests names nums ticks index k ≡ true)
 
 abbrev μ-loop : tie.MeasureT-loop
 μ-loop names nums ticks index n i₀ i = n - i
@@ -64,7 +58,7 @@ row-placed-requires c κs =
 said : (c : tie.After-row-placed Inv-loop μ-loop) →
     let turn = named c .before .before in
     let a = start turn .args in
-    c .row-placed .result ≡ rowTests (a .names .now) (a .nums .now) (a .ticks .now) (a .index .now) (turn .before .loop .i)
+    c .row-placed .result ≡ nameTests (a .names .now) (a .nums .now) (a .ticks .now) (a .index .now) (turn .before .loop .i)
 said c =
     let turn = named c .before .before in
     let a = start turn .args in

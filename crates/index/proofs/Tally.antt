@@ -1,7 +1,7 @@
 -- How many places of an index are taken: the steps of the count, and what it tells. Where as many places are taken as there are rows and each row is somewhere, nothing else is in
 -- the index.
 use mathlib.Core.Path.{_≡_, refl, ap, _∙_}
-use mathlib.Core.Bool.{Bool, true, false, not}
+use mathlib.Core.Bool.{not}
 use mathlib.Core.List.{List, [], _∷_}
 use mathlib.Core.Logic.{⊎-elim}
 use Prim.Native.Nat.{ℕ, zero, suc, _+_, _≤_, _<_}
@@ -9,14 +9,14 @@ use native.Mathlib.Numerals.{add-one}
 use native.Mathlib.Omega.{arith}
 use lib.Dec.{eqb}
 use lib.ListN.{length, getD, drop, set, replicate, drop-of-length-le, List·getD-eq-default}
-use lib.Seq.{drop-cons, getD-set-other}
-use borrow.Author.Tests.{eqb-true, eqb-false, ne-eqb}
-use Rattle.text.proofs.Bools.{lt-or-ge}
+use lib.Seq.{drop-cons, getD-set-other, set-out}
+use borrow.Author.Tests.{ne-eqb}
+use Rattle.text.proofs.Bools.{lt-or-ge, same-or-not}
 use Rattle.rules.specs.Lists.{oneIf}
+use Rattle.rules.proofs.Room.{at-most-one}
 use Rattle.tables.specs.Entry.{placeRows}
 use Rattle.index.specs.Index.{free, indexOf}
-use Rattle.index.proofs.Right.{right-index, free-met}
-use Rattle.ranges.specs.IndexCode.{takenPlaces}
+use Rattle.index.specs.Taken.{takenPlaces}
 
 -- 1 for a taken place, 0 for a free one
 abbrev oneTaken : ℕ → ℕ
@@ -49,7 +49,7 @@ taken-set [] p v h = absurd (omega arith)
 taken-set (w ∷ l) zero v h = omega arith
 taken-set (w ∷ l) (suc p) v h = omega (arith, taken-set l p v (omega arith))
 
-taken-put : (l : List ℕ) (p v : ℕ) → p < length l → getD l p 0 ≡ 0 → 1 ≤ v → takenPlaces (set l p v) ≡ suc (takenPlaces l)
+pub taken-put : (l : List ℕ) (p v : ℕ) → p < length l → getD l p 0 ≡ 0 → 1 ≤ v → takenPlaces (set l p v) ≡ suc (takenPlaces l)
 taken-put l p v h f s = omega (arith, taken-set l p v h, ap oneTaken f, one-taken v s)
 
 -- a place that is taken is one of the places
@@ -70,26 +70,33 @@ module _ (at : ℕ → ℕ) where
   pub taken-by : (n : ℕ) (l : List ℕ) → ((r : ℕ) → r < n → getD l (at r) 0 ≡ suc r) → takenPlaces l ≤ n → (p : ℕ) → 1 ≤ getD l p 0 → (r : ℕ) × (r < n) × (p ≡ at r)
   taken-by zero l h t p k = absurd (omega (arith, taken-freed l p k))
   taken-by (suc n) l h t p k =
-      by-test (eqb p (at n)) refl
-      (λ e.
-      taken-by n (set l (at n) 0) (rows-left n l h) (omega (arith, taken-freed l (at n) (omega (arith, h n (omega arith))))) p
-      (rw (getD-set-other l (at n) p 0 0 (eqb-false p (at n) e)) k))
-    where
-      by-test : (b : Bool) → eqb p (at n) ≡ b → (eqb p (at n) ≡ false → (r : ℕ) × (r < n) × (p ≡ at r)) → (r : ℕ) × (r < suc n) × (p ≡ at r)
-      by-test true e other = (n, omega arith, eqb-true p (at n) e)
-      by-test false e other = let w = other e in (w .0, omega (arith, w .1), w .2)
+      ⊎-elim (λ e. (n, omega arith, e))
+      (λ o.
+      let w = taken-by n (set l (at n) 0) (rows-left n l h) (omega (arith, taken-freed l (at n) (omega (arith, h n (omega arith))))) p (rw (getD-set-other l (at n) p 0 0 o) k) in
+      (w .0, omega (arith, w .1), w .2))
+      (same-or-not p (at n))
 
--- ---- the index that inserting gives has a taken place for each row
+-- ---- how many places the rows of an index take
 
 none-taken : (n : ℕ) → takenPlaces (replicate n 0) ≡ 0
 unfolding takenPlaces
 none-taken zero = refl
 none-taken (suc n) = omega (arith, none-taken n)
 
-pub taken-index : (home : ℕ → ℕ) (n : ℕ) → n ≤ placeRows → ((r : ℕ) → r < n → home r < placeRows) → takenPlaces (indexOf home n) ≡ n
+one-more : (l : List ℕ) (p v : ℕ) → takenPlaces (set l p v) ≤ takenPlaces l + 1
+one-more l p v = ⊎-elim (λ h. omega (arith, taken-set l p v h, at-most-one (not (eqb v 0)))) (λ h. omega (arith, ap takenPlaces (set-out l p v h))) (lt-or-ge p (length l))
+
+-- each takes one place at most
+pub taken-most : (home : ℕ → ℕ) (n : ℕ) → takenPlaces (indexOf home n) ≤ n
 unfolding indexOf
-taken-index home zero m b = none-taken placeRows
-taken-index home (suc n) m b =
-    let x = right-index home n (omega arith) (λ r h. b r (omega arith)) in
-    let f = free-met home n (omega arith) (λ r h. b r (omega arith)) in
-    omega (arith, taken-put (indexOf home n) (free (indexOf home n) (home n)) (suc n) (omega (arith, x .size, f .0)) (f .1) (omega arith), taken-index home n (omega arith) (λ r h. b r (omega arith)))
+taken-most home zero = omega (arith, none-taken placeRows)
+taken-most home (suc n) = omega (arith, taken-most home n, one-more (indexOf home n) (free (indexOf home n) (home n)) (suc n))
+
+-- where no place is free, all are taken
+pub all-taken : (l : List ℕ) → ((p : ℕ) → p < length l → getD l p 0 ≡ 0 → ⊥) → takenPlaces l ≡ length l
+unfolding takenPlaces
+all-taken [] h = refl
+all-taken (v ∷ l) h = omega (arith, one-taken v (some-there v (h 0 (omega arith))), all-taken l (λ p k. h (suc p) (omega arith)))
+  where
+    some-there : (v : ℕ) → (v ≡ 0 → ⊥) → 1 ≤ v
+    some-there v o = omega arith
