@@ -36,12 +36,23 @@ start() {
     work=$(mktemp -d "$root/target/bench.XXXXXX") || die "cannot write in $root/target"
 }
 
+# TARGET OPTIONS..: builds the Rust package into a folder.
+compile() {
+    target=$1
+    shift
+    cargo build --release --quiet -j1 --manifest-path "$here/baseline/Cargo.toml" --target-dir "$target" "$@" ||
+        die 'the baseline could not be built'
+}
+
+# Builds the baseline, and sets $make_trace, $fast_reader and $one_byte_reader, which is fast_reader built to look at one byte at a time.
 build_baseline() {
     say 'building'
-    cargo build --release --quiet -j1 --manifest-path "$here/baseline/Cargo.toml" --target-dir "$here/baseline/target" ||
-        die 'the baseline could not be built'
-    make_trace=${MAKE_TRACE:-$here/baseline/target/release/make_trace}
-    fast_reader=$here/baseline/target/release/fast_reader
+    # a folder for each, since cargo keeps one program of a name in a folder
+    compile "$here/baseline/target/one_byte" --bin fast_reader --features one_byte
+    one_byte_reader=$target/release/fast_reader
+    compile "$here/baseline/target"
+    fast_reader=$target/release/fast_reader
+    make_trace=${MAKE_TRACE:-$target/release/make_trace}
 }
 
 # Builds all, and sets $program: the one that the user gave, or this repository's.
@@ -112,11 +123,13 @@ clock_nothing() {
 
 # ---- traces and answers
 
-# TRACE PROGRAM: the program must accept the trace $work/TRACE.btf and print what fast_reader prints.
+# TRACE PROGRAM: the program must accept the trace $work/TRACE.btf and print what both builds of fast_reader print.
 compare() {
     "$2" <"$work/$1.btf" >"$work/answer.program"
-    "$fast_reader" <"$work/$1.btf" >"$work/answer.fast_reader"
-    cmp "$work/answer.program" "$work/answer.fast_reader" >&2 || die "$2 and fast_reader print different answers"
+    for reader in "$fast_reader" "$one_byte_reader"; do
+        "$reader" <"$work/$1.btf" >"$work/answer.fast_reader"
+        cmp "$work/answer.program" "$work/answer.fast_reader" >&2 || die "$2 and $reader print different answers"
+    done
     grep -q '^verdict 0 ' "$work/answer.program" || die 'the trace was refused'
 }
 

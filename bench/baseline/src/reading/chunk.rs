@@ -2,7 +2,8 @@
 
 use std::io::{self, ErrorKind, Read};
 
-use super::separators::{Separators, BLOCK};
+use super::line::{Line, BLOCK};
+use super::looking::LineFinder;
 
 const MOST_BYTES: usize = 64 * 1024;
 
@@ -16,24 +17,18 @@ const BEHIND: usize = 2 * BLOCK;
 pub struct Chunk {
     bytes: Vec<u8>,
     have: usize,
-    pub separators: Separators,
+    finder: LineFinder,
 }
 
 impl Chunk {
     pub fn new() -> Chunk {
-        Chunk {
-            bytes: vec![0; MOST_BYTES + BEHIND],
-            have: 0,
-            separators: Separators::for_chunks_of(MOST_BYTES + BEHIND),
-        }
+        Chunk { bytes: vec![0; MOST_BYTES + BEHIND], have: 0, finder: LineFinder::for_chunks_of(MOST_BYTES + BEHIND) }
     }
 
-    /// Reads behind what was kept, and finds the separators; whether there was
-    /// more to read.
+    /// Reads behind what was kept; whether there was more to read.
     pub fn fill(&mut self, input: &mut impl Read) -> io::Result<bool> {
         let got = read(input, &mut self.bytes[self.have..MOST_BYTES])?;
         self.have += got;
-        self.find_separators();
         Ok(got > 0)
     }
 
@@ -43,20 +38,15 @@ impl Chunk {
         if self.have > 0 && self.bytes[self.have - 1] != b'\r' {
             self.bytes[self.have] = b'\n';
             self.have += 1;
-            self.find_separators();
         }
     }
 
-    fn find_separators(&mut self) {
+    /// The whole lines; and the bytes, with some behind them that belong to no
+    /// line.
+    pub fn lines(&mut self) -> (impl Iterator<Item = Line> + '_, &[u8]) {
         let blocks = self.have.div_ceil(BLOCK) * BLOCK;
         self.bytes[self.have..blocks].fill(0);
-        self.separators.find(&self.bytes[..blocks]);
-    }
-
-    /// The bytes, with some behind them that belong to no line.
-    #[inline(always)]
-    pub fn bytes(&self) -> &[u8] {
-        &self.bytes
+        (self.finder.lines(&self.bytes[..blocks]), &self.bytes)
     }
 
     /// Drops the lines before a place.

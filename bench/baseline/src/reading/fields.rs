@@ -35,14 +35,4 @@ impl Fields {
             note: has_note.then(|| Part::between(comma(6) + 1, end)),
         })
     }
-
-    /// How many commas it was cut at.
-    #[inline(always)]
-    pub fn commas(&self) -> usize {
-        if self.note.is_some() {
-            7
-        } else {
-            6
-        }
-    }
 }

@@ -6,6 +6,7 @@ use super::event_line::read;
 use super::event_table::EventTable;
 use super::fields::Fields;
 use super::history::History;
+use super::line::Line;
 use super::parameters::{parameter, Parameter, VERSION_LINE};
 use super::refusal::{Refusal, Refused};
 use super::{sheet, Answer};
@@ -35,16 +36,14 @@ impl Judge {
 
     /// Takes the whole lines of a chunk and keeps the rest of it.
     pub fn take_lines(&mut self, chunk: &mut Chunk) -> Result<(), Refused> {
+        let (lines, bytes) = chunk.lines();
         let mut start = 0;
-        let mut commas = 0;
-        for &end in chunk.separators.ends() {
-            let end = end as usize;
-            match self.take_line(chunk, start, end, commas) {
-                Ok(count) => commas += count,
-                Err(why) => return Err(self.refused(why)),
+        for line in lines {
+            if let Err(why) = self.take_line(bytes, &line) {
+                return Err(self.refused(why));
             }
             self.lines += 1;
-            start = end + 1;
+            start = line.end + 1;
         }
         chunk.keep_from(start);
         if chunk.left() > MOST_KEPT {
@@ -69,22 +68,19 @@ impl Judge {
         Refused { why, line: self.lines + 1 }
     }
 
-    /// Takes the line between two places, with so many commas of the chunk
-    /// before it; how many commas it has.
     #[inline(always)]
-    fn take_line(&mut self, chunk: &Chunk, start: usize, end: usize, passed: usize) -> Result<usize, Refusal> {
-        let bytes = chunk.bytes();
-        let with_return = end > start && bytes[end - 1] == b'\r';
-        let line = Part::between(start, if with_return { end - 1 } else { end });
-        if line.len > MOST_LINE || self.lines >= MOST_LINES {
+    fn take_line(&mut self, bytes: &[u8], line: &Line) -> Result<(), Refusal> {
+        let with_return = line.end > line.from && bytes[line.end - 1] == b'\r';
+        let part = Part::between(line.from, if with_return { line.end - 1 } else { line.end });
+        if part.len > MOST_LINE || self.lines >= MOST_LINES {
             return Err(Refusal::Line);
         }
-        if self.lines == 0 || bytes[start] == b'#' {
-            return self.take_parameter(line.of(bytes));
+        if self.lines == 0 || bytes[line.from] == b'#' {
+            return self.take_parameter(part.of(bytes));
         }
         // a taken event line holds no byte 13, so it is looked for in others only
-        self.take_event_line(bytes, line, chunk.separators.eight_commas(passed)).map_err(|why| {
-            if line.of(bytes).contains(&b'\r') {
+        self.take_event_line(bytes, part, &line.commas).map_err(|why| {
+            if part.of(bytes).contains(&b'\r') {
                 Refusal::Line
             } else {
                 why
@@ -93,7 +89,7 @@ impl Judge {
     }
 
     #[cold]
-    fn take_parameter(&mut self, line: &[u8]) -> Result<usize, Refusal> {
+    fn take_parameter(&mut self, line: &[u8]) -> Result<(), Refusal> {
         if line.contains(&b'\r') {
             return Err(Refusal::Line);
         }
@@ -103,7 +99,7 @@ impl Judge {
         if self.lines > 0 {
             self.keep_parameter(parameter(line)?)?;
         }
-        Ok(line.iter().filter(|&&byte| byte == b',').count())
+        Ok(())
     }
 
     /// 3: a parameter that is repeated or late.
@@ -123,14 +119,13 @@ impl Judge {
     }
 
     #[inline(always)]
-    fn take_event_line(&mut self, bytes: &[u8], line: Part, commas: &[u32; 8]) -> Result<usize, Refusal> {
+    fn take_event_line(&mut self, bytes: &[u8], line: Part, commas: &[u32; 8]) -> Result<(), Refusal> {
         if self.header.scale.is_none() {
             return Err(Refusal::Scale);
         }
         let fields = Fields::cut(line, commas).ok_or(Refusal::Form)?;
         let event = read(bytes, &fields, &self.table, &self.history.names)?;
-        self.history.take(bytes, &event)?;
-        Ok(fields.commas())
+        self.history.take(bytes, &event)
     }
 }
 

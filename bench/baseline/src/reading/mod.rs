@@ -1,8 +1,10 @@
 //! A reader that judges a trace by the rules of document 01 and is written for
-//! speed: one pass finds all commas and line ends of a chunk, names and event
-//! words are compared eight bytes at a time, and whatever a line needs is found
-//! by hash. Nothing is allocated for a line, and an instance that has ended gives
-//! its entry back: the memory is the same however long the trace is.
+//! speed: line ends and commas are found in one pass, and whatever a line needs
+//! is found by hash. Nothing is allocated for a line, and an instance that has
+//! ended gives its entry back: the memory is the same however long the trace is.
+//!
+//! How bytes are looked at is in `looking`, which there is twice: several bytes at
+//! once or, with the feature `one_byte`, one after the other. All else is common.
 
 mod bytes;
 mod chunk;
@@ -13,11 +15,17 @@ mod fields;
 mod history;
 mod instances;
 mod judge;
+mod line;
+#[cfg(not(feature = "one_byte"))]
+#[path = "many_bytes/mod.rs"]
+mod looking;
+#[cfg(feature = "one_byte")]
+#[path = "one_byte/mod.rs"]
+mod looking;
 mod names;
 mod numbers;
 mod parameters;
 mod refusal;
-mod separators;
 mod sheet;
 
 use std::io::{self, Read};

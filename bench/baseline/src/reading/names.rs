@@ -1,8 +1,9 @@
 //! The tracked names, found by hash, each with what is known of it.
 
-use super::bytes::{first_bytes, word_at, Part};
+use super::bytes::Part;
 use super::event_rules::{Kind, States, ANY};
 use super::instances::Key;
+use super::looking::hash;
 
 pub const MOST_NAMES: usize = 256;
 pub const MOST_CORES: usize = 64;
@@ -54,6 +55,7 @@ impl Name {
         }
     }
 
+    /// Slices are compared as they are in plain Rust, in both ways to look at bytes.
     #[inline(always)]
     fn is(&self, text: &[u8]) -> bool {
         self.len == text.len() && self.bytes[..self.len] == *text
@@ -107,18 +109,9 @@ impl Names {
     }
 }
 
-/// Every byte counts, since names share long beginnings or endings.
 #[inline(always)]
 fn place_of(chunk: &[u8], part: Part) -> usize {
-    const FACTOR: u64 = 0x9e37_79b9_7f4a_7c15;
-    let window = &chunk[part.from..part.from + 64];
-    let whole = (part.len - 1) & !7;
-    let mut hash = 0u64;
-    for eight in window[..whole].chunks_exact(8) {
-        hash = (hash.rotate_left(29) ^ word_at(eight, 0)).wrapping_mul(FACTOR);
-    }
-    hash = (hash.rotate_left(29) ^ first_bytes(word_at(window, whole), part.len - whole)).wrapping_mul(FACTOR);
-    (hash >> 54) as usize
+    (hash(chunk, part) >> 54) as usize
 }
 
 fn new_name(text: &[u8], kind: Kind) -> Name {

@@ -1,6 +1,7 @@
-//! Decimal numbers, eight digits at a time.
+//! Decimal numbers.
 
-use super::bytes::{word_at, Part, HIGHS, ONES};
+use super::bytes::Part;
+use super::looking::digits;
 
 pub const MOST_TIME: u64 = (1 << 56) - 1;
 pub const MOST_INSTANCE: u64 = u32::MAX as u64;
@@ -25,31 +26,7 @@ fn long_number(chunk: &[u8], part: Part) -> Option<u64> {
     if part.len == 0 || part.len > MOST_DIGITS || chunk[part.from] == b'0' {
         return None;
     }
-    let ahead = part.len % 8;
-    let mut value = 0;
-    if ahead > 0 {
-        let zeros = (ONES * u64::from(b'0')) >> (8 * ahead);
-        value = eight_digits((word_at(chunk, part.from) << (64 - 8 * ahead)) | zeros)?;
-    }
-    let mut at = part.from + ahead;
-    while at < part.from + part.len {
-        value = value * 100_000_000 + eight_digits(word_at(chunk, at))?;
-        at += 8;
-    }
-    Some(value)
-}
-
-/// The number that eight digits write: neighbours are joined to pairs, pairs to
-/// fours, fours to all.
-#[inline(always)]
-fn eight_digits(word: u64) -> Option<u64> {
-    let digits = word ^ (ONES * u64::from(b'0'));
-    if (digits | (digits.wrapping_add(ONES * (128 - 10)))) & HIGHS != 0 {
-        return None;
-    }
-    let pairs = (digits * 10 + (digits >> 8)) & 0x00ff_00ff_00ff_00ff;
-    let fours = (pairs * 100 + (pairs >> 16)) & 0x0000_ffff_0000_ffff;
-    Some((fours * 10_000 + (fours >> 32)) & 0xffff_ffff)
+    digits(chunk, part)
 }
 
 #[cfg(test)]
