@@ -133,6 +133,9 @@ compare() {
     grep -q '^verdict 0 ' "$work/answer.program" || die 'the trace was refused'
 }
 
+# Whether the maker of traces knows short lines. One that came with an older build doesn't.
+makes_short_lines() { "$make_trace" --short --lines 1 1 0 5 >/dev/null 2>&1; }
+
 size_of() { wc -c <"$1"; }
 
 # ---- the head of a report

@@ -76,6 +76,36 @@ fn turned(line: &str) -> String {
 }
 
 #[test]
+fn traces_of_short_lines_are_accepted() {
+    for (cores, tasks, runnables) in [(1, 1, 0), (4, 8, 4), (4, 40, 200), (64, 100, 92), (4, 116, 116)] {
+        let size = Size::Bytes(400_000);
+        let trace = by_plan(&Plan { cores, tasks, runnables, size, seed: 1, naming: Naming::Short });
+        let text = answer(trace.as_slice());
+        assert!(text.starts_with("verdict 0 line 0 scale ms span "), "{text}");
+        assert!(text.contains(&format!("\ncores {cores}\nC")), "{text}");
+        assert!(text.contains(&format!("\nprocesses {tasks}\nT")), "{text}");
+        let lines = trace.iter().filter(|&&byte| byte == b'\n').count();
+        assert!(trace.len() < 30 * lines, "{} bytes in {lines} lines", trace.len());
+    }
+}
+
+#[test]
+fn names_and_times_are_all_that_is_shorter_in_short_lines() {
+    let events = |naming| {
+        let plan = Plan { cores: 4, tasks: 40, runnables: 200, size: Size::Lines(20_000), seed: 1, naming };
+        let trace = String::from_utf8(by_plan(&plan)).expect("made of ASCII");
+        trace.lines().filter(|line| !line.starts_with('#')).map(without_names_and_time).collect::<Vec<_>>()
+    };
+    assert_eq!(events(Naming::Short), events(Naming::BeginAlike));
+}
+
+/// Instances, type and event of a line.
+fn without_names_and_time(line: &str) -> String {
+    let fields: Vec<&str> = line.split(',').collect();
+    [fields[2], fields[3], fields[5], fields[6]].join(",")
+}
+
+#[test]
 fn a_trace_has_about_the_size_that_was_asked_for() {
     for bytes in [5_000, 100_000, 1_000_000] {
         let len = made(4, 8, 8, bytes, 1).len() as u64;

@@ -1,6 +1,6 @@
-//! `make_trace [--end-alike] [--lines] CORES TASKS RUNNABLES SIZE [SEED]`: writes
-//! a valid trace of about so many bytes, or of so many lines, to standard output.
-//! Its names begin alike, or end alike.
+//! `make_trace [--end-alike | --short] [--lines] CORES TASKS RUNNABLES SIZE [SEED]`:
+//! writes a valid trace of about so many bytes, or of so many lines, to standard
+//! output. Its names begin alike, or end alike, or names and times are short.
 
 #![forbid(unsafe_code)]
 
@@ -9,7 +9,7 @@ use std::process::ExitCode;
 
 use baseline::making::{make_trace, Naming, Plan, Size};
 
-const USAGE: &str = "arguments: [--end-alike] [--lines] CORES TASKS RUNNABLES SIZE [SEED]";
+const USAGE: &str = "arguments: [--end-alike | --short] [--lines] CORES TASKS RUNNABLES SIZE [SEED]";
 
 fn main() -> ExitCode {
     let arguments: Vec<String> = std::env::args().skip(1).collect();
@@ -46,6 +46,7 @@ fn plan(arguments: &[String]) -> Result<Plan, String> {
 fn choose(plan: &mut Plan, option: &str) -> Result<(), String> {
     match (option, plan.size) {
         ("--end-alike", _) => plan.naming = Naming::EndAlike,
+        ("--short", _) => plan.naming = Naming::Short,
         ("--lines", Size::Bytes(size)) => plan.size = Size::Lines(size),
         _ => return Err(USAGE.to_string()),
     }

@@ -2,9 +2,6 @@
 
 use super::world::{State, World};
 
-/// The stimulus that wakes processes and writes signals.
-const CLOCK: &str = "STIM_WinchControl_Clock";
-
 impl World {
     /// The start of the system: each process is activated once.
     pub fn activate_all(&mut self) {
@@ -70,7 +67,7 @@ impl World {
     /// Triggers the clock; the number of its instance.
     fn tick(&mut self) -> u64 {
         self.clock_ticks += 1;
-        self.lines.event(("SIM", 0), "STI", (CLOCK, self.clock_ticks), "trigger");
+        self.lines.event(("SIM", 0), "STI", (self.stimulus, self.clock_ticks), "trigger");
         self.clock_ticks
     }
 
@@ -80,7 +77,7 @@ impl World {
             let target = &self.processes[process];
             let event = (target.os_event.as_str(), 0);
             let note = format_args!("{}", target.name);
-            self.lines.event_with_note((CLOCK, number), "EVENT", event, "set_event", note);
+            self.lines.event_with_note((self.stimulus, number), "EVENT", event, "set_event", note);
             self.release(process);
         }
     }
@@ -90,6 +87,6 @@ impl World {
         let signal = self.random.index(self.signals.len());
         let value = self.random.below(4096);
         let target = (self.signals[signal].as_str(), 0);
-        self.lines.event_with_note((CLOCK, number), "SIG", target, "write", format_args!("{value}"));
+        self.lines.event_with_note((self.stimulus, number), "SIG", target, "write", format_args!("{value}"));
     }
 }

@@ -3,6 +3,8 @@
 use std::fmt::Arguments;
 use std::io::Write;
 
+use super::clock::Clock;
+
 /// An entity and the number of its instance.
 pub type Entity<'name> = (&'name str, u64);
 
@@ -11,13 +13,13 @@ pub struct LineWriter {
     /// How many bytes were cleared, and how many lines there are with them.
     cleared: u64,
     lines: u64,
-    /// The time of the lines that follow.
-    pub now: u64,
+    /// It tells the time of the lines that follow.
+    pub clock: Clock,
 }
 
 impl LineWriter {
-    pub fn starting_at(now: u64) -> LineWriter {
-        LineWriter { text: Vec::new(), cleared: 0, lines: 0, now }
+    pub fn new(clock: Clock) -> LineWriter {
+        LineWriter { text: Vec::new(), cleared: 0, lines: 0, clock }
     }
 
     pub fn text(&self) -> &[u8] {
@@ -55,12 +57,12 @@ impl LineWriter {
     }
 
     pub fn event(&mut self, source: Entity, of: &str, target: Entity, event: &str) {
-        let now = self.now;
+        let now = self.clock.time();
         self.put(format_args!("{now},{},{},{of},{},{},{event}\n", source.0, source.1, target.0, target.1));
     }
 
     pub fn event_with_note(&mut self, source: Entity, of: &str, target: Entity, event: &str, note: Arguments) {
-        let now = self.now;
+        let now = self.clock.time();
         self.put(format_args!("{now},{},{},{of},{},{},{event},{note}\n", source.0, source.1, target.0, target.1));
     }
 

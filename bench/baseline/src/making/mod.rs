@@ -8,6 +8,7 @@
 //! room for are enough, however long the trace is.
 
 mod activating;
+mod clock;
 mod line_writer;
 mod naming;
 mod plan;

@@ -29,7 +29,7 @@ const SEMAPHORES: usize = 4;
 const LEAST_LINES: u64 = 5;
 const MOST_LINES: u64 = 1_000_000_000;
 
-/// The shortest line has more than 20 bytes.
+/// A line has more than 20 bytes, on the mean also where names are short.
 const MOST_BYTES: u64 = 20 * MOST_LINES;
 
 impl Size {

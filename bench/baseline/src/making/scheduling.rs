@@ -2,7 +2,7 @@
 
 use super::world::{State, World};
 
-/// Ticks between two steps, at most.
+/// Nanoseconds between two steps, at most.
 const STEP: u64 = 8000;
 
 /// Steps for each stimulus, about: processes are activated nearly as often as

@@ -1,14 +1,12 @@
 //! The system that is traced, and the lines that its parts write.
 
+use super::clock::Clock;
 use super::line_writer::LineWriter;
-use super::naming::{numbered, Naming};
+use super::naming::Naming;
 use super::plan::Plan;
 use super::random::Random;
 
 const SIGNALS: usize = 48;
-
-/// The recording starts five seconds after the power was switched on.
-const FIRST_TIME: u64 = 5_000_000_000;
 
 #[derive(Clone, Copy, Debug, PartialEq, Eq)]
 pub enum State {
@@ -84,6 +82,8 @@ pub struct World {
     pub ready: Vec<usize>,
     pub waiting: Vec<usize>,
     pub dormant: Vec<usize>,
+    /// The stimulus that is no process's own, and how often it was triggered.
+    pub stimulus: &'static str,
     pub clock_ticks: u64,
 }
 
@@ -91,9 +91,9 @@ impl World {
     pub fn new(plan: &Plan) -> World {
         let naming = plan.naming;
         World {
-            lines: LineWriter::starting_at(FIRST_TIME),
+            lines: LineWriter::new(clock_for(naming)),
             random: Random::new(plan.seed),
-            cores: (0..plan.cores).map(new_core).collect(),
+            cores: (0..plan.cores).map(|number| new_core(naming, number)).collect(),
             processes: (0..plan.tasks).map(|number| new_process(plan, number)).collect(),
             runnables: (0..plan.runnables)
                 .map(|number| Runnable { name: naming.runnable(number), starts: 0 })
@@ -104,25 +104,27 @@ impl World {
             ready: Vec::new(),
             waiting: Vec::new(),
             dormant: (0..plan.tasks).collect(),
+            stimulus: naming.clock_stimulus(),
             clock_ticks: 0,
         }
     }
 
     pub fn write_header(&mut self) {
+        let scale = self.lines.clock.scale;
         self.lines.plain(format_args!("#version 2.2.0"));
         self.lines.plain(format_args!("#creator make_trace 1.0"));
         self.lines.plain(format_args!("#creationDate 2024-02-29T06:30:00Z"));
         self.lines.plain(format_args!("# {} cores, {} processes", self.cores.len(), self.processes.len()));
-        self.lines.plain(format_args!("#timeScale ns"));
+        self.lines.plain(format_args!("#timeScale {scale}"));
         for semaphore in &self.semaphores {
             let itself = (semaphore.name.as_str(), 0);
             self.lines.event_with_note(itself, "SEM", itself, "free", format_args!("0"));
         }
     }
 
-    /// Lets some time pass: less than the given ticks.
-    pub fn pass(&mut self, ticks: u64) {
-        self.lines.now += self.random.below(ticks);
+    /// Lets some time pass: less than the given nanoseconds.
+    pub fn pass(&mut self, ns: u64) {
+        self.lines.clock.pass(self.random.below(ns));
     }
 
     /// A line about a process whose source is a core, with the step that it
@@ -147,8 +149,15 @@ impl World {
     }
 }
 
-fn new_core(number: usize) -> Core {
-    Core { name: numbered("Core", number), scheduler: numbered("Scheduler", number), holder: None }
+fn clock_for(naming: Naming) -> Clock {
+    match naming {
+        Naming::Short => Clock::in_ms(),
+        _ => Clock::in_ns(),
+    }
+}
+
+fn new_core(naming: Naming, number: usize) -> Core {
+    Core { name: naming.core(number), scheduler: naming.scheduler(number), holder: None }
 }
 
 /// One process in eight is an interrupt routine.
