@@ -181,6 +181,6 @@ fn new_process(plan: &Plan, number: usize) -> Process {
 
 /// Spinlocks have one user; every second semaphore can have more.
 fn new_semaphore(naming: Naming, number: usize) -> Semaphore {
-    let most = if number % 2 == 0 { 1 } else { 1 + number as u64 };
+    let most = if number.is_multiple_of(2) { 1 } else { 1 + number as u64 };
     Semaphore { name: naming.semaphore(number), most, count: 0, waiter: None }
 }
