@@ -127,7 +127,7 @@ pub place-next : (l : List ℕ) (k n m : ℕ) → Place l k n → m ≡ findFrom
 unfolding commaAt
 place-next l k n m p e = (e ∙ rw (p .0, add-one), rw e (find-le 44 l (n + 1) (length l + suc k) (omega arith) (omega arith)))
 
-comma-grows : (l : List ℕ) (k : ℕ) → commaAt l k < commaAt l (suc k)
+pub comma-grows : (l : List ℕ) (k : ℕ) → commaAt l k < commaAt l (suc k)
 unfolding commaAt
 comma-grows l k = find-ge 44 l (suc (commaAt l k))
 

@@ -4,8 +4,10 @@ use mathlib.Core.List.{List, [], _∷_}
 use Prim.Native.Nat.{ℕ, _+_, _%_, _^_}
 use lib.Dec.{eqb}
 use lib.ListN.{set, replicate}
+use Rattle.walk.specs.declared.lines.Next.{Next}
+use Rattle.walk.specs.declared.lines.Next.the-variants.{Line, Rest}
 use Rattle.walk.specs.Lines.{wholeLines, usedUp}
-use Rattle.fields.specs.Part.{fieldOf}
+use Rattle.fields.specs.Part.{fieldOf, partFrom}
 use Rattle.line.specs.declared.event.Event.{Event as ReadEvent}
 use Rattle.line.specs.declared.reading.Reading.{Reading}
 use Rattle.line.specs.declared.reading.Reading.the-variants.{Version, Comment, TimeScale, Creator, CreationDate, EventLine, Refused}
@@ -98,6 +100,13 @@ pub record AfterChunk : Type 0 where
 
 abbrev pub chunked : Fed → List ℕ → List ℕ → List ℕ → AfterChunk
 chunked f names nums ticks = record { fed = f; left = tables names nums ticks }
+
+-- the next line of a chunk, and where what stands after it begins; with none left, nothing changes
+abbrev pub fedNext : Tables → List ℕ → ℕ → Next → AfterChunk
+fedNext t s at (Line end start) =
+    let judged = judgedLine t (partFrom s at end) in
+    record { fed = record { answer = judged .answer; used = start }; left = judged .left }
+fedNext t s at Rest = record { fed = record { answer = 0; used = at }; left = t }
 
 unfoldable pub fedChunk : Tables → List ℕ → AfterChunk
 fedChunk t chunk =

@@ -1,18 +1,46 @@
 // What the judge is asked over lent tables, whatever they hold: one line, and the lines of a chunk.
 ghost use mathlib.Core.Path.{_≡_};
 ghost use Rattle.walk.specs.Lines.{wholeLines, usedUp};
+ghost use Rattle.scan.specs.Ahead.{lineFrom};
 ghost use Rattle.tables.specs.Sized.{Sized};
-ghost use Rattle.judge.specs.Feed.{tables, after, fedLine, judgedLines, chunked, fedChunk};
+ghost use Rattle.judge.specs.Feed.{tables, after, fedLine, fedNext, judgedLines, chunked, fedChunk};
 use crate::one_line::line_in;
+use line::read_next;
+use line::reading::NextRead;
 use ranges::range::table_answer;
 use tables::entry::*;
-use walk::lines::Next;
-use walk::reader::line_from;
 
 // The answer to the lines of a chunk, and how many bytes they took.
 pub struct Fed {
     pub answer: u32,
     pub used: usize,
+}
+
+// The next line of a chunk from an index on, and where what stands after it begins; where `whole`, what is left is one line as it stands.
+fn next_in(
+    names: &mut [u8],
+    nums: &mut [u32],
+    ticks: &mut [u64],
+    s: &[u8],
+    at: usize,
+    whole: bool,
+) -> Fed
+    requires { ⌜ Sized (now names) (now nums) (now ticks) ⌝ }
+    ensures { λ r. ⌜ chunked r (now (names .exit)) (now (nums .exit)) (now (ticks .exit))
+        ≡ fedNext (tables (now (names .entry)) (now (nums .entry)) (now (ticks .entry))) (now (s .entry)) at (lineFrom whole (now (s .entry)) at) ⌝ }
+{
+    let next = read_next(s, at, whole);
+    let NextRead::Read(end, start, split) = next else {
+        return Fed {
+            answer: 0,
+            used: at,
+        };
+    };
+    let answer = line_in(names, nums, ticks, &s[at..end], split);
+    Fed {
+        answer,
+        used: start,
+    }
 }
 
 // One line without its end.
@@ -24,7 +52,8 @@ pub fn feed(names: &mut [u8], nums: &mut [u32], ticks: &mut [u64], l: &[u8]) -> 
     if t != 0 {
         return t;
     }
-    line_in(names, nums, ticks, l)
+    let fed = next_in(names, nums, ticks, l, 0, true);
+    fed.answer
 }
 
 // Every whole line of a chunk in turn, and how many bytes they took.
@@ -36,12 +65,11 @@ fn lines_in(names: &mut [u8], nums: &mut [u32], ticks: &mut [u64], chunk: &[u8])
 {
     let mut at = 0;
     loop {
-        let next = line_from(chunk, at);
-        let Next::Line(end, start) = next else {
+        let fed = next_in(names, nums, ticks, chunk, at, false);
+        if fed.used == at {
             return at;
-        };
-        line_in(names, nums, ticks, &chunk[at..end]);
-        at = start;
+        }
+        at = fed.used;
     }
 }
 

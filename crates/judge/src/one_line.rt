@@ -3,17 +3,17 @@ ghost use mathlib.Core.Path.{_≡_};
 ghost use Prim.Native.Nat.{_<_};
 ghost use lib.ListN.{length, set};
 ghost use Rattle.fields.specs.Part.{commasOf};
+ghost use Rattle.line.specs.Reading.{readLine, splitLine};
 ghost use Rattle.tables.specs.Entry.{numsSize};
 ghost use Rattle.tables.specs.Sized.{Sized};
 ghost use Rattle.judge.specs.Feed.{tables, after, placeIn, remembered, counted, judgedEvent, judgedReading, judgedLine};
 use bill::scale::scale_number;
 use decide::plan::Plan;
 use decide::plan::decide;
-use fields::between;
 use fields::part::Commas;
 use line::event::Event;
-use line::read_split;
 use line::reading::Reading;
+use line::reading::Split;
 use rules::place::Place;
 use std::num::wrapping_add_u32;
 use steps::place::answer_in_place;
@@ -73,12 +73,16 @@ fn event_in(
     e: Event,
     count: u32,
 ) -> u32
-    requires { ⌜ Sized (now names) (now nums) (now ticks) × (c ≡ commasOf (now l)) ⌝ }
+    requires { ⌜ Sized (now names) (now nums) (now ticks) × ((c ≡ commasOf (now l)) × (readLine (now l) ≡ Reading.EventLine e count)) ⌝ }
     ensures { λ r. ⌜ after r (now (names .exit)) (now (nums .exit)) (now (ticks .exit))
         ≡ judgedEvent (tables (now (names .entry)) (now (nums .entry)) (now (ticks .entry))) (now (l .entry)) e count ⌝ }
 {
-    let source = between(l, c.c1, c.c2);
-    let target = between(l, c.c4, c.c5);
+    let c2 = c.c2;
+    let c5 = c.c5;
+    let after_first = c.c1 + 1;
+    let after_fourth = c.c4 + 1;
+    let source = &l[after_first..c2];
+    let target = &l[after_fourth..c5];
     let p = decide(names, nums, ticks, e, count, source, target);
     match p {
         Plan::Refuse(n) => remember(nums, n),
@@ -89,7 +93,7 @@ fn event_in(
     }
 }
 
-// A line that none of 1 to 7 refuses, with its commas.
+// A line that none of 1 to 7 refuses, with its commas and its reading.
 fn read_in(
     names: &mut [u8],
     nums: &mut [u32],
@@ -98,7 +102,7 @@ fn read_in(
     c: Commas,
     r: Reading,
 ) -> u32
-    requires { ⌜ Sized (now names) (now nums) (now ticks) × (c ≡ commasOf (now l)) ⌝ }
+    requires { ⌜ Sized (now names) (now nums) (now ticks) × ((c ≡ commasOf (now l)) × (readLine (now l) ≡ r)) ⌝ }
     ensures { λ n. ⌜ after n (now (names .exit)) (now (nums .exit)) (now (ticks .exit))
         ≡ judgedReading r (tables (now (names .entry)) (now (nums .entry)) (now (ticks .entry))) (now (l .entry)) ⌝ }
 {
@@ -113,9 +117,15 @@ fn read_in(
     }
 }
 
-// A line against tables of the right sizes.
-pub(crate) fn line_in(names: &mut [u8], nums: &mut [u32], ticks: &mut [u64], l: &[u8]) -> u32
-    requires { ⌜ Sized (now names) (now nums) (now ticks) ⌝ }
+// A line that was read, against tables of the right sizes.
+pub(crate) fn line_in(
+    names: &mut [u8],
+    nums: &mut [u32],
+    ticks: &mut [u64],
+    l: &[u8],
+    s: Split,
+) -> u32
+    requires { ⌜ Sized (now names) (now nums) (now ticks) × (s ≡ splitLine (now l)) ⌝ }
     ensures { λ r. ⌜ after r (now (names .exit)) (now (nums .exit)) (now (ticks .exit))
         ≡ judgedLine (tables (now (names .entry)) (now (nums .entry)) (now (ticks .entry))) (now (l .entry)) ⌝ }
 {
@@ -123,7 +133,6 @@ pub(crate) fn line_in(names: &mut [u8], nums: &mut [u32], ticks: &mut [u64], l: 
     if v != 0 {
         return v;
     }
-    let s = read_split(l);
     let c = s.commas;
     let r = s.reading;
     let n = answer_in_place(place_in(nums), r);

@@ -7,16 +7,39 @@ use lib.Dec.{ltb}
 use lib.ListN.{length, take}
 use Rattle.fields.specs.declared.part.Commas.{Commas}
 use Rattle.fields.specs.Part.{partFrom, commaAt, commasOf}
-use Rattle.fields.proofs.Parts.{field-first, field-place, parts-fit, parts-few, parts-many, parts-eight}
+use Rattle.fields.proofs.Parts.{comma-grows, field-first, field-place, parts-fit, parts-few, parts-many, parts-eight}
 use Rattle.line.specs.declared.reading.Reading.the-variants.{Refused}
 use Rattle.line.specs.Event.{fieldsReading, eventReading}
 use Rattle.text.proofs.Finds.{find-le}
+
+-- the commas of a line with six of them, one after the other
+pub record InOrder (l : List ℕ) (c : Commas) : Type 0 where
+  pub second : c .c1 < c .c2
+  pub third : c .c2 < c .c3
+  pub fourth : c .c3 < c .c4
+  pub fifth : c .c4 < c .c5
+  pub sixth : c .c5 < c .c6
+  pub seventh : c .c6 < c .c7
+  pub inside : c .c7 ≤ length l
 
 module _ (l : List ℕ) (c : Commas) (e : c ≡ commasOf l) where
   -- the first field ends in the line
   pub time-ends : c .c1 ≤ length l
   unfolding commaAt
   time-ends = rw e (find-le 44 l 0 (length l) (omega arith) (omega arith))
+
+  pub in-order : c .c6 < length l → InOrder l c
+  unfolding commaAt
+  in-order h =
+      rw e (record {
+        second = comma-grows l 0;
+        third = comma-grows l 1;
+        fourth = comma-grows l 2;
+        fifth = comma-grows l 3;
+        sixth = comma-grows l 4;
+        seventh = comma-grows l 5;
+        inside = find-le 44 l (suc (commaAt l 5)) (length l) (omega arith) (rw e at h);
+      })
 
   -- without a sixth comma there are fewer than seven fields
   pub event-few : length l ≤ c .c6 → Refused 5 ≡ eventReading l

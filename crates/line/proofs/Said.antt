@@ -1,7 +1,7 @@
 -- What a line says that reads as an event: its fields are the event's numbers and words, its names are names, and the rules hold.
 use mathlib.Core.Path.{_≡_, refl}
 use mathlib.Core.Bool.{Bool, true, false, not, _||_, cond, or-true, or-false}
-use mathlib.Core.Logic.{_⊎_, inl, inr}
+use mathlib.Core.Logic.{_⊎_, inl, inr, ⊎-elim}
 use mathlib.Core.List.{List, []}
 use Prim.Native.Nat.{ℕ, _≤_}
 use native.Mathlib.Omega.{arith}
@@ -12,7 +12,7 @@ use Rattle.text.specs.Name.{isName}
 use Rattle.text.specs.Number.{digitsOf, numberOf}
 use Rattle.text.specs.declared.number.Number.{Number}
 use Rattle.text.specs.declared.number.Number.the-variants.{Value, Bad}
-use Rattle.text.proofs.Bools.{and-l, and-r}
+use Rattle.text.proofs.Bools.{and-l, and-r, lt-or-ge}
 use Rattle.text.proofs.Digits.{read-written}
 use Rattle.words.specs.declared.scale.ScaleFound.{ScaleFound}
 use Rattle.words.specs.declared.scale.ScaleFound.the-variants.{ThisScale, NoScale}
@@ -22,8 +22,9 @@ use Rattle.words.specs.Kind.{kindWord}
 use Rattle.words.specs.Action.{wordOf, isOf}
 use Rattle.words.specs.Pair.{namedBy}
 use Rattle.words.proofs.Found.{pair-words}
-use Rattle.fields.specs.Part.{partsOf, fieldOf}
-use Rattle.fields.proofs.Parts.{field-missing}
+use Rattle.fields.specs.declared.part.Commas.{Commas}
+use Rattle.fields.specs.Part.{partsOf, fieldOf, commaAt, commasOf}
+use Rattle.fields.proofs.Parts.{field-missing, comma-missing}
 use Rattle.forms.specs.declared.note.Note.{Note}
 use Rattle.forms.specs.declared.note.Note.the-variants.{Means, Wrong}
 use Rattle.forms.specs.Note.{maxInstance, noteOf}
@@ -37,6 +38,7 @@ use Rattle.line.specs.Parameter.{isVersion, isVersionLine, isComment, ti
 use Rattle.line.specs.Event.{maxTime, numbersAs, numbersOf, hasNames, ruled, knownReading, numbersReading, fieldsReading, eventReading}
 use Rattle.line.specs.Reading.{lineMost, hasBreak, isEventLine, readLine}
 use Rattle.line.specs.Writing.{isEmpty}
+use Rattle.line.proofs.Events.{InOrder, in-order}
 
 -- what document 01 asks of a record, an event with its source, target and note, and the count that the note means
 pub record Allowed (e : Event) (source target note : List ℕ) (count : ℕ) : Type 0 where
@@ -192,3 +194,12 @@ said l e count q =
     let parts = first-of e count (eqb (length (partsOf l)) 7 || eqb (length (partsOf l)) 8) _ (Refused 5) refl (line-event l e count q) in
     let names = first-of e count (hasNames (fieldOf l 2) (fieldOf l 5) (fieldOf l 8) (eqb (length (partsOf l)) 8)) _ (Refused 5) refl (parts .1) in
     said-fields l e count (parts .0) (names .0) (fields-are (fieldOf l 2) (fieldOf l 5) (fieldOf l 8) e count (numbersOf (fieldOf l 1) (fieldOf l 3) (fieldOf l 6)) (namedBy (fieldOf l 4) (fieldOf l 7)) (names .1))
+
+-- so it has six commas
+six-commas : (l : List ℕ) → Noted l → length l ≤ commaAt l 5 → ⊥
+six-commas l (inl n) h = omega (arith, n .0, comma-missing l 5 h)
+six-commas l (inr n) h = omega (arith, n .0, comma-missing l 5 h)
+
+pub event-order : (l : List ℕ) (e : Event) (count : ℕ) (c : Commas) → c ≡ commasOf l → readLine l ≡ EventLine e count → InOrder l c
+event-order l e count c d q =
+    in-order l c d (rw d (⊎-elim (λ h. h) (λ h. absurd (six-commas l (said l e count q .noted) h)) (lt-or-ge (commaAt l 5) (length l))))

@@ -2,8 +2,8 @@
 use mathlib.Core.Path.{_≡_}
 use Prim.Native.Nat.{ℕ}
 use mathlib.Core.Bool.{Bool, true, false, not, _&&_, _||_, cond}
-use mathlib.Core.List.{List, [], _∷_}
-use lib.Dec.{eqb, leb}
+use mathlib.Core.List.{List}
+use lib.Dec.{eqb}
 use lib.ListN.{length}
 use Rattle.text.specs.Name.{allNameBytes, isName}
 use Rattle.text.specs.Number.{numberOf}
@@ -44,11 +44,6 @@ numbersOf time from to = numbersAs (numberOf time maxTime) (numberOf from maxIns
 
 unfoldable pub hasNames : List ℕ → List ℕ → List ℕ → Bool → Bool
 hasNames source target note noted = isName source && (isName target && (not noted || isName note))
-
--- every byte is a comma or one that a name may have, 33 to 126
-unfoldable pub allPlain : List ℕ → Bool
-allPlain [] = true
-allPlain (x ∷ l) = (leb 33 x && leb x 126) && allPlain l
 
 -- every byte of these fields may stand in a name, as in those of a line whose bytes are all plain
 pub record PlainFields (source target note : List ℕ) : Type 0 where

@@ -4,10 +4,15 @@ use mathlib.Core.Bool.{Bool, true, false, not, _||_, cond}
 use mathlib.Core.List.{List, [], _∷_}
 use lib.Dec.{eqb, ltb}
 use lib.ListN.{length}
-use Rattle.fields.specs.Part.{commasOf}
+use Rattle.walk.specs.declared.lines.Next.{Next}
+use Rattle.walk.specs.declared.lines.Next.the-variants.{Line, Rest}
+use Rattle.fields.specs.Part.{partFrom, commasOf}
+use Rattle.scan.specs.Ahead.{lineFrom}
 use Rattle.line.specs.declared.reading.Reading.{Reading}
 use Rattle.line.specs.declared.reading.Reading.the-variants.{Version, Comment, TimeScale, Creator, CreationDate, EventLine, Refused}
 use Rattle.line.specs.declared.reading.Split.{Split}
+use Rattle.line.specs.declared.reading.NextRead.{NextRead}
+use Rattle.line.specs.declared.reading.NextRead.the-variants.{Read, Over}
 use Rattle.line.specs.Event.{eventReading}
 use Rattle.line.specs.Parameter.{parameterReading}
 
@@ -31,6 +36,14 @@ readLine l = cond (ltb lineMost (length l) || hasBreak l) (Refused 1) (cond (isE
 -- what a line is, and the places of its commas, whatever it is
 abbrev pub splitLine : List ℕ → Split
 splitLine l = record { reading = readLine l; commas = commasOf l }
+
+-- the next line of a chunk from an index on, and what it is; where the first argument says so, what is left is one line as it stands
+abbrev pub readingOf : List ℕ → ℕ → Next → NextRead
+readingOf s at (Line end start) = Read end start (splitLine (partFrom s at end))
+readingOf s at Rest = Over
+
+unfoldable pub nextReading : Bool → List ℕ → ℕ → NextRead
+nextReading whole s at = readingOf s at (lineFrom whole s at)
 
 -- the number of document 01's table that a reading is
 unfoldable pub answerOf : Reading → ℕ

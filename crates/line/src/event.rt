@@ -1,9 +1,11 @@
 // Event lines: seven fields or eight.
 ghost use mathlib.Core.Path.{_≡_};
 ghost use mathlib.Core.Bool.{true};
-ghost use Rattle.text.specs.Name.{allNameBytes, isName};
-ghost use Rattle.fields.specs.Part.{commasOf};
-ghost use Rattle.line.specs.Event.{allPlain, PlainFields, numbersOf, hasNames, fieldsReading, knownReading, eventReading};
+ghost use Prim.Native.Nat.{suc, _≤_, _<_};
+ghost use lib.ListN.{length};
+ghost use Rattle.text.specs.Name.{allNameBytes, isName, allPlain};
+ghost use Rattle.fields.specs.Part.{partFrom, commasOf};
+ghost use Rattle.line.specs.Event.{PlainFields, numbersOf, hasNames, fieldsReading, knownReading, eventReading};
 use crate::reading::Reading;
 use fields::between;
 use fields::part::Commas;
@@ -157,7 +159,16 @@ fn read_fields(
     )
 }
 
-// What an event line says that has these commas and may be known to be plain.
+// The part of a line after one comma and before another.
+fn part(line: &[u8], a: usize, b: usize) -> &[u8]
+    requires { ⌜ (a < b) × (b ≤ length (now line)) ⌝ }
+    ensures { λ r. ⌜ now r ≡ partFrom (now (line .entry)) (suc a) b ⌝ }
+{
+    let from = a + 1;
+    &line[from..b]
+}
+
+// What an event line says that has these commas and may be known to be plain. With six commas all parts but the note are there.
 pub(crate) fn read_event(line: &[u8], c: Commas, plain: bool) -> Reading
     requires { ⌜ (c ≡ commasOf (now line)) × (plain ≡ true → allPlain (now line) ≡ true) ⌝ }
     ensures { λ r. ⌜ r ≡ eventReading (now (line .entry)) ⌝ }
@@ -171,12 +182,12 @@ pub(crate) fn read_event(line: &[u8], c: Commas, plain: bool) -> Reading
         return Reading::Refused(5);
     }
     let time = &line[0..c1];
-    let source = between(line, c1, c.c2);
-    let source_instance = between(line, c.c2, c.c3);
-    let kind = between(line, c.c3, c.c4);
-    let target = between(line, c.c4, c.c5);
-    let target_instance = between(line, c.c5, c.c6);
-    let action = between(line, c.c6, c.c7);
+    let source = part(line, c1, c.c2);
+    let source_instance = part(line, c.c2, c.c3);
+    let kind = part(line, c.c3, c.c4);
+    let target = part(line, c.c4, c.c5);
+    let target_instance = part(line, c.c5, c.c6);
+    let action = part(line, c.c6, c.c7);
     let note = between(line, c.c7, c.c8);
     let noted = c.c7 < n;
     read_fields(

@@ -6,5 +6,6 @@ pub mod writing;
 
 pub use fields::field;
 pub use reading::read;
+pub use reading::read_next;
 pub use reading::read_split;
 pub use writing::write;

@@ -1,14 +1,17 @@
 // Reading one line.
 ghost use mathlib.Core.Path.{_≡_};
 ghost use mathlib.Core.Bool.{true};
+ghost use Rattle.text.specs.Name.{allPlain};
 ghost use Rattle.fields.specs.Part.{commasOf};
-ghost use Rattle.line.specs.Event.{allPlain};
-ghost use Rattle.line.specs.Reading.{readLine, splitLine, hasBreak, isEventLine};
+ghost use Rattle.line.specs.Reading.{readLine, splitLine, nextReading, hasBreak, isEventLine};
 use crate::event::Event;
 use crate::event::read_event;
 use crate::parameter::read_parameter;
 use fields::part::Commas;
 use fields::split;
+use scan::ahead::Ahead;
+use scan::reader::next_line;
+use text::name::all_plain;
 use words::scale::Scale;
 
 // the longest line that is read by its text, as specs/Reading.antt has it
@@ -31,6 +34,12 @@ pub struct Split {
     pub commas: Commas,
 }
 
+// The next line of a chunk: it ends just before the first index, and what stands after its end begins at the second. `Over` where no whole line is left.
+pub enum NextRead {
+    Read(usize, usize, Split),
+    Over,
+}
+
 // Whether a byte 10 or 13 stands in the line.
 fn has_break(line: &[u8]) -> bool
     ensures { λ r. ⌜ r ≡ hasBreak (now (line .entry)) ⌝ }
@@ -46,20 +55,6 @@ fn has_break(line: &[u8]) -> bool
         i += 1;
     }
     false
-}
-
-// Whether every byte of the line is a comma or one that a name may have. All are looked at with no exit between, so that many can be
-// compared at once.
-fn all_plain(line: &[u8]) -> bool
-    ensures { λ r. ⌜ r ≡ allPlain (now (line .entry)) ⌝ }
-{
-    let mut odd: u8 = 0;
-    let mut i = 0;
-    while i < line.len() {
-        odd = odd | (((line[i] < 33) | (126 < line[i])) as u8);
-        i += 1;
-    }
-    odd == 0
 }
 
 // Whether a byte 10 or 13 stands in a line that may be known to be plain.
@@ -83,15 +78,14 @@ fn event_line(line: &[u8]) -> bool
     line[0] != b'#'
 }
 
-// What a line is that has these commas.
-fn read_at(line: &[u8], c: Commas) -> Reading
-    requires { ⌜ c ≡ commasOf (now line) ⌝ }
+// What a line is that has these commas and may be known to be plain.
+fn read_at(line: &[u8], c: Commas, plain: bool) -> Reading
+    requires { ⌜ (c ≡ commasOf (now line)) × (plain ≡ true → allPlain (now line) ≡ true) ⌝ }
     ensures { λ r. ⌜ r ≡ readLine (now (line .entry)) ⌝ }
 {
     if LINE_MOST < line.len() {
         return Reading::Refused(1);
     }
-    let plain = all_plain(line);
     if broken(line, plain) {
         return Reading::Refused(1);
     }
@@ -106,7 +100,7 @@ pub fn read_split(line: &[u8]) -> Split
     ensures { λ r. ⌜ r ≡ splitLine (now (line .entry)) ⌝ }
 {
     let commas = split(line);
-    let reading = read_at(line, commas);
+    let reading = read_at(line, commas, all_plain(line));
     Split { reading, commas }
 }
 
@@ -116,4 +110,16 @@ pub fn read(line: &[u8]) -> Reading
 {
     let s = read_split(line);
     s.reading
+}
+
+// The next line of a chunk from an index on, and what it is; where `whole`, what is left is one line as it stands.
+pub fn read_next(s: &[u8], at: usize, whole: bool) -> NextRead
+    ensures { λ r. ⌜ r ≡ nextReading whole (now (s .entry)) at ⌝ }
+{
+    let next = next_line(s, at, whole);
+    let Ahead::Line(end, start, plain, commas) = next else {
+        return NextRead::Over;
+    };
+    let reading = read_at(&s[at..end], commas, plain);
+    NextRead::Read(end, start, Split { reading, commas })
 }

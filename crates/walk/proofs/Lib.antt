@@ -4,4 +4,4 @@ pub mod Chunks
 pub mod Nexts
 pub mod Examples
 pub mod Tight
-mod Held
+pub mod Held

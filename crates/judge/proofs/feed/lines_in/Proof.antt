@@ -1,14 +1,11 @@
 -- `judge::feed::lines_in` meets its contract. The loop's invariant: the lines from the index on give what all lines give. The measure is what is
 -- left of the chunk.
-use mathlib.Core.Path.{sym, _∙_}
 use Prim.Native.Nat.{_-_}
 use native.Mathlib.Omega.{arith}
 use lib.ListN.{length}
-use borrow.Author.Needs.{needs}
-use Rattle.walk.proofs.Nexts.{Stepped, line-step, rest-step}
 use Rattle.judge.specs.Feed.{tables}
 use Rattle.judge.proofs.Sizes.{alike-sized}
-use Rattle.judge.proofs.Traces.{Going, going-start, going-on, going-end}
+use Rattle.judge.proofs.Traces.{Going, going-start, loop-ends, loop-goes}
 use Rattle.judge.proofs.feed.lines_in.Statement.{statement}
 use Rattle.judge.proofs.feed.lines_in.Tie as tie
 
@@ -22,64 +19,44 @@ abbrev μ-loop : tie.MeasureT-loop
 abbrev start : tie.At-loop Inv-loop μ-loop → tie.Start Inv-loop μ-loop
 start c = let tables = c .before .before in tables .before .before .before
 
--- from the line found to the loop's head
-abbrev turned : tie.After-next Inv-loop μ-loop → tie.At-loop Inv-loop μ-loop
-turned c = c .before .before .before
+-- from the call to the loop's head: the three tables are lent to it
+abbrev turned : tie.After-next-in Inv-loop μ-loop → tie.At-loop Inv-loop μ-loop
+turned c = let lent = c .before .before .before in lent .before
 
--- and to it where none is found
-abbrev rested : tie.After-enum-told Inv-loop μ-loop → tie.At-loop Inv-loop μ-loop
-rested c = c .before .before .before
-
--- to the line found from the place where the three tables are lent
-abbrev found : tie.After-line-in-arg3 Inv-loop μ-loop → tie.After-next Inv-loop μ-loop
-found c = let told = c .before .before .before in told .before
-
--- from the end of a turn to the call: the three tables come back
-abbrev called : tie.After-slice-known6 Inv-loop μ-loop → tie.After-line-in Inv-loop μ-loop
-called c = let nums-back = c .before .before .before in nums-back .before .before .before
-
--- what is found is a line
-step : (c : tie.After-next Inv-loop μ-loop)
-    → Stepped (start (turned c) .args .chunk .now) (turned c .loop .at) (c .next .given .0 .0) (c .next .given .0 .1 .0)
-step c = line-step _ _ _ _ (sym (c .before .before .line-from .ensures) ∙ c .next .given .1)
+-- to the call from the place where it is told whether one was left: the three tables come back
+abbrev called : tie.After-struct-known Inv-loop μ-loop → tie.After-next-in Inv-loop μ-loop
+called c =
+    let ticks-back = c .before .before in
+    let nums-back = ticks-back .before .before in
+    nums-back .before .before .before
 
 begins : tie.Need-loop-holds Inv-loop μ-loop
 begins c = going-start _ _
 
+next-in-requires : tie.Need-next-in-requires Inv-loop μ-loop
+next-in-requires c κs = let l = c .before .before .before in alike-sized (l .loop .inv .alike) (start l .pre)
+
 names-kept : tie.Need-same-length Inv-loop μ-loop
-names-kept c = rested c .loop .inv .alike .names-kept
+names-kept c = let n = called (c .before) in loop-ends (turned n .loop .inv) (n .next-in .ensures) (c .if1 .taken) .0 .names-kept
 
 nums-kept : tie.Need-same-length-2 Inv-loop μ-loop
-nums-kept c = rested c .loop .inv .alike .nums-kept
+nums-kept c = let n = called (c .before) in loop-ends (turned n .loop .inv) (n .next-in .ensures) (c .if1 .taken) .0 .nums-kept
 
 ticks-kept : tie.Need-same-length-3 Inv-loop μ-loop
-ticks-kept c = rested c .loop .inv .alike .ticks-kept
+ticks-kept c = let n = called (c .before) in loop-ends (turned n .loop .inv) (n .next-in .ensures) (c .if1 .taken) .0 .ticks-kept
 
 done : tie.Need-returns Inv-loop μ-loop
-done c = going-end (rested c .loop .inv) (rest-step _ _ (sym (c .before .before .line-from .ensures) ∙ c .enum-told .given .1))
-
-length-fits : tie.Need-sub-line-in Inv-loop μ-loop
-length-fits c = let s = step (found c) in omega arith
-
-begins-inside : tie.Need-part-line-in-start Inv-loop μ-loop
-begins-inside c = let s = step (found c) in omega arith
-
-ends-inside : tie.Need-part-line-in-end Inv-loop μ-loop
-ends-inside c = let s = step (found c) in omega arith
-
-line-in-requires : tie.Need-line-in-requires Inv-loop μ-loop
-line-in-requires c κs =
-    let l = turned (found (c .before)) in
-    alike-sized (l .loop .inv .alike) (start l .pre)
+done c = let n = called (c .before) in loop-ends (turned n .loop .inv) (n .next-in .ensures) (c .if1 .taken) .1
 
 less : tie.Need-loop-less Inv-loop μ-loop
-less c = let s = step (found (called c .before .before)) in omega arith
+less c =
+    let n = called (c .before) in
+    let g = loop-goes (turned n .loop .inv) (n .next-in .ensures) (c .if1 .left) in
+    let i = g .1 .inside in
+    omega (arith, g .0, i)
 
 again : tie.Need-loop-again Inv-loop μ-loop
-again c =
-    let r = called c in
-    let n = found (r .before .before) in
-    going-on (turned n .loop .inv) (step n) (r .line-in .ensures)
+again c = let n = called (c .before) in loop-goes (turned n .loop .inv) (n .next-in .ensures) (c .if1 .left) .1
 
 pub lines-in-spec : {M : Type 1} → statement M
 lines-in-spec =
@@ -88,16 +65,10 @@ lines-in-spec =
     Inv-loop
     μ-loop
     begins
-    (λ c κs. search needs)
-    (λ c. search needs)
-    (λ c. search needs)
+    next-in-requires
     names-kept
     nums-kept
     ticks-kept
     done
-    length-fits
-    begins-inside
-    ends-inside
-    line-in-requires
     less
     again)

@@ -1,4 +1,5 @@
 -- `judge::one_line::read_in` meets its contract: each arm stores what the definition says of its reading.
+use mathlib.Core.Path.{_∙_}
 use borrow.Author.Needs.{needs}
 use Rattle.judge.proofs.one_line.read_in.Statement.{statement}
 use Rattle.judge.proofs.one_line.read_in.Tie as tie
@@ -29,7 +30,16 @@ creation-date c =
     let r = c .before .before in
     rw (r .before .before .enum-told4 .given .1, r .count-entry3 .ensures .0, r .count-entry3 .ensures .1)
 
--- the three tables are lent to the call and come back
+-- the three tables are lent to the call
+event-in-requires : tie.Need-event-in-requires
+event-in-requires c κs =
+    let lent = c .before .before .before in
+    let told = lent .before in
+    let line = told .before .before in
+    let begun = line .before .before .before .before in
+    (begun .pre .0, (begun .pre .1 .0, begun .pre .1 .1 ∙ told .r2 .given .1))
+
+-- and come back
 event-line : tie.Need-returns-6
 event-line c =
     let nums-back = c .before .before .before in
@@ -56,7 +66,7 @@ read-in-spec =
     (λ c. search needs)
     (λ c κs. search needs)
     (λ c. search needs)
-    (λ c κs. search needs)
+    event-in-requires
     (λ c. search needs)
     (λ c. search needs)
     version

@@ -4,20 +4,37 @@ use mathlib.Core.Path.{_≡_}
 use Prim.Native.Nat.{_-_}
 use native.Mathlib.Omega.{arith}
 use borrow.Author.Needs.{needs}
-use Rattle.line.proofs.Events.{time-ends, event-few, event-many, event-fields}
+use Rattle.line.proofs.Events.{InOrder, in-order, time-ends, event-few, event-many, event-fields}
 use Rattle.line.proofs.Plain.{plain-fields}
 use Rattle.line.proofs.event.read_event.Statement.{statement}
 use Rattle.line.proofs.event.read_event.Tie as tie
 
--- from the test for a sixth comma to the start, from the test for an eighth to that for a sixth, and from the first part cut to both tests
+-- from the test for a sixth comma to the start, from the test for an eighth to that for a sixth
 abbrev start : tie.Else1 → tie.Start
 start c = c .before .before .before
 
 abbrev enough : tie.Else2 → tie.Else1
 enough c = c .before .before
 
-abbrev tested : tie.After-between → tie.Else2
-tested c = c .before .before
+-- from each part cut to the one before it, and from the first to the tests
+abbrev cut1 : tie.After-part → tie.After-time
+cut1 c = c .before
+
+abbrev cut2 : tie.After-part2 → tie.After-time
+cut2 c = cut1 (c .before)
+
+abbrev cut3 : tie.After-part3 → tie.After-time
+cut3 c = cut2 (c .before)
+
+abbrev cut4 : tie.After-part4 → tie.After-time
+cut4 c = cut3 (c .before)
+
+abbrev cut5 : tie.After-part5 → tie.After-time
+cut5 c = cut4 (c .before)
+
+-- with six commas all stand one after the other
+order : (c : tie.After-time) → InOrder (start (enough (c .before)) .args .line .now) (start (enough (c .before)) .args .c)
+order c = let t = enough (c .before) in in-order _ _ (start t .pre .0) (t .if1 .left)
 
 too-few : tie.Need-returns
 too-few c = let begun = c .before .before .before in event-few _ _ (begun .pre .0) (c .if1 .taken)
@@ -28,14 +45,31 @@ too-many c = let few-tested = c .before .before in event-many _ _ (start few-tes
 part-time-end : tie.Need-part-time-end
 part-time-end c = let h = time-ends _ _ (start (enough c) .pre .0) in search needs
 
+source : tie.Need-part-requires
+source c κs = let o = order c in (o .second, omega arith)
+
+source-instance : tie.Need-part-requires-2
+source-instance c κs = let o = order (cut1 c) in (o .third, omega arith)
+
+kind : tie.Need-part-requires-3
+kind c κs = let o = order (cut2 c) in (o .fourth, omega arith)
+
+target : tie.Need-part-requires-4
+target c κs = let o = order (cut3 c) in (o .fifth, omega arith)
+
+target-instance : tie.Need-part-requires-5
+target-instance c κs = let o = order (cut4 c) in (o .sixth, omega arith)
+
+action : tie.Need-part-requires-6
+action c κs = let o = order (cut5 c) in (o .seventh, o .inside)
+
 read-fields-requires : tie.Need-read-fields-requires
 read-fields-requires c κs = λ p.
     let note = c .before in
     let target = note .before .before .before in
     let source = target .before .before .before in
-    let begun = start (enough (tested source)) in
-    rw (source .between .ensures .bytes, target .between4 .ensures .bytes, note .between7 .ensures .bytes)
-    (plain-fields _ (begun .args .c) (begun .pre .0) (begun .pre .1 p))
+    let begun = start (enough (source .before .before)) in
+    rw (source .part .ensures, target .part4 .ensures, note .between .ensures .bytes) (plain-fields _ (begun .args .c) (begun .pre .0) (begun .pre .1 p))
 
 fields-read : tie.Need-returns-3
 fields-read c =
@@ -46,19 +80,19 @@ fields-read c =
     let kind = target .before in
     let source-instance = kind .before in
     let source = source-instance .before in
-    let few-enough = tested source in
+    let few-enough = source .before .before in
     let begun = start (enough few-enough) in
     let commas = begun .args .c in
     let whole : commas .c1 - 0 ≡ commas .c1 = omega arith in
     rw (
       c .read-fields .ensures,
-      source .between .ensures .bytes,
-      source-instance .between2 .ensures .bytes,
-      kind .between3 .ensures .bytes,
-      target .between4 .ensures .bytes,
-      target-instance .between5 .ensures .bytes,
-      action .between6 .ensures .bytes,
-      note .between7 .ensures .bytes,
+      source .part .ensures,
+      source-instance .part2 .ensures,
+      kind .part3 .ensures,
+      target .part4 .ensures,
+      target-instance .part5 .ensures,
+      action .part6 .ensures,
+      note .between .ensures .bytes,
       whole,
     ) (event-fields _ commas (begun .pre .0) (enough few-enough .if1 .left) (few-enough .if2 .left))
 
@@ -71,12 +105,12 @@ read-event-spec =
     (λ c. search needs)
     (λ c. search needs)
     part-time-end
-    (λ c κs. tt)
-    (λ c κs. tt)
-    (λ c κs. tt)
-    (λ c κs. tt)
-    (λ c κs. tt)
-    (λ c κs. tt)
+    source
+    source-instance
+    kind
+    target
+    target-instance
+    action
     (λ c κs. tt)
     read-fields-requires
     fields-read)

@@ -1,5 +1,5 @@
 -- `line::reading::read_at` meets its contract: the length, then a break inside, then an event line or one that starts with `#`.
-use mathlib.Core.Path.{_≡_, sym, _∙_}
+use mathlib.Core.Path.{_≡_}
 use mathlib.Core.Bool.{false, _||_}
 use lib.Dec.{ltb}
 use lib.ListN.{length}
@@ -9,27 +9,24 @@ use Rattle.line.proofs.reading.read_at.Statement.{statement}
 use Rattle.line.proofs.reading.read_at.Tie as tie
 
 is-line : (c : tie.Else2) →
-    let short = c .before .before .before in
+    let short = c .before .before in
     let l = short .before .before .args .line .now in
     (ltb lineMost (length l) || hasBreak l) ≡ false
-is-line c = rw (le-ltb lineMost _ (c .before .before .before .if1 .left), ← (c .before .broken .ensures), c .if2 .left)
+is-line c = rw (le-ltb lineMost _ (c .before .before .if1 .left), ← (c .before .broken .ensures), c .if2 .left)
 
 too-long : tie.Need-returns
 unfolding readLine
 too-long c = rw (lt-ltb lineMost _ (c .if1 .taken))
 
 plain-known : tie.Need-broken-requires
-plain-known c κs p = sym (c .all-plain .ensures) ∙ p
+plain-known c κs = c .before .before .pre .1
 
 breaks : tie.Need-returns-2
 unfolding readLine
-breaks c = rw (le-ltb lineMost _ (c .before .before .before .if1 .left), ← (c .before .broken .ensures), c .if2 .taken)
+breaks c = rw (le-ltb lineMost _ (c .before .before .if1 .left), ← (c .before .broken .ensures), c .if2 .taken)
 
 commas-known : tie.Need-read-event-requires
-commas-known c κs =
-    let unbroken = c .before .before in
-    let plain = unbroken .before .before in
-    (plain .before .before .before .pre, λ p. sym (plain .all-plain .ensures) ∙ p)
+commas-known c κs = let short = c .before .before .before .before in short .before .before .pre
 
 event : tie.Need-returns-3
 unfolding readLine
@@ -48,7 +45,6 @@ read-at-spec =
     tie.close
     (tie.spec
     too-long
-    (λ c κs. tt)
     plain-known
     breaks
     (λ c κs. tt)
