@@ -1,16 +1,16 @@
 -- What the look-ups find: the last number that passes a test, for any test; each look-up in tables of their sizes; and what the tests of a row mean.
 use mathlib.Core.Path.{_≡_, refl, sym, ap, subst, _∙_}
-use mathlib.Core.Bool.{Bool, true, false, _&&_, _||_, cond, and-false}
+use mathlib.Core.Bool.{Bool, true, false, cond}
 use mathlib.Core.List.{List}
 use mathlib.Core.Logic.{⊎-elim}
 use Prim.Native.Nat.{ℕ, zero, suc, _+_, _-_, _*_, _≤_, _<_}
 use native.Mathlib.Nat.{not-suc-le-zero, le-of-suc-le-suc, eq-or-lt-of-le}
+use native.Mathlib.Decide.{le-ind}
 use native.Mathlib.Omega.{arith}
-use lib.Dec.{eqb, ltb}
 use lib.ListN.{length, take, drop}
 use borrow.Author.Tests.{le-leb, lt-ltb, eq-eqb}
 use Rattle.text.specs.Bytes.{sameBytes}
-use Rattle.text.proofs.Bools.{is-false, or-l, or-r}
+use Rattle.text.proofs.Bools.{is-false}
 use Rattle.text.proofs.Words.{same-eq, eq-same}
 use Rattle.tables.specs.Entry.{nameRows, instanceRows, nameRoom, namesSize, numsSize, lengthAt, nameAt, instanceCount, ownerAt, instanceAt, places}
 use Rattle.tables.proofs.Means.{Means, means-le, means-lt, means-eq, means-and}
@@ -44,16 +44,14 @@ module _ (f : ℕ → Bool) where
   unfolding lastBelow
   last-end n h = let e : n ≡ 0 = omega arith in rw (e, lastBelow)
 
-  -- ---- rows looked at together: where none of them passes, the last that passes is the last below them
-
-  pub gather-start : (from : ℕ) → lastBelow f (from + 0) ≡ lastBelow f from
-  gather-start from = let e : from + 0 ≡ from = omega arith in rw e
-
-  pub gather-turn : (from k : ℕ) (have test : Bool) → (test ≡ false → f (from + k) ≡ false) → (have ≡ false → lastBelow f (from + k) ≡ lastBelow f from)
-      → have || test ≡ false → lastBelow f (from + (k + 1)) ≡ lastBelow f from
-  gather-turn from k have test other so e =
-      let n : (from + (k + 1)) - 1 ≡ from + k = omega arith in
-      last-miss (from + (k + 1)) (omega arith) (rw n (other (or-r have test e))) ∙ rw n (so (or-l have test e))
+  -- rows that don't pass are passed over
+  pub last-over : (from to : ℕ) → from ≤ to → ((k : ℕ) → from ≤ k → k < to → f k ≡ false) → lastBelow f to ≡ lastBelow f from
+  unfolding lastBelow
+  last-over from to =
+      le-ind (λ (n : ℕ). ((k : ℕ) → from ≤ k → k < n → f k ≡ false) → lastBelow f n ≡ lastBelow f from)
+      (λ none. refl)
+      (λ n h so none. rw (none n h (omega arith)) (so (λ k lo hi. none k lo (omega arith))))
+      to
 
   -- ---- what was found
 
@@ -126,8 +124,3 @@ instance-means nums owner number j = means-and (means-lt j instanceRows) (means-
 pub reaches-means : (nums : List ℕ) (owner number j : ℕ) → Means (reachesIn nums owner number j) ((j < instanceRows) × ((number ≤ instanceAt nums j) × (ownerAt nums j ≡ owner)))
 unfolding reachesIn
 reaches-means nums owner number j = means-and (means-lt j instanceRows) (means-and (means-le number (instanceAt nums j)) (means-eq (ownerAt nums j) owner))
-
--- a row whose number or owner is another is not that instance
-pub other-instance : (nums : List ℕ) (owner number j : ℕ) → eqb (instanceAt nums j) number && eqb (ownerAt nums j) owner ≡ false → instanceIs nums owner number j ≡ false
-unfolding instanceIs
-other-instance nums owner number j e = rw e (and-false (ltb j instanceRows))

@@ -1,8 +1,11 @@
 // Looking a name or an instance up.
 ghost use mathlib.Core.Path.{_≡_};
-ghost use mathlib.Core.Bool.{false};
-ghost use Prim.Native.Nat.{_+_, _≤_, _<_};
+ghost use mathlib.Core.Bool.{_&&_, cond};
+ghost use Prim.Native.Nat.{_+_, _-_, _%_, _≤_, _<_, min};
+ghost use lib.Count.{leadingZeros};
+ghost use lib.Dec.{eqb};
 ghost use lib.ListN.{length};
+ghost use Rattle.marks.specs.Marks.{marksFrom};
 ghost use Rattle.tables.specs.Entry.{namesSize, numsSize, instanceRows, placeRows};
 ghost use Rattle.index.specs.Index.{sought};
 ghost use Rattle.lookup.specs.Find.{endsAt, rowMet, instanceIs, reachesIn, findName, findInstance, findFrom, lastBelow};
@@ -47,71 +50,80 @@ pub fn find_name(names: &[u8], nums: &[u32], name: &[u8]) -> Found
     seek(names, nums, &nums[PLACE..PLACES_END], name, home_of(name))
 }
 
-// Whether row j is the instance of an owner with a number.
-fn instance_is(nums: &[u32], owner: u32, number: u32, j: usize) -> bool
-    requires { ⌜ length (now nums) ≡ numsSize ⌝ }
-    ensures { λ r. ⌜ r ≡ instanceIs (now (nums .entry)) owner number j ⌝ }
+// What a row with number a and owner b adds: its weight where it is the instance sought, and nothing where it is another.
+fn weight(a: u32, b: u32, number: u32, owner: u32, w: u32) -> u32
+    ensures { λ r. ⌜ r ≡ cond (eqb a number && eqb b owner) w 0 ⌝ }
 {
-    if INSTANCE_ROWS <= j {
-        return false;
-    }
-    if nums[INSTANCE + j] != number {
-        return false;
-    }
-    nums[OWNER + j] == owner
+    if (a == number) & (b == owner) { w } else { 0 }
 }
 
-// Whether one of the eight rows from `start` on is the instance of an owner with a number; `false` is what it promises. All eight are looked
-// at with no exit between, so that they can be compared at once.
-fn eight_have(nums: &[u32], owner: u32, number: u32, start: usize) -> bool
-    requires { ⌜ (start + 8 ≤ instanceRows) × (length (now nums) ≡ numsSize) ⌝ }
-    ensures { λ r. ⌜ (r ≡ false → lastBelow (instanceIs (now (nums .entry)) owner number) (start + 8)
-        ≡ lastBelow (instanceIs (now (nums .entry)) owner number) start) ⌝ }
+// Which of the sixteen rows from `at` on are the instance of an owner with a number, as marks in one number. All sixteen are looked at with no
+// exit between, so that they can be compared at once.
+fn sixteen(nums: &[u32], owner: u32, number: u32, at: usize) -> u32
+    requires { ⌜ (at + 16 ≤ instanceRows) × (length (now nums) ≡ numsSize) ⌝ }
+    ensures { λ r. ⌜ r ≡ marksFrom (instanceIs (now (nums .entry)) owner number) at 16 ⌝ }
 {
-    let mut have = false;
+    let mut m: u32 = 0;
+    let mut w: u32 = 1;
     let mut k = 0;
-    while k < 8 {
-        let j = start + k;
-        have = have | ((nums[INSTANCE + j] == number) & (nums[OWNER + j] == owner));
+    while k < 16 {
+        let j = at + k;
+        m = m + weight(nums[INSTANCE + j], nums[OWNER + j], number, owner, w);
+        w = w + w;
         k += 1;
     }
-    have
+    m
 }
 
-// A number from `to` downwards, in steps of eight, from which on no row below `to` is that instance.
-fn skip_rows(nums: &[u32], owner: u32, number: u32, to: usize) -> usize
-    requires { ⌜ length (now nums) ≡ numsSize ⌝ }
-    ensures { λ r. ⌜ lastBelow (instanceIs (now (nums .entry)) owner number) to ≡ lastBelow (instanceIs (now (nums .entry)) owner number) r ⌝ }
+// The row of the highest mark, where the lowest is for row `at`.
+fn last_of(at: usize, m: u32) -> Found
+    requires { ⌜ (at ≤ instanceRows) × (0 < m) ⌝ }
+    ensures { λ r. ⌜ r ≡ Found.At (at + (31 - leadingZeros 32 m)) ⌝ }
 {
-    if INSTANCE_ROWS < to {
-        return to;
-    }
-    let mut j = to;
-    while 8 <= j {
-        if eight_have(nums, owner, number, j - 8) {
-            return j;
-        }
-        j -= 8;
-    }
-    j
+    Found::At(at + (31 - u32::leading_zeros(m)) as usize)
 }
 
-// The last row of an instance: the newest is looked at first.
+// The last row of an instance below `to`, a multiple of sixteen.
+fn find_below(nums: &[u32], owner: u32, number: u32, to: usize) -> Found
+    requires { ⌜ (to ≤ instanceRows) × ((to % 16 ≡ 0) × (length (now nums) ≡ numsSize)) ⌝ }
+    ensures { λ r. ⌜ r ≡ lastBelow (instanceIs (now (nums .entry)) owner number) to ⌝ }
+{
+    let mut at = to;
+    while 0 < at {
+        at -= 16;
+        let m = sixteen(nums, owner, number, at);
+        if m != 0 {
+            return last_of(at, m);
+        }
+    }
+    Found::Nothing
+}
+
+// How many rows to look at: no more than there are, whatever number the tables hold.
+fn rows(n: usize) -> usize
+    ensures { λ r. ⌜ r ≡ min n instanceRows ⌝ }
+{
+    if INSTANCE_ROWS < n { INSTANCE_ROWS } else { n }
+}
+
+// The last row of an instance: the newest are looked at first. Of the sixteen that the newest is among, those after it don't count, and their
+// marks are dropped.
 pub fn find_instance(nums: &[u32], owner: u32, number: u32) -> Found
     ensures { λ r. ⌜ r ≡ findInstance (now (nums .entry)) owner number ⌝ }
 {
     if nums.len() != NUMS_SIZE {
         return Found::Nothing;
     }
-    let n = nums[INSTANCES] as usize;
-    let mut j = skip_rows(nums, owner, number, n);
-    while 0 < j {
-        j -= 1;
-        if instance_is(nums, owner, number, j) {
-            return Found::At(j);
-        }
+    let n = rows(nums[INSTANCES] as usize);
+    if n == 0 {
+        return Found::Nothing;
     }
-    Found::Nothing
+    let at = (n - 1) / 16 * 16;
+    let m = sixteen(nums, owner, number, at) % (1u32 << (n - at));
+    if m != 0 {
+        return last_of(at, m);
+    }
+    find_below(nums, owner, number, at)
 }
 
 // Whether row j is an instance of an owner with a number or a higher one.
