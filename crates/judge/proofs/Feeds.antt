@@ -81,12 +81,13 @@ module _ (t : Tables) (s : List ℕ) (at : ℕ) where
       → chunked (record { answer = x .answer; used = start }) (x .left .names) (x .left .nums) (x .left .ticks) ≡ fedNext t s at n
   judged-next end start q e = rw (q, e)
 
-  -- all of it as one line
-  pub judged-whole : {x : AfterChunk} → x ≡ fedNext t s 0 (lineFrom true s 0) → after (x .fed .answer) (x .left .names) (x .left .nums) (x .left .ticks) ≡ judgedLine t s
-  unfolding lineFrom partFrom
-  judged-whole e =
-      let n : length s - 0 ≡ length s = omega arith in
-      rw (e, le-leb 0 (length s) (omega arith), n, take-all (length s) s (omega arith))
+-- all of it as one line
+pub judged-whole : (t : Tables) (s : List ℕ) {x : AfterChunk} → x ≡ fedNext t s 0 (lineFrom true s 0)
+    → after (x .fed .answer) (x .left .names) (x .left .nums) (x .left .ticks) ≡ judgedLine t s
+unfolding lineFrom partFrom
+judged-whole t s e =
+    let n : length s - 0 ≡ length s = omega arith in
+    rw (e, le-leb 0 (length s) (omega arith), n, take-all (length s) s (omega arith))
 
 -- ---- the tables tested first
 

@@ -36,9 +36,6 @@ going-on {t} {u} {s} {at} {e} {n} {x} g d p =
       lines = rw p (sym (ap (judgedLines u) (d .whole)) ∙ g .lines);
     }
 
-no-less : (at e n : ℕ) → at ≤ e → e < n → n ≡ at → ⊥
-no-less at e n h k q = omega arith
-
 going-end : {t u : Tables} {s : List ℕ} {at : ℕ} → Going t u s at → Rested s at → (at ≡ usedUp s) × (u ≡ judgedLines t (wholeLines s))
 unfolding judgedLines
 going-end {t} {u} g r = (omega (arith, r .used, g .used), sym (ap (judgedLines u) (r .whole)) ∙ g .lines)
@@ -46,7 +43,10 @@ going-end {t} {u} g r = (omega (arith, r .used, g .used), sym (ap (judgedLines u
 -- a turn of the loop: nothing is left where the place stays, and else one line more is done
 module _ {t u : Tables} {s : List ℕ} {at : ℕ} {x : AfterChunk} (g : Going t u s at) where
   ends-by : (n : Next) → nextFrom s at ≡ n → x ≡ fedNext u s at n → x .fed .used ≡ at → Alike t (x .left) × ((at ≡ usedUp s) × (x .left ≡ judgedLines t (wholeLines s)))
-  ends-by (Line e n) q p h = let d = line-step s at e n q in let k : n ≡ at = rw p at h in absurd (no-less at e n (d .starts) (d .ends) k)
+  ends-by (Line e n) q p h =
+      let d = line-step s at e n q in
+      let k : n ≡ at = rw p at h in
+      let on : ⊥ = omega arith in absurd on
   ends-by Rest q p h = rw p (g .alike, going-end g (rest-step s at q))
 
   goes-by : (n : Next) → nextFrom s at ≡ n → x ≡ fedNext u s at n → (x .fed .used ≡ at → ⊥) → (at < x .fed .used) × Going t (x .left) s (x .fed .used)

@@ -22,7 +22,7 @@ judged : tie.Need-returns-2
 judged c =
     let l = called c in
     let i = tested (l .before) in
-    judged-fed _ _ (i .before .table-answer .ensures) (i .if1 .left) (judged-whole _ _ 0 (l .next-in .ensures))
+    judged-fed _ _ (i .before .table-answer .ensures) (i .if1 .left) (judged-whole _ _ (l .next-in .ensures))
 
 pub feed-spec : {M : Type 1} → statement M
 feed-spec =
