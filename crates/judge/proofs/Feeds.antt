@@ -1,17 +1,12 @@
 -- One line against the tables: each return of the code is what the definitions say. So too where the tables are tested first, for a line and a chunk.
 use mathlib.Core.Path.{_≡_, sym, _∙_}
-use mathlib.Core.Bool.{true}
 use mathlib.Core.List.{List}
-use Prim.Native.Nat.{ℕ, _-_}
-use native.Mathlib.Omega.{arith}
-use lib.ListN.{length}
-use lib.Seq.{take-all}
-use borrow.Author.Tests.{eq-eqb, ne-eqb, le-leb}
+use Prim.Native.Nat.{ℕ}
+use borrow.Author.Tests.{eq-eqb, ne-eqb}
 use Rattle.walk.specs.declared.lines.Next.{Next}
 use Rattle.walk.specs.declared.lines.Next.the-variants.{Line, Rest}
 use Rattle.walk.specs.Lines.{wholeLines, usedUp}
 use Rattle.fields.specs.Part.{fieldOf, partFrom}
-use Rattle.scan.specs.Ahead.{lineFrom}
 use Rattle.line.specs.declared.event.Event.{Event as ReadEvent}
 use Rattle.line.specs.declared.reading.Reading.{Reading}
 use Rattle.line.specs.Reading.{readLine}
@@ -32,7 +27,7 @@ use Rattle.decide.proofs.Decided.{decided-sized}
 use Rattle.store.specs.Store.{stored}
 use Rattle.store.proofs.Stores.{stored-sized}
 use Rattle.judge.specs.Feed.{Tables, After, after, placeIn, remembered, carried, judgedEvent, judgedReading, judgedInPlace, judgedLine, fedLine}
-use Rattle.judge.specs.Feed.{AfterChunk, judgedLines, chunked, fedNext, fedChunk}
+use Rattle.judge.specs.Feed.{judgedLines, chunked, fedNext, fedChunk}
 
 -- ---- an event line
 
@@ -80,14 +75,6 @@ module _ (t : Tables) (s : List ℕ) (at : ℕ) where
   pub judged-next : {n : Next} {x : After} (end start : ℕ) → n ≡ Line end start → x ≡ judgedLine t (partFrom s at end)
       → chunked (record { answer = x .answer; used = start }) (x .left .names) (x .left .nums) (x .left .ticks) ≡ fedNext t s at n
   judged-next end start q e = rw (q, e)
-
--- all of it as one line
-pub judged-whole : (t : Tables) (s : List ℕ) {x : AfterChunk} → x ≡ fedNext t s 0 (lineFrom true s 0)
-    → after (x .fed .answer) (x .left .names) (x .left .nums) (x .left .ticks) ≡ judgedLine t s
-unfolding lineFrom partFrom
-judged-whole t s e =
-    let n : length s - 0 ≡ length s = omega arith in
-    rw (e, le-leb 0 (length s) (omega arith), n, take-all (length s) s (omega arith))
 
 -- ---- the tables tested first
 

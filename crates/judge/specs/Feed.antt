@@ -1,9 +1,9 @@
 -- One line against the tables, and many lines.
-use mathlib.Core.Bool.{not, cond}
+use mathlib.Core.Bool.{Bool, true, false, not, cond}
 use mathlib.Core.List.{List, [], _∷_}
 use Prim.Native.Nat.{ℕ, _+_, _%_, _^_}
 use lib.Dec.{eqb}
-use lib.ListN.{set, replicate}
+use lib.ListN.{length, set, replicate}
 use Rattle.walk.specs.declared.lines.Next.{Next}
 use Rattle.walk.specs.declared.lines.Next.the-variants.{Line, Rest}
 use Rattle.walk.specs.Lines.{wholeLines, usedUp}
@@ -107,6 +107,11 @@ fedNext t s at (Line end start) =
     let judged = judgedLine t (partFrom s at end) in
     record { fed = record { answer = judged .answer; used = start }; left = judged .left }
 fedNext t s at Rest = record { fed = record { answer = 0; used = at }; left = t }
+
+-- every whole line in turn, after which none is left to answer; where `whole`, all of it as one line
+abbrev pub fedLines : Bool → Tables → List ℕ → AfterChunk
+fedLines true t s = record { fed = record { answer = judgedLine t s .answer; used = length s }; left = judgedLine t s .left }
+fedLines false t s = record { fed = record { answer = 0; used = usedUp s }; left = judgedLines t (wholeLines s) }
 
 unfoldable pub fedChunk : Tables → List ℕ → AfterChunk
 fedChunk t chunk =

@@ -1,9 +1,8 @@
 // What the judge is asked over lent tables, whatever they hold: one line, and the lines of a chunk.
 ghost use mathlib.Core.Path.{_≡_};
-ghost use Rattle.walk.specs.Lines.{wholeLines, usedUp};
 ghost use Rattle.scan.specs.Ahead.{lineFrom};
 ghost use Rattle.tables.specs.Sized.{Sized};
-ghost use Rattle.judge.specs.Feed.{tables, after, fedLine, fedNext, judgedLines, chunked, fedChunk};
+ghost use Rattle.judge.specs.Feed.{tables, after, fedLine, fedNext, chunked, fedLines, fedChunk};
 use crate::one_line::line_in;
 use line::read_next;
 use line::reading::NextRead;
@@ -43,6 +42,23 @@ fn next_in(
     }
 }
 
+// Every whole line of a chunk in turn, and how many bytes they took; where `whole`, the chunk is one line as it stands, and the answer is the one to it. Reading and judging is
+// called from here alone, so that the compiler can put all of it into this loop.
+fn lines_in(names: &mut [u8], nums: &mut [u32], ticks: &mut [u64], s: &[u8], whole: bool) -> Fed
+    requires { ⌜ Sized (now names) (now nums) (now ticks) ⌝ }
+    ensures { λ r. ⌜ chunked r (now (names .exit)) (now (nums .exit)) (now (ticks .exit))
+        ≡ fedLines whole (tables (now (names .entry)) (now (nums .entry)) (now (ticks .entry))) (now (s .entry)) ⌝ }
+{
+    let mut at = 0;
+    loop {
+        let fed = next_in(names, nums, ticks, s, at, whole);
+        if whole | (fed.used == at) {
+            return fed;
+        }
+        at = fed.used;
+    }
+}
+
 // One line without its end.
 pub fn feed(names: &mut [u8], nums: &mut [u32], ticks: &mut [u64], l: &[u8]) -> u32
     ensures { λ r. ⌜ after r (now (names .exit)) (now (nums .exit)) (now (ticks .exit))
@@ -52,25 +68,8 @@ pub fn feed(names: &mut [u8], nums: &mut [u32], ticks: &mut [u64], l: &[u8]) -> 
     if t != 0 {
         return t;
     }
-    let fed = next_in(names, nums, ticks, l, 0, true);
+    let fed = lines_in(names, nums, ticks, l, true);
     fed.answer
-}
-
-// Every whole line of a chunk in turn, and how many bytes they took.
-fn lines_in(names: &mut [u8], nums: &mut [u32], ticks: &mut [u64], chunk: &[u8]) -> usize
-    requires { ⌜ Sized (now names) (now nums) (now ticks) ⌝ }
-    ensures { λ r. ⌜ (r ≡ usedUp (now (chunk .entry)))
-        × (tables (now (names .exit)) (now (nums .exit)) (now (ticks .exit))
-        ≡ judgedLines (tables (now (names .entry)) (now (nums .entry)) (now (ticks .entry))) (wholeLines (now (chunk .entry)))) ⌝ }
-{
-    let mut at = 0;
-    loop {
-        let fed = next_in(names, nums, ticks, chunk, at, false);
-        if fed.used == at {
-            return at;
-        }
-        at = fed.used;
-    }
 }
 
 // Every whole line of a chunk in turn; the tables are tested once.
@@ -82,9 +81,9 @@ pub fn feed_chunk(names: &mut [u8], nums: &mut [u32], ticks: &mut [u64], chunk: 
     if t != 0 {
         return Fed { answer: t, used: 0 };
     }
-    let used = lines_in(names, nums, ticks, chunk);
+    let fed = lines_in(names, nums, ticks, chunk, false);
     Fed {
         answer: nums[VERDICT],
-        used,
+        used: fed.used,
     }
 }

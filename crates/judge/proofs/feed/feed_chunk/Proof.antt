@@ -1,6 +1,8 @@
 -- `judge::feed::feed_chunk` meets its contract: the tables are tested once, and keep their sizes over the lines.
+use mathlib.Core.Path.{ap}
 use native.Mathlib.Omega.{arith}
 use borrow.Author.Needs.{needs}
+use Rattle.judge.specs.Feed.{AfterChunk}
 use Rattle.judge.proofs.Sizes.{lines-alike}
 use Rattle.judge.proofs.Feeds.{sized, refused-chunk, judged-chunk}
 use Rattle.judge.proofs.feed.feed_chunk.Statement.{statement}
@@ -30,14 +32,14 @@ verdict-inside c =
     omega (
       arith,
       sized _ (i .before .table-answer .ensures) (i .if1 .left) .nums-size,
-      lines-alike _ (l .lines-in .ensures .1) .nums-kept,
+      lines-alike _ (ap (λ (x : AfterChunk). x .left) (l .lines-in .ensures)) .nums-kept,
     )
 
 judged : tie.Need-returns-2
 judged c =
     let l = called c in
     let i = tested (l .before) in
-    judged-chunk _ _ (i .before .table-answer .ensures) (i .if1 .left) (l .lines-in .ensures .0) (l .lines-in .ensures .1)
+    judged-chunk _ _ (i .before .table-answer .ensures) (i .if1 .left) (ap (λ (x : AfterChunk). x .fed .used) (l .lines-in .ensures)) (ap (λ (x : AfterChunk). x .left) (l .lines-in .ensures))
 
 pub feed-chunk-spec : {M : Type 1} → statement M
 feed-chunk-spec =

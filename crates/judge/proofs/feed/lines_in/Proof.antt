@@ -10,10 +10,10 @@ use Rattle.judge.proofs.feed.lines_in.Statement.{statement}
 use Rattle.judge.proofs.feed.lines_in.Tie as tie
 
 abbrev Inv-loop : tie.InvT-loop
-Inv-loop names₀ nums₀ ticks₀ chunk at₀ names nums ticks at = Going (tables names₀ nums₀ ticks₀) (tables names nums ticks) chunk at
+Inv-loop names₀ nums₀ ticks₀ s whole at₀ names nums ticks at = Going whole (tables names₀ nums₀ ticks₀) (tables names nums ticks) s at
 
 abbrev μ-loop : tie.MeasureT-loop
-μ-loop names₀ nums₀ ticks₀ chunk at₀ names nums ticks at = length chunk - at
+μ-loop names₀ nums₀ ticks₀ s whole at₀ names nums ticks at = length s - at
 
 -- from the loop's head to the start: the chunk is known on the way, and before it the tables
 abbrev start : tie.At-loop Inv-loop μ-loop → tie.Start Inv-loop μ-loop
@@ -31,32 +31,32 @@ called c =
     nums-back .before .before .before
 
 begins : tie.Need-loop-holds Inv-loop μ-loop
-begins c = going-start _ _
+begins c = going-start _ _ _
 
 next-in-requires : tie.Need-next-in-requires Inv-loop μ-loop
 next-in-requires c κs = let l = c .before .before .before in alike-sized (l .loop .inv .alike) (start l .pre)
 
 names-kept : tie.Need-same-length Inv-loop μ-loop
-names-kept c = let n = called (c .before) in loop-ends (turned n .loop .inv) (n .next-in .ensures) (c .if1 .taken) .0 .names-kept
+names-kept c = let n = called (c .before) in loop-ends _ (turned n .loop .inv) (n .next-in .ensures) (c .if1 .taken) .0 .names-kept
 
 nums-kept : tie.Need-same-length-2 Inv-loop μ-loop
-nums-kept c = let n = called (c .before) in loop-ends (turned n .loop .inv) (n .next-in .ensures) (c .if1 .taken) .0 .nums-kept
+nums-kept c = let n = called (c .before) in loop-ends _ (turned n .loop .inv) (n .next-in .ensures) (c .if1 .taken) .0 .nums-kept
 
 ticks-kept : tie.Need-same-length-3 Inv-loop μ-loop
-ticks-kept c = let n = called (c .before) in loop-ends (turned n .loop .inv) (n .next-in .ensures) (c .if1 .taken) .0 .ticks-kept
+ticks-kept c = let n = called (c .before) in loop-ends _ (turned n .loop .inv) (n .next-in .ensures) (c .if1 .taken) .0 .ticks-kept
 
 done : tie.Need-returns Inv-loop μ-loop
-done c = let n = called (c .before) in loop-ends (turned n .loop .inv) (n .next-in .ensures) (c .if1 .taken) .1
+done c = let n = called (c .before) in loop-ends _ (turned n .loop .inv) (n .next-in .ensures) (c .if1 .taken) .1
 
 less : tie.Need-loop-less Inv-loop μ-loop
 less c =
     let n = called (c .before) in
-    let g = loop-goes (turned n .loop .inv) (n .next-in .ensures) (c .if1 .left) in
+    let g = loop-goes _ (turned n .loop .inv) (n .next-in .ensures) (c .if1 .left) in
     let i = g .1 .inside in
     omega (arith, g .0, i)
 
 again : tie.Need-loop-again Inv-loop μ-loop
-again c = let n = called (c .before) in loop-goes (turned n .loop .inv) (n .next-in .ensures) (c .if1 .left) .1
+again c = let n = called (c .before) in loop-goes _ (turned n .loop .inv) (n .next-in .ensures) (c .if1 .left) .1
 
 pub lines-in-spec : {M : Type 1} → statement M
 lines-in-spec =
