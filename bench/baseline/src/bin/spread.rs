@@ -7,9 +7,11 @@ use baseline::making::Naming;
 
 const PLACES: usize = 512;
 
-/// How a fold goes on with a byte, and which of its bits are the place.
+/// How a fold goes on, and which of its bits are the place.
 #[derive(Clone, Copy)]
 enum Fold {
+    /// The sum of fold and four bytes as one number, so many times; the upper nine bits.
+    Fours(u32),
     /// The sum of fold and byte, so many times; the upper nine bits.
     Upper(u32),
     /// So many times the fold, and the byte; the lower nine bits.
@@ -18,22 +20,38 @@ enum Fold {
 
 impl Fold {
     fn home(self, name: &str) -> usize {
-        let folded = name.bytes().fold(0u32, |fold, byte| match self {
-            Fold::Upper(factor) => fold.wrapping_add(byte.into()).wrapping_mul(factor),
-            Fold::Lower(factor) => fold.wrapping_mul(factor).wrapping_add(byte.into()),
-        });
+        let bytes = name.bytes().map(u32::from);
         match self {
-            Fold::Upper(_) => (folded >> 23) as usize,
-            Fold::Lower(_) => folded as usize % PLACES,
+            Fold::Fours(factor) => upper(factor, fours(name.as_bytes())),
+            Fold::Upper(factor) => upper(factor, bytes),
+            Fold::Lower(factor) => lower(factor, bytes),
         }
     }
 
     fn title(self) -> String {
         match self {
+            Fold::Fours(factor) => format!("upper bits, by fours, 0x{factor:08x} times"),
             Fold::Upper(factor) => format!("upper bits, 0x{factor:08x} times"),
             Fold::Lower(factor) => format!("lower bits, {factor} times"),
         }
     }
+}
+
+fn upper(factor: u32, numbers: impl Iterator<Item = u32>) -> usize {
+    (numbers.fold(0, |fold: u32, number| fold.wrapping_add(number).wrapping_mul(factor)) >> 23) as usize
+}
+
+fn lower(factor: u32, numbers: impl Iterator<Item = u32>) -> usize {
+    numbers.fold(0, |fold: u32, number| fold.wrapping_mul(factor).wrapping_add(number)) as usize % PLACES
+}
+
+/// Four bytes each, the first the lowest: fours from the front on as long as a
+/// byte is left after them, and then the last four.
+fn fours(name: &[u8]) -> impl Iterator<Item = u32> + '_ {
+    let before = name.len().saturating_sub(1) / 4;
+    let last = &name[name.len().saturating_sub(4)..];
+    let number = |four: &[u8]| four.iter().rev().fold(0, |number, &byte| number << 8 | u32::from(byte));
+    name.chunks(4).take(before).chain([last]).map(number)
 }
 
 /// The places that are tried for each name once all are in the index.
@@ -108,14 +126,15 @@ fn all_sets() -> Vec<Vec<String>> {
 fn main() {
     let sets = all_sets();
     println!("{} sets of 240 names in 512 places: places tried for a name that is there", sets.len());
-    println!("{:<32} {:>12} {:>14} {:>8}", "fold", "mean of sets", "mean of worst", "longest");
-    let folds = [Fold::Upper(0x1050_2041), Fold::Lower(33), Fold::Lower(69), Fold::Lower(213)];
+    println!("{:<40} {:>12} {:>14} {:>8}", "fold", "mean of sets", "mean of worst", "longest");
+    let folds =
+        [Fold::Fours(0x7659_91d1), Fold::Upper(0x1050_2041), Fold::Lower(33), Fold::Lower(69), Fold::Lower(213)];
     for fold in folds {
         let tried: Vec<Vec<usize>> = sets.iter().map(|names| tries(fold, names)).collect();
         let means: Vec<f64> = tried.iter().map(|set| set.iter().sum::<usize>() as f64 / set.len() as f64).collect();
         let mean = means.iter().sum::<f64>() / means.len() as f64;
         let worst = means.iter().cloned().fold(0.0, f64::max);
         let longest = tried.iter().flatten().max().expect("there are names");
-        println!("{:<32} {mean:>12.2} {worst:>14.2} {longest:>8}", fold.title());
+        println!("{:<40} {mean:>12.2} {worst:>14.2} {longest:>8}", fold.title());
     }
 }
