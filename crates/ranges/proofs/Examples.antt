@@ -13,7 +13,7 @@ use Rattle.rules.specs.Charts.{isProcess, processChart, runnableChart, semaphor
 use Rattle.rules.specs.History.{hasInstances}
 use Rattle.tables.specs.Entry.{storeAt, namesIndex, instancesIndex, kindColumn, lengthColumn, ownerColumn, stateColumn, placeColumn, numsSize}
 use Rattle.index.specs.First.{firstOf}
-use Rattle.index.specs.Hash.{step, folded, homeOf}
+use Rattle.index.specs.Hash.{word, step, fours, folded, homeOf}
 use Rattle.index.specs.Index.{free, indexOf, homeAt, indexFrom}
 use Rattle.ranges.specs.Range.{holderOk, coreOk, standingOk, instanceOk, indexOk}
 
@@ -51,9 +51,9 @@ pub name-states :
 unfolding standingOk isProcess isStateOf chartOf semaphoreChart
 name-states = refl
 
--- two names with one home, 72: "A" in row 0 and "XK" in row 1; and an index with row 0 in the place p, row 1 in the place q, and v in the place 0
+-- two names with one home, 25: "A" in row 0 and "RE" in row 1; and an index with row 0 in the place p, row 1 in the place q, and v in the place 0
 abbrev twoNames : List ℕ
-twoNames = set (set (set (replicate 128 0) 0 65) 64 88) 65 75
+twoNames = set (set (set (replicate 128 0) 0 65) 64 82) 65 69
 
 abbrev indexed : ℕ → ℕ → ℕ → List ℕ
 indexed p q v =
@@ -61,13 +61,13 @@ indexed p q v =
 
 -- each row in turn in the first free place: not the later row first, no place passed over, no row left out, nothing else in the index
 pub index-order :
-    (indexOk twoNames (indexed 72 73 0)
-    ∷ indexOk twoNames (indexed 73 72 0)
-    ∷ indexOk twoNames (indexed 72 74 0)
-    ∷ indexOk twoNames (indexed 72 0 0)
-    ∷ indexOk twoNames (indexed 72 73 1)
-    ∷ indexOk twoNames (indexed 72 73 3)
+    (indexOk twoNames (indexed 25 26 0)
+    ∷ indexOk twoNames (indexed 26 25 0)
+    ∷ indexOk twoNames (indexed 25 27 0)
+    ∷ indexOk twoNames (indexed 25 0 0)
+    ∷ indexOk twoNames (indexed 25 26 1)
+    ∷ indexOk twoNames (indexed 25 26 3)
     ∷ [])
     ≡ (true ∷ false ∷ false ∷ false ∷ false ∷ false ∷ [])
-unfolding indexOk indexFrom indexOf free firstOf homeAt homeOf folded step sameBytes
+unfolding indexOk indexFrom indexOf free firstOf homeAt homeOf folded fours step word sameBytes
 index-order = refl
