@@ -1,7 +1,6 @@
 // The next line of a chunk with what its bytes tell before it is read.
 ghost use mathlib.Core.Path.{_≡_};
-ghost use mathlib.Core.Bool.{true, false};
-ghost use Rattle.scan.specs.Ahead.{aheadOf};
+ghost use Rattle.scan.specs.Ahead.{lineFrom, aheadOf};
 use crate::quick::quick;
 use fields::part::Commas;
 use fields::split;
@@ -16,23 +15,25 @@ pub enum Ahead {
     Rest,
 }
 
-// What is left from an index on as one line.
-fn left_over(s: &[u8], at: usize) -> Ahead
-    ensures { λ r. ⌜ r ≡ aheadOf true (now (s .entry)) at ⌝ }
+// Where the line at an index ends, and where the next one begins; where `whole`, what is left is one line as it stands.
+fn next_at(s: &[u8], at: usize, whole: bool) -> Next
+    ensures { λ r. ⌜ r ≡ lineFrom whole (now (s .entry)) at ⌝ }
 {
+    if !whole {
+        return line_from(s, at);
+    }
     let n = s.len();
     if n < at {
-        return Ahead::Rest;
+        return Next::Rest;
     }
-    let line = &s[at..n];
-    Ahead::Line(n, n, all_plain(line), split(line))
+    Next::Line(n, n)
 }
 
-// The line at an index, byte by byte.
-fn by_bytes(s: &[u8], at: usize) -> Ahead
-    ensures { λ r. ⌜ r ≡ aheadOf false (now (s .entry)) at ⌝ }
+// That line with what its bytes tell, each looked at by itself.
+fn by_bytes(s: &[u8], at: usize, whole: bool) -> Ahead
+    ensures { λ r. ⌜ r ≡ aheadOf whole (now (s .entry)) at ⌝ }
 {
-    let next = line_from(s, at);
+    let next = next_at(s, at, whole);
     let Next::Line(end, start) = next else {
         return Ahead::Rest;
     };
@@ -40,16 +41,16 @@ fn by_bytes(s: &[u8], at: usize) -> Ahead
     Ahead::Line(end, start, all_plain(line), split(line))
 }
 
-// The line at an index; where `whole`, what is left is one line as it stands.
+// The same, by 128 bytes looked at together where these tell it.
 pub(crate) fn line_at(s: &[u8], at: usize, whole: bool) -> Ahead
     ensures { λ r. ⌜ r ≡ aheadOf whole (now (s .entry)) at ⌝ }
 {
     if whole {
-        return left_over(s, at);
+        return by_bytes(s, at, true);
     }
     let q = quick(s, at);
     if let Ahead::Line(_, _, _, _) = q {
         return q;
     }
-    by_bytes(s, at)
+    by_bytes(s, at, false)
 }

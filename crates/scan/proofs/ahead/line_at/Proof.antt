@@ -4,7 +4,7 @@ use Rattle.scan.proofs.ahead.line_at.Statement.{statement}
 use Rattle.scan.proofs.ahead.line_at.Tie as tie
 
 rest : tie.Need-returns
-rest c = rw (c .before .if1 .taken) (c .left-over .ensures)
+rest c = rw (c .before .if1 .taken) (c .by-bytes .ensures)
 
 quickly : tie.Need-returns-2
 quickly c =
@@ -12,7 +12,7 @@ quickly c =
     rw (q .before .if1 .left) (q .quick .ensures (rw (c .enum-told .given .1)))
 
 slowly : tie.Need-returns-3
-slowly c = let q = c .before .before .before in rw (q .before .if1 .left) (c .by-bytes .ensures)
+slowly c = let q = c .before .before .before in rw (q .before .if1 .left) (c .by-bytes2 .ensures)
 
 pub line-at-spec : {M : Type 1} → statement M
 line-at-spec =
