@@ -179,6 +179,11 @@ comma-missing l (suc k) h =
 
 -- ---- the bytes of a field stand where it starts
 
+-- a part of n bytes
+pub part-front : (l : List ℕ) (a n : ℕ) → partFrom l a (a + n) ≡ take n (drop a l)
+unfolding partFrom
+part-front l a n = let z : a + n - a ≡ n = omega arith in rw z
+
 front-again : (n : ℕ) (s : List ℕ) → take (length (take n s)) s ≡ take n s
 front-again n s = subst (λ (t : List ℕ). take (length (take n s)) t ≡ take n s) (take-append-drop n s) (take-append-seam (take n s) (drop n s))
 
@@ -204,8 +209,7 @@ field-stands l (suc k) =
     (λ h.
     let n = findFrom 44 l a - a in
     let e : fieldOf l (suc k) ≡ take n (drop a l) = from-here l k a (start-there l k h) in
-    let z : a + length (take n (drop a l)) - a ≡ length (take n (drop a l)) = omega arith in
-    rw (le-leb a (length l) h, e, z) (front-again n (drop a l)))
+    rw (le-leb a (length l) h, e, part-front l a (length (take n (drop a l)))) (front-again n (drop a l)))
     (lt-or-ge (length l) a)
 
 -- ---- the fields are what stands between the commas

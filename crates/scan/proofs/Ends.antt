@@ -10,6 +10,8 @@ use lib.ListN.{length, getD, take, drop}
 use borrow.Author.Tests.{eqb-true}
 use Rattle.text.specs.Bytes.{findFrom}
 use Rattle.text.proofs.Bools.{and-l, and-r, lt-or-ge}
+use Rattle.text.proofs.Finds.{find-to}
+use Rattle.text.proofs.Plain.{Plain}
 use Rattle.walk.specs.declared.lines.Next.the-variants.{Line}
 use Rattle.walk.specs.Lines.{lineText, nextFrom}
 use Rattle.walk.proofs.Cuts.{text-cr, text-plain}
@@ -17,7 +19,7 @@ use Rattle.walk.proofs.Nexts.{found-some, between-some, between-next}
 use Rattle.fields.specs.declared.part.Commas.{Commas}
 use Rattle.scan.specs.declared.ahead.Ahead.the-variants as ahead
 use Rattle.scan.specs.Quick.{endLength, lineTo}
-use Rattle.scan.proofs.Stretch.{Plain, find-to, front-length, front-byte}
+use Rattle.scan.proofs.Stretch.{front-length, front-byte}
 
 -- ---- how many bytes an end has
 

@@ -10,13 +10,13 @@ use borrow.Author.Tests.{not-false}
 use Rattle.text.specs.Name.{isNameByte}
 use Rattle.text.proofs.Bools.{lt-or-ge}
 use Rattle.text.proofs.Names.{name-byte}
+use Rattle.text.proofs.Plain.{Plain}
 use Rattle.marks.specs.Marks.{marksOf, before, fromOn, firstMark, restMarks}
 use Rattle.marks.proofs.Before.{before-le, found-from, missed-from}
 use Rattle.marks.proofs.Marked.{first-mark, rest-marks, marks-all, marks-again}
 use Rattle.fields.specs.declared.part.Commas.{Commas}
 use Rattle.scan.specs.Window.{isMark}
 use Rattle.scan.specs.Quick.{without, placeOf, placesOf, placesIn, InSight}
-use Rattle.scan.proofs.Stretch.{Plain}
 
 -- where the place after k others is looked for
 abbrev pub startOf : ℕ → (ℕ → ℕ) → ℕ → ℕ

@@ -9,14 +9,16 @@ use lib.ListN.{length, getD, take, drop}
 use Rattle.text.specs.Bytes.{findFrom}
 use Rattle.text.specs.Name.{allPlain}
 use Rattle.text.proofs.Bools.{lt-or-ge}
-use Rattle.text.proofs.Finds.{byte-end}
+use Rattle.text.proofs.Finds.{byte-end, find-to}
+use Rattle.text.proofs.Plain.{Plain, plain-all}
 use Rattle.fields.specs.declared.part.Commas.{Commas}
 use Rattle.fields.specs.Part.{commaAt, commasOf}
+use Rattle.fields.proofs.Parts.{part-front}
 use Rattle.scan.specs.declared.ahead.Ahead.{Ahead}
 use Rattle.scan.specs.declared.ahead.Ahead.the-variants.{Rest}
 use Rattle.scan.specs.Ahead.{lineFrom, aheadOf}
 use Rattle.scan.specs.Quick.{endLength, lineTo, endsAfter, told}
-use Rattle.scan.proofs.Stretch.{Plain, find-to, plain-all, front-length, front-byte, part-front}
+use Rattle.scan.proofs.Stretch.{front-length, front-byte}
 use Rattle.scan.proofs.Ends.{next-ends}
 use Rattle.scan.proofs.Places.{startOf, Placed, rises}
 

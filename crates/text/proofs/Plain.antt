@@ -1,7 +1,7 @@
--- Laws of plain bytes: what `all_plain` does at a turn and at its end.
-use mathlib.Core.Path.{_≡_, sym, _∙_}
+-- Laws of plain bytes: what `all_plain` does at a turn and at its end, and bytes that are each plain.
+use mathlib.Core.Path.{_≡_, refl, sym, _∙_}
 use mathlib.Core.Bool.{Bool, true, false, not, _&&_, _||_, and-true, and-false, and-assoc}
-use mathlib.Core.List.{List}
+use mathlib.Core.List.{List, [], _∷_}
 use mathlib.Core.Logic.{⊎-elim}
 use Prim.Native.Nat.{ℕ, suc, _+_, _≤_, _<_}
 use native.Mathlib.Numerals.{add-one}
@@ -36,3 +36,13 @@ plain-turn s i odd h e =
 pub plain-end : (s : List ℕ) (i odd : ℕ) → length s ≤ i → allPlain s ≡ eqb odd 0 && allPlain (drop i s) → allPlain s ≡ eqb odd 0
 unfolding allPlain
 plain-end s i odd h e = e ∙ rw (drop-of-length-le s h, allPlain, and-true)
+
+abbrev pub Plain : ℕ → Type 0
+Plain x = (33 ≤ x) × (x ≤ 126)
+
+pub plain-all : (l : List ℕ) → ((i : ℕ) → i < length l → Plain (getD l i 0)) → allPlain l ≡ true
+unfolding allPlain
+plain-all [] h = refl
+plain-all (x ∷ l) h =
+    let p : Plain x = h 0 (omega arith) in
+    rw (le-leb 33 x (p .0), le-leb x 126 (p .1)) (plain-all l (λ i k. h (suc i) (omega arith)))
