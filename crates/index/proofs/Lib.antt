@@ -1,5 +1,4 @@
--- The laws of a search, of the home of a name and of the index, which the crates above cite.
-pub mod Firsts
+-- The laws of the home of a name and of the index, which the crates above cite.
 pub mod Folds
 pub mod Tally
 pub mod Right

@@ -13,10 +13,10 @@ use lib.ListN.{length, getD, set, length-set, length-replicate, getD-replicate}
 use lib.Seq.{getD-set-same, getD-set-other, ext-getD}
 use borrow.Author.Tests.{eqb-true, eqb-false}
 use Rattle.text.proofs.Bools.{lt-or-ge, same-or-not}
+use Rattle.marks.proofs.Firsts.{first-at, first-none}
 use Rattle.tables.specs.Entry.{placeRows}
 use Rattle.index.specs.Index.{place, entry, sought, placeFound, free, indexOf}
 use Rattle.index.specs.Taken.{takenPlaces}
-use Rattle.index.proofs.Firsts.{first-at, first-none}
 use Rattle.index.proofs.Tally.{taken-put, taken-most, all-taken}
 
 pub record Held (l : List ℕ) (h r : ℕ) : Type 0 where

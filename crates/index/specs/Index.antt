@@ -5,9 +5,9 @@ use mathlib.Core.List.{List}
 use Prim.Native.Nat.{ℕ, zero, suc, _+_, _%_}
 use lib.Dec.{eqb}
 use lib.ListN.{getD, set, replicate}
+use Rattle.marks.specs.First.{firstOf}
 use Rattle.tables.specs.Entry.{placeRows, nameCount, nameAt}
 use Rattle.index.specs.Hash.{homeOf}
-use Rattle.index.specs.First.{firstOf}
 
 -- the place at a distance from home, around the end, and its entry
 abbrev pub place : ℕ → ℕ → ℕ

@@ -4,10 +4,10 @@ use mathlib.Core.Bool.{true, false}
 use mathlib.Core.List.{List}
 use Prim.Native.Nat.{ℕ, _+_, _-_, _≤_, _<_}
 use borrow.Author.Tests.{eq-eqb, ne-eqb}
+use Rattle.marks.specs.First.{firstOf}
+use Rattle.marks.proofs.Firsts.{first-hit, first-miss, first-end}
 use Rattle.tables.specs.Entry.{placeRows}
-use Rattle.index.specs.First.{firstOf}
 use Rattle.index.specs.Index.{entry, sought}
-use Rattle.index.proofs.Firsts.{first-hit, first-miss, first-end}
 use Rattle.lookup.specs.declared.find.Found.{Found}
 use Rattle.lookup.specs.declared.find.Found.the-variants.{At, Nothing}
 use Rattle.lookup.specs.Find.{rowIs, endsAt, rowMet}

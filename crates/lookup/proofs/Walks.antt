@@ -9,11 +9,11 @@ use lib.Dec.{eqb}
 use lib.ListN.{length}
 use borrow.Author.Tests.{ne-eqb, eqb-false}
 use Rattle.text.proofs.Bools.{clash}
+use Rattle.marks.specs.First.{firstOf}
+use Rattle.marks.proofs.Firsts.{first-at, first-none, first-is}
 use Rattle.tables.specs.Entry.{nameRows, placeRows, namesSize, numsSize, nameCount, places}
 use Rattle.index.specs.Hash.{homeOf}
-use Rattle.index.specs.First.{firstOf}
 use Rattle.index.specs.Index.{place, entry, sought, homeAt, indexFrom}
-use Rattle.index.proofs.Firsts.{first-at, first-none, first-is}
 use Rattle.index.proofs.Right.{Held, Right, place-lt}
 use Rattle.index.proofs.Indexes.{from-right}
 use Rattle.lookup.specs.declared.find.Found.the-variants.{At, Nothing}

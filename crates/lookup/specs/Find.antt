@@ -6,9 +6,9 @@ use Prim.Native.Nat.{ℕ, zero, suc, _-_}
 use lib.Dec.{eqb, leb, ltb}
 use lib.ListN.{length}
 use Rattle.text.specs.Bytes.{sameBytes}
+use Rattle.marks.specs.First.{firstOf}
 use Rattle.tables.specs.Entry.{nameRows, instanceRows, nameRoom, namesSize, numsSize, nameCount, lengthAt, nameAt, instanceCount, ownerAt, instanceAt, places}
 use Rattle.index.specs.Hash.{homeOf}
-use Rattle.index.specs.First.{firstOf}
 use Rattle.index.specs.Index.{entry, sought}
 use Rattle.lookup.specs.declared.find.Found.{Found}
 use Rattle.lookup.specs.declared.find.Found.the-variants.{At, Nothing}

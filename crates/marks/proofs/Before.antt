@@ -1,13 +1,15 @@
 -- Where the first yes stands.
 use mathlib.Core.Path.{_≡_, refl}
-use mathlib.Core.Bool.{Bool, true, false, _&&_, cond}
+use mathlib.Core.Bool.{Bool, true, false, cond}
 use mathlib.Core.Logic.{⊎-elim}
 use Prim.Native.Nat.{ℕ, zero, suc, _+_, _≤_, _<_}
 use native.Mathlib.Omega.{arith}
 use native.Mathlib.Nat.{eq-or-lt-of-le, add-zero, zero-add, suc-add}
 use lib.Dec.{leb, leb·suc-suc, leb·suc-zero}
 use borrow.Author.Tests.{leb-true, le-leb}
-use Rattle.marks.specs.Marks.{before, fromOn}
+use Rattle.text.proofs.Bools.{and-l, and-r}
+use Rattle.marks.specs.First.{before}
+use Rattle.marks.specs.Marks.{fromOn}
 
 split-step : (b c : Bool) (m k x r : ℕ) → leb m k ≡ c → r ≡ cond c (m + x) k → cond b 0 (suc r) ≡ cond (leb (suc m) (cond b 0 (suc k))) (suc m + x) (cond b 0 (suc k))
 split-step true c m k x r t e = rw leb·suc-zero
@@ -36,7 +38,7 @@ module _ (f : ℕ → Bool) where
   pub found : (i n : ℕ) → before f i n < n → f (i + before f i n) ≡ true
   found i n = stands i n .1
 
-  missed : (i n j : ℕ) → i ≤ j → j < i + before f i n → f j ≡ false
+  pub missed : (i n j : ℕ) → i ≤ j → j < i + before f i n → f j ≡ false
   missed i n = stands i n .2
 
   -- of m numbers and n after them: the first of the m, and where they have none, the first of the n
@@ -49,17 +51,13 @@ module _ (f : ℕ → Bool) where
 
 -- ---- the first yes from a number on
 
-both : (b c : Bool) → b && c ≡ true → (c ≡ true) × (b ≡ true)
-both true c e = (e, refl)
-both false c e = (cc, e)
-
 module _ (f : ℕ → Bool) (a i n : ℕ) where
   pub found-from : before (fromOn a f) i n < n → (f (i + before (fromOn a f) i n) ≡ true) × (a ≤ i + before (fromOn a f) i n)
   unfolding fromOn
   found-from h =
       let k : ℕ = i + before (fromOn a f) i n in
-      let r = both (leb a k) (f k) (found (fromOn a f) i n h) in
-      (r .0, leb-true a k (r .1))
+      let r = found (fromOn a f) i n h in
+      (and-r (leb a k) (f k) r, leb-true a k (and-l (leb a k) (f k) r))
 
   pub missed-from : (j : ℕ) → a ≤ j → i ≤ j → j < i + before (fromOn a f) i n → f j ≡ false
   unfolding fromOn

@@ -9,7 +9,8 @@ use lib.Dec.{eqb, leb, leb·suc-suc, leb·suc-zero}
 use lib.Bits.{bitAnd, and-zero-l, and-step, and-self}
 use lib.Count.{trailingZeros}
 use borrow.Author.Tests.{leb-true, leb-false, le-leb, lt-leb, ne-eqb}
-use Rattle.marks.specs.Marks.{bit, marksFrom, marksOf, before, fromOn, lowestOff, firstMark, restMarks}
+use Rattle.marks.specs.First.{before}
+use Rattle.marks.specs.Marks.{bit, marksFrom, marksOf, fromOn, lowestOff, firstMark, restMarks}
 use Rattle.marks.proofs.Before.{before-split}
 
 -- one less that wraps: of 0 nothing is left

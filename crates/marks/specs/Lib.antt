@@ -1,2 +1,3 @@
--- Many answers to a question of yes or no in one number.
+-- A search, and many answers to a question of yes or no in one number.
+pub mod First
 pub mod Marks

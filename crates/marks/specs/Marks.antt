@@ -19,11 +19,6 @@ marksFrom f i (suc n) = bit (f i) + 2 * marksFrom f (suc i) n
 abbrev pub marksOf : (ℕ → Bool) → ℕ → Marks
 marksOf f i = record { low = marksFrom f i 64; high = marksFrom f (i + 64) 64 }
 
--- how many of n numbers from i on stand before the first yes; n where there is none
-unfoldable pub before : (ℕ → Bool) → ℕ → ℕ → ℕ
-before f i zero = 0
-before f i (suc n) = cond (f i) 0 (suc (before f (suc i) n))
-
 -- the same question, with no for each number below a
 unfoldable pub fromOn : ℕ → (ℕ → Bool) → ℕ → Bool
 fromOn a f i = leb a i && f i

@@ -11,6 +11,8 @@ use lib.ListN.{length}
 use borrow.Author.Tests.{lt-ltb}
 use Rattle.text.specs.Bytes.{sameBytes}
 use Rattle.text.proofs.Bools.{is-false}
+use Rattle.marks.specs.First.{firstOf}
+use Rattle.marks.proofs.Firsts.{first-at, first-none}
 use Rattle.rules.specs.Lists.{any, oneIf}
 use Rattle.rules.specs.Event.{Event, Instance, instanceOf}
 use Rattle.rules.specs.Core.{onCore, coreClass, no-core}
@@ -24,8 +26,6 @@ use Rattle.rules.proofs.Tracked.{target-is}
 use Rattle.rules.proofs.Seen.{own-number}
 use Rattle.steps.proofs.CoreClasses.{class-on}
 use Rattle.tables.specs.Entry.{instanceRows, nameRows, nameCount, instanceCount, nameAt}
-use Rattle.index.specs.First.{firstOf}
-use Rattle.index.proofs.Firsts.{first-at, first-none}
 use Rattle.lookup.specs.declared.find.Found.{Found}
 use Rattle.lookup.specs.declared.find.Found.the-variants.{At, Nothing}
 use Rattle.lookup.specs.Find.{lastBelow, rowIs, findName, rowFound, walkName, instanceIs, findInstance}

@@ -5,6 +5,7 @@ use mathlib.Core.List.{List, [], _∷_}
 use Prim.Native.Nat.{ℕ}
 use lib.ListN.{replicate, set}
 use Rattle.text.specs.Bytes.{sameBytes}
+use Rattle.marks.specs.First.{before, firstOf}
 use Rattle.rules.specs.Lists.{only}
 use Rattle.rules.specs.Words.{core, task, interrupt, runnable, semaphore}
 use Rattle.rules.specs.Words.{TERMINATED, ACTIVE, RUNNING, READY, WAITING, POLLING, PARKING, SUSPENDED, FREE, USED, FULL, OVERFULL}
@@ -12,7 +13,6 @@ use Rattle.rules.specs.Chart.{isStateOf}
 use Rattle.rules.specs.Charts.{isProcess, processChart, runnableChart, semaphoreChart, chartOf}
 use Rattle.rules.specs.History.{hasInstances}
 use Rattle.tables.specs.Entry.{storeAt, namesIndex, instancesIndex, kindColumn, lengthColumn, ownerColumn, stateColumn, placeColumn, numsSize}
-use Rattle.index.specs.First.{firstOf}
 use Rattle.index.specs.Hash.{word, step, fours, folded, homeOf}
 use Rattle.index.specs.Index.{free, indexOf, homeAt, indexFrom}
 use Rattle.ranges.specs.Range.{holderOk, coreOk, standingOk, instanceOk, indexOk}
@@ -69,5 +69,5 @@ pub index-order :
     ∷ indexOk twoNames (indexed 25 26 3)
     ∷ [])
     ≡ (true ∷ false ∷ false ∷ false ∷ false ∷ false ∷ [])
-unfolding indexOk indexFrom indexOf free firstOf homeAt homeOf folded fours step word sameBytes
+unfolding indexOk indexFrom indexOf free firstOf before homeAt homeOf folded fours step word sameBytes
 index-order = refl

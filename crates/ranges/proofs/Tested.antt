@@ -12,10 +12,10 @@ use borrow.Author.Tests.{eqb-true, eqb-false, eq-eqb, ne-eqb, lt-ltb, le-ltb, lt
 use Rattle.text.specs.Bytes.{sameBytes}
 use Rattle.text.proofs.Bools.{and-l, and-r, or-l, or-r, clash}
 use Rattle.text.proofs.Words.{same-eq, eq-same}
+use Rattle.marks.proofs.Firsts.{first-at, first-is}
 use Rattle.tables.specs.Entry.{placeRows, nameCount, places}
 use Rattle.index.specs.Index.{entry, sought, placeFound, indexOf, homeAt, indexFrom}
 use Rattle.index.specs.Taken.{takenPlaces}
-use Rattle.index.proofs.Firsts.{first-at, first-is}
 use Rattle.index.proofs.Folds.{home-at-lt}
 use Rattle.index.proofs.Tally.{taken-by}
 use Rattle.index.proofs.Right.{Held, Right, right-same, right-index, taken-index}

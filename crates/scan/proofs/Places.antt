@@ -11,7 +11,8 @@ use Rattle.text.specs.Name.{isNameByte}
 use Rattle.text.proofs.Bools.{lt-or-ge}
 use Rattle.text.proofs.Names.{name-byte}
 use Rattle.text.proofs.Plain.{Plain}
-use Rattle.marks.specs.Marks.{marksOf, before, fromOn, firstMark, restMarks}
+use Rattle.marks.specs.First.{before}
+use Rattle.marks.specs.Marks.{marksOf, fromOn, firstMark, restMarks}
 use Rattle.marks.proofs.Before.{before-le, found-from, missed-from}
 use Rattle.marks.proofs.Marked.{first-mark, rest-marks, marks-all, marks-again}
 use Rattle.fields.specs.declared.part.Commas.{Commas}

@@ -4,10 +4,10 @@ use mathlib.Core.List.{List}
 use Prim.Native.Nat.{ℕ, _+_, _-_, _≤_, _<_}
 use lib.Dec.{eqb}
 use borrow.Author.Tests.{eq-eqb, ne-eqb, le-ltb, lt-ltb}
+use Rattle.marks.specs.First.{firstOf}
+use Rattle.marks.proofs.Firsts.{first-hit, first-miss, first-end}
 use Rattle.tables.specs.Entry.{nameRows, placeRows, placeColumn, storeAt, places}
-use Rattle.index.specs.First.{firstOf}
 use Rattle.index.specs.Index.{place, entry, placeFound, free}
-use Rattle.index.proofs.Firsts.{first-hit, first-miss, first-end}
 use Rattle.store.specs.Store.{storePlace}
 
 -- the first free place of those at the distance d from home or further

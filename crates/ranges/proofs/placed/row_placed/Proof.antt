@@ -5,10 +5,10 @@ use native.Mathlib.Numerals.{add-one}
 use native.Mathlib.Omega.{arith}
 use lib.Dec.{eqb}
 use borrow.Author.Needs.{needs}
+use Rattle.marks.specs.First.{firstOf}
+use Rattle.marks.proofs.Firsts.{first-hit, first-miss, first-end}
 use Rattle.tables.specs.Entry.{placeRows}
-use Rattle.index.specs.First.{firstOf}
 use Rattle.index.specs.Index.{place, entry}
-use Rattle.index.proofs.Firsts.{first-hit, first-miss, first-end}
 use Rattle.index.proofs.Right.{place-lt}
 use Rattle.ranges.specs.IndexCode.{vacant, holdsRow, rowPlaced}
 use Rattle.ranges.proofs.placed.row_placed.Statement.{statement}
