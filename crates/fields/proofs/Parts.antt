@@ -10,28 +10,17 @@ use native.Mathlib.Numerals.{add-one}
 use native.Mathlib.Omega.{arith}
 use denote.Ref.{RefT, now}
 use lib.Dec.{eqb, ltb}
-use lib.ListN.{length, getD, take, drop, length-drop, drop-of-length-le, take-append-drop, List·getD-eq-default}
-use lib.Seq.{take-all, take-nil, take-append-seam, drop-drop, getD-drop}
+use lib.ListN.{length, take, drop, length-drop, drop-of-length-le, take-append-drop, List·getD-eq-default}
+use lib.Seq.{take-all, take-nil, take-append-seam}
 use borrow.Author.Tests.{eq-eqb, ne-eqb, lt-ltb, le-ltb, le-leb, lt-leb}
-use Rattle.text.specs.Bytes.{toByte, findFrom}
+use Rattle.text.specs.Bytes.{findFrom}
 use Rattle.text.specs.Name.{isNameByte, allNameBytes, isName}
 use Rattle.text.proofs.Bools.{and-l, and-r, lt-or-ge}
 use Rattle.text.proofs.Finds.{find-ge, find-le}
-use Rattle.text.proofs.Pieces.{pieces-cut, pieces-one, pieces-some, pieces-join, pieces-last, join-pieces, piece-clean, without, joinedBy}
+use Rattle.text.proofs.Pieces.{pieces-some, pieces-join, pieces-last, join-pieces, piece-clean, without, joinedBy}
+use Rattle.text.proofs.PiecesFrom.{pieces-next, pieces-end, piece-here}
 use Rattle.text.proofs.Names.{name-byte, name-bytes}
 use Rattle.fields.specs.Part.{partsOf, fieldOf, partFrom, commaAt, startAt, partAt, fieldAt, IsField, IsBetween}
-
--- ---- the first part, and the parts after it
-
--- with a comma the parts are what stands before it, and the parts of what stands after it
-has-comma : (s : List ℕ) → toByte 44 s < length s → partsOf s ≡ take (toByte 44 s) s ∷ partsOf (drop (suc (toByte 44 s)) s)
-unfolding partsOf
-has-comma s h = pieces-cut 44 s h
-
--- with none the line is its one part
-no-comma : (s : List ℕ) → length s ≤ toByte 44 s → partsOf s ≡ s ∷ []
-unfolding partsOf
-no-comma s h = pieces-one 44 s h
 
 some-part : (l : List ℕ) → 1 ≤ length (partsOf l)
 unfolding partsOf
@@ -45,32 +34,17 @@ From l j a = drop j (partsOf l) ≡ partsOf (drop a l)
 
 -- after the next comma stands the next part
 from-next : (l : List ℕ) (j a : ℕ) → From l j a → findFrom 44 l a < length l → From l (suc j) (suc (findFrom 44 l a))
-unfolding findFrom
-from-next l j a e h =
-    let n = toByte 44 (drop a l) in
-    let lt : n < length (drop a l) = omega (arith, length-drop a l) in
-    let p : drop (suc j) (partsOf l) ≡ drop 1 (drop j (partsOf l)) = rw (drop-drop, add-one) in
-    let q : drop (suc n) (drop a l) ≡ drop (suc (a + n)) l = let r : a + suc n ≡ suc (a + n) = omega arith in rw (drop-drop, r) in
-    p ∙ rw (e, has-comma (drop a l) lt, q)
+unfolding partsOf
+from-next l j a e h = pieces-next 44 l j a e h
 
 -- with no comma there is no next part
 from-end : (l : List ℕ) (j a : ℕ) → From l j a → length l ≤ findFrom 44 l a → length (partsOf l) ≤ suc j
-unfolding findFrom
-from-end l j a e h =
-    let le : length (drop a l) ≤ toByte 44 (drop a l) = omega (arith, length-drop a l) in
-    let n : length (drop j (partsOf l)) ≡ 1 = rw (e, no-comma (drop a l) le) in
-    omega (arith, length-drop j (partsOf l))
-
--- the first part of a line
-first : (s : List ℕ) → getD (partsOf s) 0 [] ≡ take (toByte 44 s) s
-first s = ⊎-elim (λ h. rw (has-comma s h)) (λ h. rw (no-comma s h, take-all (toByte 44 s) s h)) (lt-or-ge (toByte 44 s) (length s))
+unfolding partsOf
+from-end l j a e h = omega (arith, pieces-end 44 l j a e h)
 
 from-here : (l : List ℕ) (j a : ℕ) → From l j a → fieldOf l (suc j) ≡ partFrom l a (findFrom 44 l a)
-unfolding fieldOf partFrom findFrom
-from-here l j a e =
-    let p : getD (partsOf l) j [] ≡ getD (drop j (partsOf l)) 0 [] = let z : j + 0 ≡ j = omega arith in rw (getD-drop, z) in
-    let q : a + toByte 44 (drop a l) - a ≡ toByte 44 (drop a l) = omega arith in
-    p ∙ rw (e, q) (first (drop a l))
+unfolding fieldOf partsOf partFrom
+from-here l j a e = piece-here 44 l j a e
 
 pub field-missing : (l : List ℕ) (k : ℕ) → length (partsOf l) ≤ k → fieldOf l (suc k) ≡ []
 unfolding fieldOf

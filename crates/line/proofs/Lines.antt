@@ -1,5 +1,5 @@
--- Laws of the line as a whole: what `has_break` does at a turn, what the first byte says, that a line is as long as its beginning, and the next line of a chunk.
-use mathlib.Core.Path.{_≡_, refl, sym, ap}
+-- Laws of the line as a whole: what `has_break` does at a turn, what the first byte says, and the next line of a chunk.
+use mathlib.Core.Path.{_≡_, refl, sym}
 use mathlib.Core.Bool.{Bool, true, false, not, _||_}
 use mathlib.Core.List.{List, [], _∷_}
 use Prim.Native.Nat.{ℕ, _+_, _≤_, _<_}
@@ -7,10 +7,8 @@ use native.Mathlib.Nat.{suc-ne-zero}
 use native.Mathlib.Numerals.{add-one}
 use native.Mathlib.Omega.{arith}
 use lib.Dec.{eqb}
-use lib.ListN.{length, getD, drop, drop-of-length-le, length-append}
+use lib.ListN.{length, getD, drop, drop-of-length-le}
 use lib.Seq.{drop-cons}
-use Rattle.text.specs.Bytes.{startsWith}
-use Rattle.text.proofs.Words.{starts-split}
 use Rattle.walk.specs.declared.lines.Next.{Next}
 use Rattle.walk.specs.declared.lines.Next.the-variants.{Line, Rest}
 use Rattle.fields.specs.declared.part.Commas.{Commas}
@@ -41,10 +39,6 @@ pub first-event : (s : List ℕ) → (length s ≡ 0 → ⊥) → isEventLine s 
 unfolding isEventLine
 first-event [] n = absurd (n refl)
 first-event (x ∷ s) n = refl
-
--- a beginning
-pub starts-long : (s t : List ℕ) → startsWith s t ≡ true → length t ≤ length s
-starts-long s t e = omega (arith, ap length (starts-split s t e), length-append t (drop (length t) s))
 
 -- ---- the next line of a chunk, read
 

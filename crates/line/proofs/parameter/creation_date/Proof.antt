@@ -4,7 +4,7 @@ use borrow.Author.Needs.{needs}
 use borrow.Author.Tests.{not-true, not-false}
 use borrow.Rule.Slice.PartAt.{part-to-end}
 use Rattle.line.specs.Parameter.{isCreationDate}
-use Rattle.line.proofs.Lines.{starts-long}
+use Rattle.text.proofs.Words.{starts-long}
 use Rattle.line.proofs.parameter.creation_date.Statement.{statement}
 use Rattle.line.proofs.parameter.creation_date.Tie as tie
 

@@ -3,7 +3,7 @@ use mathlib.Core.Path.{sym, _∙_}
 use borrow.Author.Needs.{needs}
 use borrow.Rule.Slice.PartAt.{part-to-end}
 use Rattle.line.specs.Parameter.{timeScale}
-use Rattle.line.proofs.Lines.{starts-long}
+use Rattle.text.proofs.Words.{starts-long}
 use Rattle.line.proofs.parameter.time_scale.Statement.{statement}
 use Rattle.line.proofs.parameter.time_scale.Tie as tie
 
