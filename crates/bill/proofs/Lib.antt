@@ -2,4 +2,9 @@
 pub mod Texts
 pub mod Scales
 pub mod VerdictLine
+pub mod Clean
+pub mod Lines
+pub mod LineReadings
+pub mod Formed
+pub mod Readings
 pub mod Tight

@@ -1,13 +1,20 @@
--- Laws of the words of the time scales: which numbers have none, how long each is, and that it is a part of all of them.
-use mathlib.Core.Path.{_≡_, refl, ap}
+-- Laws of the words of the time scales: which numbers have none, how long each is, that it is a part of all of them, and which number a word names.
+use mathlib.Core.Path.{_≡_, refl, ap, _∙_}
 use mathlib.Core.List.{List, []}
 use Prim.Native.Nat.{ℕ, zero, suc, _+_, _≤_, _<_}
 use native.Mathlib.Omega.{arith}
 use lib.ListN.{length, take, drop}
 use borrow.Author.Tests.{ne-eqb}
 use Rattle.text.specs.Literal.{bytes}
-use Rattle.words.specs.Scale.{scaleWord}
-use Rattle.bill.specs.Scale.{scaleText, scaleStart}
+use Rattle.text.specs.Bytes.{sameBytes}
+use Rattle.words.specs.declared.scale.Scale.{Scale}
+use Rattle.words.specs.declared.scale.Scale.the-variants.{Picoseconds, Nanoseconds, Microseconds, Milliseconds, Seconds}
+use Rattle.words.specs.declared.scale.ScaleFound.the-variants.{ThisScale, NoScale}
+use Rattle.words.specs.Named.{pick}
+use Rattle.words.specs.Scale.{scaleWord, scales, scaleOf}
+use Rattle.words.proofs.Found.{first-named}
+use Rattle.bill.specs.Scale.{scaleNumber, scaleText, scaleStart}
+use Rattle.bill.specs.Reading.{scaleCode}
 
 pub scale-none : (n : ℕ) → (n ≡ 1 → ⊥) → (n ≡ 2 → ⊥) → (n ≡ 3 → ⊥) → (n ≡ 4 → ⊥) → (n ≡ 5 → ⊥) → scaleText n ≡ []
 unfolding scaleText
@@ -63,3 +70,31 @@ scale-part (suc (suc (suc zero))) = (refl, omega arith)
 scale-part (suc (suc (suc (suc zero)))) = (refl, omega arith)
 scale-part (suc (suc (suc (suc (suc zero))))) = (refl, omega arith)
 scale-part (suc (suc (suc (suc (suc (suc n)))))) = rw (scale-past (suc (suc (suc (suc (suc (suc n)))))) (omega arith)) (refl, omega arith)
+
+-- ---- the number that bytes name
+
+pub scale-back : (n : ℕ) → 1 ≤ n → n ≤ 5 → scaleCode (scaleOf (scaleText n)) ≡ n
+unfolding scaleText scaleOf scaleWord scaleNumber pick sameBytes
+scale-back zero l h = absurd (omega arith)
+scale-back (suc zero) l h = refl
+scale-back (suc (suc zero)) l h = refl
+scale-back (suc (suc (suc zero))) l h = refl
+scale-back (suc (suc (suc (suc zero)))) l h = refl
+scale-back (suc (suc (suc (suc (suc zero))))) l h = refl
+scale-back (suc (suc (suc (suc (suc (suc n)))))) l h = absurd (omega arith)
+
+number-word : (c : Scale) → (scaleWord c ≡ scaleText (scaleNumber c)) × (scaleNumber c ≤ 5)
+unfolding scaleText scaleNumber
+number-word Picoseconds = (refl, omega arith)
+number-word Nanoseconds = (refl, omega arith)
+number-word Microseconds = (refl, omega arith)
+number-word Milliseconds = (refl, omega arith)
+number-word Seconds = (refl, omega arith)
+
+-- a number is named by its own word alone
+pub scale-named : (s : List ℕ) → 1 ≤ scaleCode (scaleOf s) → (s ≡ scaleText (scaleCode (scaleOf s))) × (scaleCode (scaleOf s) ≤ 5)
+unfolding scaleOf
+scale-named s =
+    first-named scaleWord ThisScale NoScale s (λ f. 1 ≤ scaleCode f → (s ≡ scaleText (scaleCode f)) × (scaleCode f ≤ 5)) scales
+    (λ h. absurd (omega arith))
+    (λ c e h. (e ∙ number-word c .0, number-word c .1))

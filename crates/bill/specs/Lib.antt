@@ -3,3 +3,4 @@ pub mod Rows
 pub mod Text
 pub mod Scale
 pub mod Verdict
+pub mod Reading

@@ -1,6 +1,8 @@
 -- A charge sheet as values: a row for each core and each process, "in order of first mention".
-use mathlib.Core.List.{List}
+use mathlib.Core.Bool.{Bool, true, _&&_}
+use mathlib.Core.List.{List, [], _∷_}
 use Prim.Native.Nat.{ℕ}
+use Rattle.text.specs.Name.{isName}
 
 -- a name and its figures: of a core held, idle and unknown, of a process its charge
 pub record Row : Type 0 where
@@ -11,3 +13,8 @@ pub record Sheet : Type 0 where
   pub span : ℕ
   pub cores : List Row
   pub processes : List Row
+
+-- each row's name is one, by 01's rule for names
+abbrev pub allNamed : List Row → Bool
+allNamed [] = true
+allNamed (r ∷ rs) = isName (r .name) && allNamed rs
