@@ -1,0 +1,1 @@
+// Bills of several shifts added up: definitions and laws, no code.
