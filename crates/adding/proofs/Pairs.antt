@@ -1,0 +1,95 @@
+-- Two sheets that were read: 22 and 23, and that the sum or its refusal is what their bills come to.
+use mathlib.Core.Path.{_≡_, refl, sym, ap, ap₂, _∙_}
+use mathlib.Core.Bool.{Bool, true, false, _||_}
+use mathlib.Core.List.{List, [], _∷_, map}
+use Prim.Native.Nat.{ℕ, zero, suc}
+use native.Mathlib.Omega.{arith}
+use lib.Dec.{eqb}
+use borrow.Author.Tests.{eq-eqb, ne-eqb}
+use Rattle.bill.specs.Rows.{Row}
+use Rattle.bill.specs.Reading.{Bill}
+use Rattle.sorting.specs.Sets.{meets, sorted, sortedBy}
+use Rattle.sorting.proofs.Meets.{meets-sorted}
+use Rattle.shifts.specs.Sound.{names}
+use Rattle.shifts.specs.Sum.{byName, sum, clash, refusal, Refusal, totalBy, addTexts}
+use Rattle.shifts.proofs.SortedRows.{names-sorted}
+use Rattle.adding.specs.declared.add.Sum.the-variants.{Refused}
+use Rattle.adding.specs.declared.sheet.Form.{Form}
+use Rattle.adding.specs.Adding.{summed, intoOutput, addInto}
+use Rattle.adding.specs.SortCode.{nameAt}
+use Rattle.adding.specs.MergeCode.{rowsAt}
+use Rattle.adding.specs.AddCode.{BothRead, Paired, Judged}
+
+-- the names of rows by their places
+names-at : (text places : List ℕ) → map (nameAt text) places ≡ names (rowsAt text places)
+unfolding names
+names-at text [] = refl
+names-at text (p ∷ ps) = ap (λ l. nameAt text p ∷ l) (names-at text ps)
+
+-- .. are those of the section, in order
+in-order : (text places : List ℕ) (rs : List Row) → rowsAt text places ≡ sortedBy byName rs → map (nameAt text) places ≡ sorted (names rs)
+in-order text places rs e = names-at text places ∙ ap names e ∙ names-sorted rs
+
+-- ---- the first two refusals of a pair
+
+by-scale : (a b : Bill) → eqb (a .scale) (b .scale) ≡ false → refusal a b ≡ 22
+unfolding refusal
+by-scale a b e = rw e
+
+by-clash : (a b : Bill) → eqb (a .scale) (b .scale) ≡ true → clash a b ≡ true → refusal a b ≡ 23
+unfolding refusal
+by-clash a b e h = rw (e, h)
+
+module _ {s : List ℕ} {f : Form} {sc sp t : List ℕ} {g : Form} {tc tp : List ℕ} (p : BothRead s f sc sp t g tc tp) where
+  pub comes-to : addTexts s t ≡ totalBy (refusal (p .a) (p .b)) (sum (p .a) (p .b))
+  unfolding addTexts
+  comes-to = rw (p .first .sound, p .second .sound)
+
+  -- the two meetings that the code asks for
+  abbrev cores-here : Bool
+  cores-here = meets (map (nameAt s) sc) (map (nameAt t) tp)
+
+  abbrev cores-there : Bool
+  cores-there = meets (map (nameAt t) tc) (map (nameAt s) sp)
+
+  clash-is : clash (p .a) (p .b) ≡ cores-here || cores-there
+  unfolding clash
+  clash-is =
+      let u = p .first in
+      let v = p .second in
+      sym (ap₂ _||_
+      (ap₂ meets (in-order s sc _ (u .core-rows)) (in-order t tp _ (v .process-rows)) ∙ meets-sorted _ _)
+      (ap₂ meets (in-order t tc _ (v .core-rows)) (in-order s sp _ (u .process-rows)) ∙ meets-sorted _ _))
+
+  pub scales-differ : (f .scale ≡ g .scale → ⊥) → addTexts s t ≡ Refusal 22
+  scales-differ h =
+      let e = ne-eqb (p .a .scale) (p .b .scale) (λ q. h (p .first .scale ∙ q ∙ sym (p .second .scale))) in
+      comes-to ∙ ap (λ n. totalBy n (sum (p .a) (p .b))) (by-scale (p .a) (p .b) e)
+
+  module _ (e : f .scale ≡ g .scale) where
+    one-scale : eqb (p .a .scale) (p .b .scale) ≡ true
+    one-scale = eq-eqb (p .a .scale) (p .b .scale) (sym (p .first .scale) ∙ e ∙ p .second .scale)
+
+    names-clash : cores-here || cores-there ≡ true → addTexts s t ≡ Refusal 23
+    names-clash h = comes-to ∙ ap (λ n. totalBy n (sum (p .a) (p .b))) (by-clash (p .a) (p .b) one-scale (clash-is ∙ h))
+
+    pub clash-here : {r : Bool} → r ≡ cores-here → r ≡ true → addTexts s t ≡ Refusal 23
+    clash-here q h = names-clash (rw (sym q ∙ h))
+
+    pub clash-there : {r : Bool} → r ≡ cores-there → r ≡ true → cores-here ≡ false → addTexts s t ≡ Refusal 23
+    clash-there q h k = names-clash (rw (k, sym q ∙ h))
+
+    pub paired : cores-here ≡ false → cores-there ≡ false → Paired s f sc sp t g tc tp
+    paired h k = record { both = p; one-scale = one-scale; no-clash = clash-is ∙ rw (h, k) }
+
+-- ---- what was judged of a pair
+
+module _ (s : List ℕ) (f : Form) (sc sp t : List ℕ) (g : Form) (tc tp : List ℕ) where
+  pub judged-refused : (n : ℕ) (out : List ℕ) → Judged s f sc sp t g tc tp n → (n ≡ 0 → ⊥) → summed (Refused n) out ≡ addInto s t out
+  unfolding addInto
+  judged-refused zero out j h = absurd (h refl)
+  judged-refused (suc n) out j h = ap (λ r. intoOutput r out) (sym j)
+
+  pub judged-paired : (n : ℕ) → Judged s f sc sp t g tc tp n → n ≡ 0 → Paired s f sc sp t g tc tp
+  judged-paired zero j e = j
+  judged-paired (suc n) j e = absurd (omega arith)

@@ -1,0 +1,11 @@
+-- `adding::lines::figure` meets its contract.
+use mathlib.Core.Path.{_∙_}
+use borrow.Author.Needs.{needs}
+use Rattle.adding.proofs.lines.figure.Statement.{statement}
+use Rattle.adding.proofs.lines.figure.Tie as tie
+
+returns : tie.Need-returns
+returns c = c .read-number .ensures ∙ rw (c .before .word .ensures)
+
+pub figure-spec : {M : Type 1} → statement M
+figure-spec = tie.close (tie.spec (λ c κs. search needs) (λ c κs. search needs) returns)

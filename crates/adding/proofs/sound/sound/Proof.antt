@@ -1,0 +1,11 @@
+-- `adding::sound::sound` meets its contract: it answers what the reading says.
+use borrow.Author.Needs.{needs}
+use Rattle.adding.proofs.Sounds.{sound-told}
+use Rattle.adding.proofs.sound.sound.Statement.{statement}
+use Rattle.adding.proofs.sound.sound.Tie as tie
+
+told : tie.Need-returns
+told c = sound-told _ _ _ _ (c .before .before .read-sheet .ensures)
+
+pub sound-spec : {M : Type 1} → statement M
+sound-spec = tie.close (tie.spec (λ c. search needs) (λ c. search needs) (λ c κs. search needs) told)

@@ -1,0 +1,12 @@
+// Printed sheets added. In come two texts; out goes the text of their sum at the front of a lent output, or a refusal, and then nothing is written.
+pub mod add;
+pub mod apart;
+pub mod form;
+pub mod lines;
+pub mod merge;
+pub mod put;
+pub mod rows;
+pub mod sheet;
+pub mod sort;
+pub mod sound;
+pub mod whole;
