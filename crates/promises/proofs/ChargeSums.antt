@@ -10,16 +10,17 @@ use Rattle.text.specs.Bytes.{sameBytes}
 use Rattle.text.proofs.Words.{same-eq, same-refl}
 use Rattle.rules.specs.Lists.{any, sumOver, oneIf, addAll}
 use Rattle.rules.specs.Words.{core}
-use Rattle.rules.specs.Event.{Event, Instance, instanceOf}
+use Rattle.rules.specs.Charts.{isProcess}
+use Rattle.rules.specs.Event.{Event, instanceOf}
 use Rattle.rules.specs.Core.{Core, unknown, idle, held, onCore, coreClass, on, coreAt, gives-core}
-use Rattle.rules.specs.History.{isTracked, named, names, cores, kindOf}
+use Rattle.rules.specs.History.{isTracked, named, names, kindOf, isKind}
 use Rattle.rules.specs.Verdict.{Accepted}
 use Rattle.rules.specs.Sheet.{gap, ticks, isHeldBy, holding, charge}
 use Rattle.rules.proofs.Tests.{both, clash}
 use Rattle.rules.proofs.Sums.{sum-cong, sum-zero, sum-add, sum-added}
 use Rattle.rules.proofs.Answers.{Passed}
 use Rattle.rules.proofs.Changes.{core-other}
-use Rattle.rules.proofs.Tracked.{now, names-once, named-kind, kind-stays}
+use Rattle.rules.proofs.Tracked.{now, tracked, names-once, named-kind, kind-named, kind-stays}
 use Rattle.rules.proofs.Charges.{holding-later, charge-at-most}
 use Rattle.rules.proofs.Meets.{Met}
 use Rattle.tables.specs.Entry.{sinceAt}
@@ -28,12 +29,13 @@ use Rattle.promises.specs.Places.{rowOf}
 use Rattle.promises.specs.Shown.{Shown, OtherTicks, openTicks, openCharge}
 use Rattle.promises.proofs.Choices.{same-choice}
 use Rattle.promises.proofs.KindTests.{core-tracked}
-use Rattle.promises.proofs.CoreNames.{held-core, holder-named, absent-unknown}
+use Rattle.promises.proofs.CoreNames.{held-core, absent-unknown}
+use Rattle.promises.proofs.Unlisted.{not-holding, no-process}
 use Rattle.promises.proofs.TickStores.{Sums, sums, sumsAt, targetSettled}
 use Rattle.promises.proofs.Turns.{Turn, first, took, gave, kept, turn}
 use Rattle.promises.proofs.TickRows.{ticksBefore, sinceSettled, ticksAfter, giving-on-core, accepted-next, name-kept, source-first, source-settled}
 use Rattle.promises.proofs.TickRows.{other-next}
-use Rattle.promises.proofs.OpenTicks.{absent-before, not-target, until-event, unsettled, anew}
+use Rattle.promises.proofs.OpenTicks.{not-target, until-event, unsettled, anew}
 
 sum-times : {A : Type 0} (k : ℕ) (g : A → ℕ) (xs : List A) → sumOver (λ x. k * g x) xs ≡ k * sumOver g xs
 sum-times k g [] = omega arith
@@ -43,32 +45,12 @@ names-step : (h : List Event) (e : Event) → names (e ∷ h) ≡ addAll sameByt
 unfolding names
 names-step h e = refl
 
--- ---- a name that is not tracked holds nothing, and has no charge
-
-absent-holds : (h : List Event) → Accepted h → (p : List ℕ) → any (sameBytes p) (names h) ≡ false → (c : List ℕ) → isHeldBy p (coreAt c h) ≡ 0
-absent-holds h a p q c = by-core (coreAt c h) refl
-  where
-    by-name : (x : Instance) → coreAt c h ≡ held x → (b : Bool) → sameBytes p (x .name) ≡ b → oneIf b ≡ 0
-    by-name x w false r = refl
-    by-name x w true r =
-        absurd (clash (any (sameBytes p) (names h)) (ap (λ (n : List ℕ). any (sameBytes n) (names h)) (same-eq p (x .name) r) ∙ holder-named h a c x w) q)
-
-    by-core : (k : Core) → coreAt c h ≡ k → isHeldBy p k ≡ 0
-    by-core unknown w = refl
-    by-core idle w = refl
-    by-core (held x) w = by-name x w (sameBytes p (x .name)) refl
-
-absent-charge : (h : List Event) → Accepted h → (p : List ℕ) → any (sameBytes p) (names h) ≡ false → charge p h ≡ 0
-unfolding ticks
-absent-charge [] a p q = refl
-absent-charge (e ∷ h) a p q =
-    let r = absent-before h e p q in
-    let none-held : holding p h ≡ 0 = sum-cong (λ c. isHeldBy p (coreAt c h)) (λ c. 0) (cores h) (absent-holds h (a .1) p r) ∙ sum-zero (cores h) in
-    rw none-held (omega (arith, absent-charge h (a .1) p r))
+-- ---- a name that is not tracked holds nothing
 
 absent-open : (h : List Event) → Accepted h → (ticks : List ℕ) (p : List ℕ) → any (sameBytes p) (names h) ≡ false → openCharge h ticks p ≡ 0
 absent-open h a ticks p q =
-    sum-cong (λ c. isHeldBy p (coreAt c h) * openTicks h ticks c) (λ c. 0) (names h) (λ c. rw (absent-holds h a p q c) (omega arith)) ∙ sum-zero (names h)
+    sum-cong (λ c. isHeldBy p (coreAt c h) * openTicks h ticks c) (λ c. 0) (names h)
+    (λ c. rw (not-holding p c h (ap (isKind isProcess) (kind-named h p q)) (coreAt c h) (tracked c h a)) (omega arith)) ∙ sum-zero (names h)
 
 -- ---- what a process has of one core: the open ticks o that count v times, before and after the event, and the ticks d that it settles
 
@@ -221,7 +203,7 @@ module _ (h : List Event) (a : Accepted h) (t : Tables) (s : Shown h t) (e : Eve
           let o = s .each-ticks p q .of-other (λ c. k (kind-stays h e (f .kinds) p core c)) in
           record { charged = o .charge-ticks; idle-none = o .no-idle; unknown-none = o .no-unknown; since-none = o .no-since }
       by-test false q =
-          record { charged = omega (arith, absent-open h a (t .ticks) p q, absent-charge h a p q); idle-none = refl; unknown-none = refl; since-none = refl }
+          record { charged = omega (arith, absent-open h a (t .ticks) p q, no-process p h a (ap (isKind isProcess) (kind-named h p q))); idle-none = refl; unknown-none = refl; since-none = refl }
 
   -- what it has with what it is given
   given : (u : Sums) → u .held + share h e (t .ticks) p < 2 ^ 64 →

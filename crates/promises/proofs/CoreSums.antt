@@ -5,13 +5,14 @@ use mathlib.Core.Option.{some}
 use mathlib.Core.List.{List, [], _∷_}
 use Prim.Native.Nat.{ℕ, _+_, _-_, _*_, _%_, _^_, _<_}
 use native.Mathlib.Omega.{arith}
+use lib.Dec.{eqb}
 use Rattle.text.specs.Bytes.{sameBytes}
 use Rattle.text.proofs.Words.{same-eq}
 use Rattle.rules.specs.Lists.{any}
 use Rattle.rules.specs.Words.{core}
 use Rattle.rules.specs.Event.{Event, instanceOf}
 use Rattle.rules.specs.Core.{Core, unknown, idle, held, onCore, coreClass, on, coreAt, takes-core, gives-core}
-use Rattle.rules.specs.History.{names, kindOf}
+use Rattle.rules.specs.History.{names, kindOf, isKind}
 use Rattle.rules.specs.Verdict.{Accepted}
 use Rattle.rules.specs.Sheet.{gap, ticks, isHeld, isIdle, isUnknown, heldTicks, idleTicks, span}
 use Rattle.rules.proofs.Tests.{both}
@@ -19,18 +20,19 @@ use Rattle.rules.proofs.Answers.{Passed}
 use Rattle.rules.proofs.Changes.{core-other}
 use Rattle.rules.proofs.Totals.{core-total}
 use Rattle.rules.proofs.Meets.{Met}
-use Rattle.rules.proofs.Tracked.{kind-stays}
+use Rattle.rules.proofs.Tracked.{kind-stays, kind-named}
 use Rattle.tables.specs.Entry.{sinceAt}
 use Rattle.judge.specs.Feed.{Tables}
 use Rattle.promises.specs.Places.{rowOf}
 use Rattle.promises.specs.Shown.{Shown, CoreTicks, openTicks}
 use Rattle.promises.proofs.Listed.{name-kind}
-use Rattle.promises.proofs.CoreNames.{core-known, idle-core, held-core, absent-unknown}
+use Rattle.promises.proofs.CoreNames.{core-known, idle-core, held-core}
+use Rattle.promises.proofs.Unlisted.{uncounted-ticks}
 use Rattle.promises.proofs.TickStores.{Sums, sumsAt}
 use Rattle.promises.proofs.TickEntries.{unknownBefore}
 use Rattle.promises.proofs.Turns.{Turn, first, took, gave, kept, turn}
 use Rattle.promises.proofs.TickRows.{ticksAfter, accepted-next, name-old, name-kept, source-first, source-settled}
-use Rattle.promises.proofs.OpenTicks.{absent-before, not-target, until-event, unsettled, anew}
+use Rattle.promises.proofs.OpenTicks.{not-target, until-event, unsettled, anew}
 
 -- ---- a sum x up to the last settling and the open ticks o that count v times, against the total; and both after a gap g
 
@@ -50,7 +52,7 @@ opened-now x x' v v' o o' g total p q r w = rw (q, r, p) (omega (arith, rw p at 
 uncounted : (x x' v g total : ℕ) → x' ≡ x → v ≡ 0 → x ≡ total → x' ≡ g * v + total
 uncounted x x' v g total p q w = rw q (omega arith)
 
--- ---- a core is not unknown, and a name that is not tracked is
+-- ---- a core is not unknown
 
 not-unknown : (n : List ℕ) (h : List Event) → kindOf n h ≡ some core → isUnknown (coreAt n h) ≡ 0
 not-unknown n h k = by-core (coreAt n h) (core-known n h k)
@@ -59,14 +61,6 @@ not-unknown n h k = by-core (coreAt n h) (core-known n h k)
     by-core unknown w = absurd (w refl)
     by-core idle w = refl
     by-core (held x) w = refl
-
-absent-ticks : (h : List Event) → Accepted h → (n : List ℕ) → any (sameBytes n) (names h) ≡ false → (v : Core → ℕ) → v unknown ≡ 0 →
-    ticks (λ g. v (coreAt n g)) h ≡ 0
-unfolding ticks
-absent-ticks [] a n q v z = refl
-absent-ticks (e ∷ h) a n q v z =
-    let p = absent-before h e n q in
-    rw (absent-unknown h (a .1) n p, z) (omega (arith, absent-ticks h (a .1) n p v z))
 
 -- what a new core's ticks are before the event
 unknown-all : (h : List Event) (t : Tables) → Shown h t → (e : Event) → unknownBefore (t .ticks) (t .nums) (e .time) ≡ span (e ∷ h)
@@ -137,8 +131,9 @@ module _ (h : List Event) (a : Accepted h) (t : Tables) (s : Shown h t) (e : Eve
   at-first o q was =
       let r = source-first h t s e f o q in
       let n = anew h a t s e f (e .source) (ap (λ (u : Sums). u .since) r) in
-      let no-held = absent-ticks h a (e .source) q isHeld refl in
-      let no-idle = absent-ticks h a (e .source) q isIdle refl in
+      let none-yet = ap (isKind (eqb core)) (kind-named h (e .source) q) in
+      let no-held = uncounted-ticks (e .source) isHeld refl h a none-yet in
+      let no-idle = uncounted-ticks (e .source) isIdle refl h a none-yet in
       let held-zero : heldTicks (e .source) (e ∷ h) ≡ 0 = rw was (omega arith) in
       let idle-zero : idleTicks (e .source) (e ∷ h) ≡ 0 = rw was (omega arith) in
       record {

@@ -62,6 +62,11 @@ pub mod Calls
 pub mod Demand1
 pub mod Printed
 pub mod Reading
+pub mod SheetNames
+pub mod SheetRows
+pub mod Unlisted
+pub mod PrintedBills
+pub mod Shifts
 pub mod Examples
 pub mod Tight
 pub mod TightSheet

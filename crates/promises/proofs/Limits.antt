@@ -68,7 +68,7 @@ number-small Microseconds = omega arith
 number-small Milliseconds = omega arith
 number-small Seconds = omega arith
 
-scale-small : (h : List (List ℕ)) → placeOf h .scale ≤ 5
+pub scale-small : (h : List (List ℕ)) → placeOf h .scale ≤ 5
 unfolding placeOf
 scale-small [] = omega arith
 scale-small (l ∷ h) = by-reading (readLine l) (scale-small h)

@@ -11,11 +11,10 @@ use Rattle.text.proofs.Words.{same-eq}
 use Rattle.rules.specs.Lists.{any}
 use Rattle.rules.specs.Words.{core}
 use Rattle.rules.specs.Event.{Event}
-use Rattle.rules.specs.History.{isTracked, named, names, kindOf}
+use Rattle.rules.specs.History.{isTracked, names, kindOf}
 use Rattle.rules.specs.Verdict.{Accepted}
 use Rattle.rules.specs.Sheet.{gap}
 use Rattle.rules.proofs.Tests.{both, clash}
-use Rattle.rules.proofs.Sums.{any-more, any-less}
 use Rattle.rules.proofs.Answers.{Passed, neighbours}
 use Rattle.rules.proofs.Tracked.{target-kind}
 use Rattle.tables.specs.Entry.{lastTime, sinceAt}
@@ -30,10 +29,6 @@ moved : (h : List Event) → Accepted h → (e : Event) → Passed h e → (n : 
 unfolding names
 moved [] a e f n q = absurd (clash false q refl)
 moved (d ∷ h) a e f n q = omega (arith, neighbours e d h (accepted-next (d ∷ h) a e f))
-
-pub absent-before : (h : List Event) (e : Event) (n : List ℕ) → any (sameBytes n) (names (e ∷ h)) ≡ false → any (sameBytes n) (names h) ≡ false
-unfolding names
-absent-before h e n q = any-less (any (sameBytes n) (names h)) _ (any-more sameBytes (sameBytes n) (names h) (named e)) q
 
 -- a core is not the target of an event, which has another kind
 pub not-target : (h : List Event) (e : Event) (n : List ℕ) → kindOf n (e ∷ h) ≡ some core → (b : Bool) →

@@ -7,3 +7,4 @@ pub mod Fed
 pub mod Sheets
 pub mod Outcomes
 pub mod Answers
+pub mod Shifts
