@@ -7,6 +7,7 @@
 #![forbid(unsafe_code)]
 
 // The reader.
+pub mod adding;
 pub mod charts;
 pub mod cores;
 pub mod dates;
@@ -27,5 +28,8 @@ pub mod words;
 pub mod cases;
 pub mod container;
 pub mod making;
+pub mod pair_sample;
+pub mod pairs;
 pub mod sample;
+pub mod spread;
 pub mod ways;

@@ -46,10 +46,12 @@ fn read_time_scale(line: &[u8]) -> Option<Parameter> {
     let scale = line
         .strip_prefix(b"#timeScale ")
         .or_else(|| line.strip_prefix(b"#timescale "))?;
-    SCALES
-        .into_iter()
-        .find(|known| known.as_bytes() == scale)
-        .map(Parameter::TimeScale)
+    read_scale(scale).map(Parameter::TimeScale)
+}
+
+/// "X one of ps, ns, us, ms, s."
+pub fn read_scale(word: &[u8]) -> Option<&'static str> {
+    SCALES.into_iter().find(|known| known.as_bytes() == word)
 }
 
 /// "`#creator X`, X not empty".

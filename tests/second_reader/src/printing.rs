@@ -1,7 +1,7 @@
 //! The text that the program prints, and its exit status.
 
 use crate::judge::{judge_trace, Verdict};
-use crate::sheet::Sheet;
+use crate::sheet::{Sheet, Ticks};
 
 /// What a run of the program gives: bytes on standard output and a status.
 #[derive(Clone, Debug, PartialEq, Eq)]
@@ -24,10 +24,15 @@ pub fn run_on(trace: &[u8]) -> Run {
             status: REFUSED,
         },
         Verdict::Accepted { scale, span, sheet } => Run {
-            printed: format!("verdict 0 line 0 scale {scale} span {span}\n") + &sheet_text(&sheet),
+            printed: accepted_text(scale, span.into(), &sheet),
             status: ACCEPTED,
         },
     }
+}
+
+/// The whole print of an accepted trace: its verdict line and its sheet.
+pub fn accepted_text(scale: &str, span: Ticks, sheet: &Sheet) -> String {
+    format!("verdict 0 line 0 scale {scale} span {span}\n") + &sheet_text(sheet)
 }
 
 /// "Each section follows its count, in order of first mention; a core line

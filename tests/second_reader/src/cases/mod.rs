@@ -8,6 +8,7 @@ mod old_instances;
 mod readings;
 mod requests;
 mod scope;
+pub mod sheets;
 
 /// The two lines that document 01's examples begin with.
 pub const PRELUDE: &str = "#version 2.2.0\n#timeScale ns\n";

@@ -20,6 +20,7 @@ mod queues;
 pub mod random;
 mod run;
 mod runner;
+pub mod sheets;
 mod steps;
 mod story;
 mod wild;

@@ -1,0 +1,2 @@
+-- How the walk through the pairs goes on.
+pub mod Steps
