@@ -17,8 +17,8 @@ use Rattle.bill.specs.declared.section.Section.the-variants.{Cores, Processes}
 use Rattle.bill.specs.Reading.{wordOf, rowFrom, allNumbers, rowExact}
 use Rattle.shifts.specs.Sum.{plus}
 use Rattle.adding.specs.declared.put.Figures.{Figures}
-use Rattle.adding.specs.Lines.{lineFrom, rowAt, valueOr0, amountIn}
-use Rattle.adding.specs.RowCode.{rowOf}
+use Rattle.paper.specs.Lines.{lineFrom, rowAt, valueOr0, amountIn}
+use Rattle.paper.specs.Rows.{rowOf}
 use Rattle.adding.specs.MergeCode.{figuresAt, noneFor, sumOf, Small, shown, width, allSmall, fineRow}
 
 pub figures-read : {line : List ℕ} {a b c : ℕ} (text : List ℕ) (p : ℕ) → line ≡ lineFrom text p → a ≡ amountIn line 1 → b ≡ amountIn line 2 → c ≡ amountIn line 3 →

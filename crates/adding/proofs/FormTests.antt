@@ -17,10 +17,11 @@ use Rattle.bill.specs.declared.section.Section.the-variants.{Cores, Processes}
 use Rattle.bill.specs.Text.{title}
 use Rattle.bill.specs.Reading.{fromProcesses, atEnd}
 use Rattle.shifts.specs.Sound.{coresMost, namesMost, soundSheet}
-use Rattle.adding.specs.declared.form.Head.the-variants.{Line, Other}
+use Rattle.paper.specs.declared.head.Head.the-variants.{Line, Other}
 use Rattle.adding.specs.declared.sheet.Form.{Form}
-use Rattle.adding.specs.Lines.{lineFrom, fewLines, Placed, Lined}
-use Rattle.adding.specs.FormCode.{headOf, countOf}
+use Rattle.paper.specs.Lines.{lineFrom}
+use Rattle.adding.specs.PlaceCode.{fewLines, Placed, Lined}
+use Rattle.paper.specs.Heads.{headOf, countOf}
 use Rattle.adding.specs.SheetCode.{Begun, Formed, FormedAs}
 use Rattle.adding.proofs.SheetLines.{line-count, line-is, part-is, end-is}
 use Rattle.adding.proofs.SheetTests.{CountTold, count-told, Passing, not-passing}

@@ -9,7 +9,8 @@ use lib.Seq.{length-take-le, take-take, getD-take}
 use Rattle.sorting.specs.Order.{order, isLess}
 use Rattle.sorting.specs.Sets.{has, rising, lower}
 use Rattle.sorting.proofs.Places.{insert-at, fresh-at, taken-at, lower-most}
-use Rattle.adding.specs.SortCode.{nameAt, Inserted}
+use Rattle.paper.specs.Lines.{nameAt}
+use Rattle.adding.specs.SortCode.{Inserted}
 
 pub front : (n : ℕ) (places : List ℕ) → take (n - 0) places ≡ take n places
 front n places = let e : n - 0 ≡ n = omega arith in ap (λ k. take k places) e

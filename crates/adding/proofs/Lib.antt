@@ -1,7 +1,6 @@
 -- The laws of adding, by the modules that cite them.
-pub mod LineWalk
-pub mod RowTests
-pub mod Forms
+pub mod LinePlaces
+pub mod RowWalks
 pub mod Compared
 pub mod Moves
 pub mod Inserts

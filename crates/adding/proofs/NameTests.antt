@@ -10,7 +10,8 @@ use Rattle.sorting.specs.Sets.{meets, twice, sortedBy, rising}
 use Rattle.sorting.proofs.Keys.{map-sorted, rising-keys}
 use Rattle.sorting.proofs.Meets.{meets-sorted}
 use Rattle.adding.specs.declared.sheet.Form.{Form}
-use Rattle.adding.specs.SortCode.{nameAt, SortedInto, Sorting}
+use Rattle.paper.specs.Lines.{nameAt}
+use Rattle.adding.specs.SortCode.{SortedInto, Sorting}
 use Rattle.adding.specs.SheetCode.{corePlaces, processPlaces, Sized, OrderedAs, NamesOnce}
 use Rattle.adding.proofs.SectionPlaces.{coreCut, processCut, core-cut, process-cut, core-count, process-count}
 

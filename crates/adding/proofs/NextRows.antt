@@ -17,8 +17,7 @@ use Rattle.sorting.specs.Order.{Name, order}
 use Rattle.sorting.specs.Sets.{all}
 use Rattle.shifts.specs.Merge.{nextOf, noRow, nextRow}
 use Rattle.adding.specs.declared.put.Figures.{Figures}
-use Rattle.adding.specs.Lines.{lineFrom, rowAt}
-use Rattle.adding.specs.SortCode.{nameAt}
+use Rattle.paper.specs.Lines.{lineFrom, rowAt, nameAt}
 use Rattle.adding.specs.MergeCode.{figuresAt, noneFor, sumOf, shown, rowWith, fineRow, rowsAt, InOrder, Next}
 use Rattle.adding.proofs.Amounts.{figures-own, plus-shown}
 

@@ -16,7 +16,7 @@ use Rattle.shifts.proofs.SortedRows.{names-sorted}
 use Rattle.adding.specs.declared.add.Sum.the-variants.{Refused}
 use Rattle.adding.specs.declared.sheet.Form.{Form}
 use Rattle.adding.specs.Adding.{summed, intoOutput, addInto}
-use Rattle.adding.specs.SortCode.{nameAt}
+use Rattle.paper.specs.Lines.{nameAt}
 use Rattle.adding.specs.MergeCode.{rowsAt}
 use Rattle.adding.specs.AddCode.{BothRead, Paired, Judged}
 

@@ -11,7 +11,7 @@ use Rattle.text.specs.Pieces.{pieces}
 use Rattle.text.proofs.Bools.{clash}
 use Rattle.shifts.specs.Sound.{soundSheet}
 use Rattle.adding.specs.declared.sheet.Form.{Form}
-use Rattle.adding.specs.Lines.{lineFrom}
+use Rattle.paper.specs.Lines.{lineFrom}
 use Rattle.adding.specs.SheetCode.{corePlaces, processPlaces, Formed, FormedAs, Sized, sumsRight, Summed, SummedAs, NamesOnce, OrderedAs, ReadAs, Read}
 use Rattle.adding.proofs.SheetTests.{head-told, not-passing}
 use Rattle.adding.proofs.Sheets.{formed-sized, core-names, process-names, booked}

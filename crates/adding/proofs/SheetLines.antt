@@ -9,7 +9,8 @@ use lib.Seq.{length-take-le, drop-at}
 use Rattle.text.specs.Pieces.{pieces, ended, unended}
 use Rattle.text.proofs.Bools.{and-l}
 use Rattle.text.proofs.Pieces.{pieces-some}
-use Rattle.adding.specs.Lines.{lineFrom, isEmpty, fewLines, Placed}
+use Rattle.paper.specs.Lines.{lineFrom}
+use Rattle.adding.specs.PlaceCode.{isEmpty, fewLines, Placed}
 
 -- ---- things at the front of others, each made of an entry
 

@@ -22,13 +22,13 @@ use Rattle.sorting.specs.Sets.{all, meets, twice}
 use Rattle.shifts.specs.Sound.{names, firsts, total, spanMost, coresMost, namesMost, notCount, notTotal, someRow, soundSheet}
 use Rattle.shifts.proofs.Fine.{Fine, few-cores, few-names, unsound-is}
 use Rattle.shifts.proofs.Sizes.{bill-longest}
-use Rattle.adding.specs.declared.form.Head.the-variants.{Line}
-use Rattle.adding.specs.Lines.{lineFrom}
-use Rattle.adding.specs.FormCode.{headIf, headOf, countOf}
-use Rattle.adding.specs.RowCode.{rowOf, coreOk, chargesMake}
-use Rattle.adding.specs.SortCode.{nameAt}
+use Rattle.paper.specs.declared.head.Head.the-variants.{Line}
+use Rattle.paper.specs.Lines.{lineFrom, nameAt}
+use Rattle.paper.specs.Heads.{headIf, headOf, countOf}
+use Rattle.paper.specs.Rows.{rowOf, coreOk}
+use Rattle.adding.specs.RowCode.{chargesMake}
 use Rattle.adding.specs.SheetCode.{sumsRight}
-use Rattle.adding.proofs.RowTests.{value-if}
+use Rattle.paper.proofs.Numbers.{value-if}
 
 -- ---- the rows of a section, by the tests of the sheet and by those of each line
 
@@ -111,7 +111,7 @@ pub record CountTold (head line : List ℕ) (max n : ℕ) : Type 0 where
 pub count-told : (head line : List ℕ) (max n : ℕ) → countOf head line max ≡ Value n → CountTold head line max n
 unfolding countOf
 count-told head line max n e =
-    let w = value-if (countExact head line) (leb (countIn head line) max) (countIn head line) max n refl e in
+    let w = value-if (countExact head line) (countIn head line) max n e in
     record { exact = w .0; count-is = w .1; few = omega (arith, w .1, w .2) }
 
 count-tells : (head line : List ℕ) (max : ℕ) → countExact head line ≡ true → countIn head line ≤ max → countOf head line max ≡ Value (countIn head line)

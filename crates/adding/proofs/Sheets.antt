@@ -22,9 +22,9 @@ use Rattle.shifts.specs.Sum.{byName}
 use Rattle.shifts.proofs.Fine.{Fine, is-sound}
 use Rattle.shifts.proofs.Small.{above, small}
 use Rattle.adding.specs.declared.sheet.Form.{Form}
-use Rattle.adding.specs.Lines.{lineFrom, rowAt}
-use Rattle.adding.specs.RowCode.{rowOf, coreOk, chargesMake}
-use Rattle.adding.specs.SortCode.{nameAt}
+use Rattle.paper.specs.Lines.{lineFrom, rowAt, nameAt}
+use Rattle.paper.specs.Rows.{rowOf, coreOk}
+use Rattle.adding.specs.RowCode.{chargesMake}
 use Rattle.adding.specs.MergeCode.{width, allSmall, fineRow, rowsAt, InOrder}
 use Rattle.adding.specs.SheetCode.{corePlaces, processPlaces, Formed, Sized, sumsRight, Ordered, Booked}
 use Rattle.adding.proofs.SectionPlaces.{core-count, process-count}

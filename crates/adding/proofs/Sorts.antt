@@ -11,7 +11,8 @@ use Rattle.text.proofs.Bools.{clash}
 use Rattle.sorting.specs.Order.{Name}
 use Rattle.sorting.specs.Sets.{has, twice, insertBy, gatherBy, rising}
 use Rattle.sorting.proofs.Keys.{rising-keys, has-sorted, length-sorted}
-use Rattle.adding.specs.SortCode.{nameAt, Inserted, SortedInto}
+use Rattle.paper.specs.Lines.{nameAt}
+use Rattle.adding.specs.SortCode.{Inserted, SortedInto}
 
 -- ---- one row more
 

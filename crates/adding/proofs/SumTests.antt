@@ -9,20 +9,21 @@ use Rattle.bill.specs.Reading.{rowFrom}
 use Rattle.sorting.specs.Sets.{all}
 use Rattle.shifts.specs.Sound.{firsts}
 use Rattle.adding.specs.declared.sheet.Form.{Form}
-use Rattle.adding.specs.Lines.{lineFrom}
-use Rattle.adding.specs.RowCode.{coreOk, allHeld, chargesMake}
+use Rattle.paper.specs.Lines.{lineFrom}
+use Rattle.paper.specs.Rows.{coreOk}
+use Rattle.adding.specs.RowCode.{allHeld, chargesMake}
 use Rattle.adding.specs.SheetCode.{corePlaces, processPlaces, sumsRight}
-use Rattle.adding.proofs.RowTests.{held-if, unheld-if}
+use Rattle.paper.proofs.Numbers.{if-value, if-bad}
 use Rattle.adding.proofs.SectionPlaces.{coreCut, processCut, core-cut, process-cut}
 
 module _ (span : ℕ) (cs ps : List (List ℕ)) where
   sums-none : allHeld span cs ≡ Bad → false ≡ sumsRight span cs ps
   unfolding sumsRight allHeld
-  sums-none e = rw (unheld-if (all (coreOk span) cs) (firsts (map rowFrom cs)) e)
+  sums-none e = rw (if-bad (all (coreOk span) cs) (firsts (map rowFrom cs)) e)
 
   sums-some : (t : ℕ) → allHeld span cs ≡ Value t → chargesMake t ps ≡ sumsRight span cs ps
   unfolding sumsRight allHeld
-  sums-some t e = let w = held-if (all (coreOk span) cs) (firsts (map rowFrom cs)) t e in rw (w .0, w .1)
+  sums-some t e = let w = if-value (all (coreOk span) cs) (firsts (map rowFrom cs)) t e in rw (w .0, w .1)
 
 module _ (text starts : List ℕ) (f : Form) (r : Number) (held : r ≡ allHeld (f .span) (map (lineFrom text) (coreCut starts f))) where
   pub sums-wrong : r ≡ Bad → false ≡ sumsRight (f .span) (map (lineFrom text) (corePlaces starts f)) (map (lineFrom text) (processPlaces starts f))

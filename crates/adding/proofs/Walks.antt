@@ -19,8 +19,7 @@ use Rattle.shifts.specs.Sound.{names}
 use Rattle.shifts.specs.Sum.{addRows}
 use Rattle.shifts.specs.Merge.{nextOf, leftStep, rightStep, nextRow}
 use Rattle.shifts.proofs.Merges.{add-step, add-end}
-use Rattle.adding.specs.Lines.{rowAt}
-use Rattle.adding.specs.SortCode.{nameAt}
+use Rattle.paper.specs.Lines.{rowAt, nameAt}
 use Rattle.adding.specs.MergeCode.{noneFor, shown, rowsAt, sumRows, Merging, Next}
 use Rattle.adding.proofs.Puts.{put-none, put-room, put-on}
 use Rattle.adding.proofs.Steps.{step}

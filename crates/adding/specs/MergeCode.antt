@@ -16,9 +16,8 @@ use Rattle.sorting.specs.declared.order.Order.{Order}
 use Rattle.shifts.specs.Sum.{addRows}
 use Rattle.shifts.specs.Merge.{leftStep, rightStep, nextRow}
 use Rattle.adding.specs.declared.put.Figures.{Figures}
-use Rattle.adding.specs.Lines.{lineFrom, rowAt, amountIn}
-use Rattle.adding.specs.RowCode.{rowOf}
-use Rattle.adding.specs.SortCode.{nameAt}
+use Rattle.paper.specs.Lines.{lineFrom, rowAt, amountIn, nameAt}
+use Rattle.paper.specs.Rows.{rowOf}
 
 abbrev pub figuresAt : List ℕ → ℕ → Figures
 figuresAt text p = let line = lineFrom text p in record { first = amountIn line 1; second = amountIn line 2; third = amountIn line 3 }

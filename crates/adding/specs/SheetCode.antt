@@ -13,12 +13,13 @@ use Rattle.bill.specs.Reading.{Bill, rowFrom, fromProcesses, processCount, core
 use Rattle.sorting.specs.Sets.{all, meets, twice, sortedBy}
 use Rattle.shifts.specs.Sound.{firsts, spanMost, coresMost, namesMost, soundSheet}
 use Rattle.shifts.specs.Sum.{byName}
-use Rattle.adding.specs.declared.form.Head.the-variants.{Line}
+use Rattle.paper.specs.declared.head.Head.the-variants.{Line}
 use Rattle.adding.specs.declared.sheet.Form.{Form}
-use Rattle.adding.specs.Lines.{lineFrom, Placed}
-use Rattle.adding.specs.FormCode.{headOf, countOf}
-use Rattle.adding.specs.RowCode.{coreOk, chargesMake}
-use Rattle.adding.specs.SortCode.{nameAt}
+use Rattle.paper.specs.Lines.{lineFrom, nameAt}
+use Rattle.adding.specs.PlaceCode.{Placed}
+use Rattle.paper.specs.Heads.{headOf, countOf}
+use Rattle.paper.specs.Rows.{coreOk}
+use Rattle.adding.specs.RowCode.{chargesMake}
 use Rattle.adding.specs.MergeCode.{rowsAt, InOrder}
 
 -- ---- the form

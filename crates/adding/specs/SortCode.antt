@@ -4,13 +4,8 @@ use mathlib.Core.Bool.{Bool, true, false}
 use mathlib.Core.List.{List, map}
 use Prim.Native.Nat.{ℕ, _+_}
 use lib.ListN.{length, take}
-use Rattle.sorting.specs.Order.{Name}
 use Rattle.sorting.specs.Sets.{has, twice, insertBy, sortedBy}
-use Rattle.adding.specs.Lines.{rowAt}
-
--- the name of the row that begins at an index
-abbrev pub nameAt : List ℕ → ℕ → Name
-nameAt text p = rowAt text p .name
+use Rattle.paper.specs.Lines.{nameAt}
 
 -- a row put among others: their places then, or that its name is one of theirs
 abbrev pub Inserted : List ℕ → List ℕ → ℕ → List ℕ → Bool → Type 0

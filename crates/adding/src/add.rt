@@ -4,12 +4,12 @@ ghost use Prim.Native.Nat.{_≤_};
 ghost use Rattle.adding.specs.Adding.{summed, addInto};
 ghost use Rattle.adding.specs.AddCode.{ownRefusal, BothRead, Paired, Judged};
 use crate::apart::meet;
-use crate::form::SPAN_MOST;
 use crate::merge::put_sums;
 use crate::sheet::Form;
 use crate::sheet::read_sheet;
 use crate::whole::put_bill;
 use bill::section::Section;
+use paper::head::SPAN_MOST;
 
 // How many bytes of the output the sum takes; or a refusal, 21 to 25 or 15, and then nothing was written.
 pub enum Sum {
@@ -17,7 +17,7 @@ pub enum Sum {
     Refused(u32),
 }
 
-// The rows of 128 cores, and those of 512 processes, take no more: `rows-most`.
+// The rows of 128 cores, and those of 512 processes, take no more: `core-rows-most`, `process-rows-most`.
 const CORE_ROWS_MOST: usize = 16384;
 
 const PROCESS_ROWS_MOST: usize = 44032;

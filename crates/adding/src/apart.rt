@@ -4,9 +4,9 @@ ghost use mathlib.Core.Bool.{true};
 ghost use mathlib.Core.List.{map};
 ghost use Rattle.sorting.specs.Order.{isSame};
 ghost use Rattle.sorting.specs.Sets.{meets, rising};
-ghost use Rattle.adding.specs.SortCode.{nameAt};
+ghost use Rattle.paper.specs.Lines.{nameAt};
 ghost use Rattle.shifts.specs.Merge.{leftStep, rightStep};
-use crate::sort::name_at;
+use paper::line::name_at;
 use sorting::order::Order;
 use sorting::order::compare;
 

@@ -1,9 +1,8 @@
 // Printed sheets added. In come two texts; out goes the text of their sum at the front of a lent output, or a refusal, and then nothing is written.
 pub mod add;
 pub mod apart;
-pub mod form;
-pub mod lines;
 pub mod merge;
+pub mod places;
 pub mod put;
 pub mod rows;
 pub mod sheet;

@@ -5,7 +5,7 @@ ghost use lib.ListN.{length, drop};
 ghost use Rattle.text.specs.Put.{put, after};
 ghost use Rattle.bill.specs.Text.{rowText, rowsText};
 ghost use Rattle.shifts.specs.Merge.{nextOf, nextRow};
-ghost use Rattle.adding.specs.SortCode.{nameAt};
+ghost use Rattle.paper.specs.Lines.{nameAt};
 ghost use Rattle.adding.specs.MergeCode.{noneFor, shown, rowsAt, sumRows, Merging, Next};
 use crate::apart::left_step;
 use crate::apart::right_step;
@@ -13,8 +13,8 @@ use crate::put::figures_at;
 use crate::put::none_for;
 use crate::put::put_row;
 use crate::put::sum_of;
-use crate::sort::name_at;
 use bill::section::Section;
+use paper::line::name_at;
 use sorting::order::Order;
 use sorting::order::compare;
 

@@ -5,10 +5,10 @@ ghost use lib.ListN.{length};
 ghost use Rattle.text.specs.Put.{put, after};
 ghost use Rattle.bill.specs.Text.{figuresText, rowText};
 ghost use Rattle.adding.specs.MergeCode.{figuresAt, noneFor, sumOf, Small, shown, rowWith};
-use crate::lines::amount;
-use crate::lines::line_at;
 use bill::figure::put_figure;
 use bill::section::Section;
+use paper::line::amount;
+use paper::line::line_at;
 use text::put::put_bytes;
 
 // The figures of a row: held, idle and unknown of a core, the charge of a process and nothing more.

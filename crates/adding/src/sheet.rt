@@ -4,17 +4,17 @@ ghost use mathlib.Core.Bool.{false};
 ghost use mathlib.Core.List.{map};
 ghost use Prim.Native.Nat.{_<_};
 ghost use lib.ListN.{length};
-ghost use Rattle.adding.specs.Lines.{lineFrom};
+ghost use Rattle.paper.specs.Lines.{lineFrom};
 ghost use Rattle.adding.specs.SheetCode.{corePlaces, processPlaces, Begun, FormedAs, Sized, sumsRight, SummedAs, NamesOnce, Read};
 use crate::apart::meet;
-use crate::form::Head;
-use crate::form::read_count;
-use crate::form::read_head;
-use crate::lines::line_at;
-use crate::lines::line_starts;
+use crate::places::line_starts;
 use crate::rows::all_held;
 use crate::rows::charges_make;
 use crate::sort::sort;
+use paper::head::Head;
+use paper::head::read_count;
+use paper::head::read_head;
+use paper::line::line_at;
 use text::number::Number;
 
 // No sheet that may be added is longer: `sound-longest`.

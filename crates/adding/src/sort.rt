@@ -6,18 +6,11 @@ ghost use Prim.Native.Nat.{_+_, _≤_, _<_};
 ghost use lib.ListN.{length, take, drop};
 ghost use Rattle.sorting.specs.Order.{isLess};
 ghost use Rattle.sorting.specs.Sets.{lower, rising};
-ghost use Rattle.adding.specs.SortCode.{nameAt, Inserted, Sorting};
-use crate::lines::line_at;
-use crate::lines::word;
+ghost use Rattle.paper.specs.Lines.{nameAt};
+ghost use Rattle.adding.specs.SortCode.{Inserted, Sorting};
+use paper::line::name_at;
 use sorting::order::Order;
 use sorting::order::compare;
-
-// The name of the row that begins at the index p.
-pub(crate) fn name_at(text: &[u8], p: u32) -> &[u8]
-    ensures { λ r. ⌜ now r ≡ nameAt (now (text .entry)) p ⌝ }
-{
-    word(line_at(text, p as usize), 0)
-}
 
 // Whether the first of the two names comes before the second.
 fn is_less(o: Order) -> bool

@@ -5,7 +5,7 @@ use Prim.Native.Nat.{_+_, _-_, _≤_}
 use lib.ListN.{length, drop}
 use borrow.Author.Needs.{needs}
 use Rattle.sorting.specs.Sets.{meets}
-use Rattle.adding.specs.SortCode.{nameAt}
+use Rattle.paper.specs.Lines.{nameAt}
 use Rattle.adding.proofs.Compared.{compared}
 use Rattle.adding.proofs.Steps.{step}
 use Rattle.adding.proofs.Meets.{first-done, second-done, meets-one, meets-on}

@@ -6,9 +6,11 @@ use native.Mathlib.Omega.{arith}
 use borrow.Author.Needs.{needs}
 use lib.ListN.{length, getD, drop}
 use Rattle.shifts.specs.Sound.{spanMost}
-use Rattle.adding.specs.Lines.{lineFrom}
-use Rattle.adding.specs.RowCode.{coreHeld, allHeld}
-use Rattle.adding.proofs.RowTests.{heldWith, held-start, held-small, held-bad, held-turn, held-end, rows-next}
+use Rattle.paper.specs.Lines.{lineFrom}
+use Rattle.paper.specs.Rows.{coreHeld}
+use Rattle.adding.specs.RowCode.{allHeld}
+use Rattle.paper.proofs.RowTests.{held-small}
+use Rattle.adding.proofs.RowWalks.{heldWith, held-start, held-bad, held-turn, held-end, rows-next}
 use Rattle.adding.proofs.rows.all_held.Statement.{statement}
 use Rattle.adding.proofs.rows.all_held.Tie as tie
 

@@ -1,18 +1,20 @@
 -- `adding::rows::charges_make` meets its contract. The invariant: the rows are right exactly if those from `i` on make what is left.
-use mathlib.Core.Path.{_≡_, sym, ap, _∙_}
+use mathlib.Core.Path.{_≡_, refl, sym, ap, _∙_}
 use mathlib.Core.List.{_∷_, map}
 use Prim.Native.Nat.{_+_, _-_, _≤_}
 use native.Mathlib.Omega.{arith}
 use borrow.Author.Needs.{needs}
 use lib.ListN.{length, getD, drop}
-use Rattle.adding.specs.Lines.{lineFrom}
-use Rattle.adding.specs.RowCode.{processCharge, chargesMake}
-use Rattle.adding.proofs.RowTests.{chargesLeft, charges-start, charges-end, charge-small, charge-bad, charge-turn, rows-next}
+use Rattle.paper.specs.Lines.{lineFrom}
+use Rattle.paper.specs.Rows.{processCharge}
+use Rattle.adding.specs.RowCode.{chargesMake}
+use Rattle.paper.proofs.RowTests.{charge-small}
+use Rattle.adding.proofs.RowWalks.{charges-end, charge-bad, charge-turn, rows-next}
 use Rattle.adding.proofs.rows.charges_make.Statement.{statement}
 use Rattle.adding.proofs.rows.charges_make.Tie as tie
 
 abbrev Inv-loop : tie.InvT-loop
-Inv-loop text places held left₀ i₀ left i = (i ≤ length places) × (chargesMake held (map (lineFrom text) places) ≡ chargesLeft left (map (lineFrom text) (drop i places)))
+Inv-loop text places held left₀ i₀ left i = (i ≤ length places) × (chargesMake held (map (lineFrom text) places) ≡ chargesMake left (map (lineFrom text) (drop i places)))
 
 abbrev μ-loop : tie.MeasureT-loop
 μ-loop text places held left₀ i₀ left i = length places - i
@@ -32,7 +34,7 @@ next : (c : tie.After-charge-in Inv-loop μ-loop) →
     let l = loop-of c in
     let a = l .before .before .before .args in
     chargesMake (a .held) (map (lineFrom (a .text .now)) (a .places .now))
-    ≡ chargesLeft (l .loop .left) (lineFrom (a .text .now) (getD (a .places .now) (l .loop .i) 0) ∷ map (lineFrom (a .text .now)) (drop (l .loop .i + 1) (a .places .now)))
+    ≡ chargesMake (l .loop .left) (lineFrom (a .text .now) (getD (a .places .now) (l .loop .i) 0) ∷ map (lineFrom (a .text .now)) (drop (l .loop .i + 1) (a .places .now)))
 next c =
     let l = loop-of c in
     let a = l .before .before .before .args in
@@ -58,7 +60,7 @@ charges-make-spec =
     (tie.spec
     Inv-loop
     μ-loop
-    (λ c. (omega arith, charges-start _ _))
+    (λ c. (omega arith, refl))
     (λ c. search needs)
     (λ c. search needs)
     (λ c. omega (arith, c .shared-slice-known3 .given (c .before .before .loop .i)))

@@ -7,8 +7,8 @@ use lib.ListN.{getD}
 use Rattle.text.specs.declared.number.Number.the-variants.{Value}
 use Rattle.bill.specs.declared.section.Section.the-variants.{Cores, Processes}
 use Rattle.bill.specs.Text.{title}
-use Rattle.adding.specs.Lines.{lineFrom}
-use Rattle.adding.specs.FormCode.{countOf}
+use Rattle.paper.specs.Lines.{lineFrom}
+use Rattle.paper.specs.Heads.{countOf}
 use Rattle.adding.proofs.FormTests.{unformed, no-cores, cores-told, cores-cut-off, no-processes, processes-told, counts-told}
 use Rattle.adding.proofs.sheet.read_counts.Statement.{statement}
 use Rattle.adding.proofs.sheet.read_counts.Tie as tie

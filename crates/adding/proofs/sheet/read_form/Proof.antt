@@ -3,8 +3,8 @@ use mathlib.Core.Path.{_≡_, sym, ap, _∙_}
 use native.Mathlib.Omega.{arith}
 use borrow.Author.Needs.{needs}
 use lib.ListN.{getD}
-use Rattle.adding.specs.Lines.{lineFrom}
-use Rattle.adding.specs.FormCode.{headOf}
+use Rattle.paper.specs.Lines.{lineFrom}
+use Rattle.paper.specs.Heads.{headOf}
 use Rattle.adding.proofs.FormTests.{unformed, too-few, no-head, begun}
 use Rattle.adding.proofs.sheet.read_form.Statement.{statement}
 use Rattle.adding.proofs.sheet.read_form.Tie as tie

@@ -7,7 +7,7 @@ use borrow.Author.Needs.{needs}
 use Rattle.sorting.specs.Order.{order, isLess}
 use Rattle.sorting.specs.Sets.{lower}
 use Rattle.sorting.proofs.Places.{lower-most, lower-below, lower-above}
-use Rattle.adding.specs.SortCode.{nameAt}
+use Rattle.paper.specs.Lines.{nameAt}
 use Rattle.adding.proofs.Compared.{less-told}
 use Rattle.adding.proofs.sort.rank.Statement.{statement}
 use Rattle.adding.proofs.sort.rank.Tie as tie
