@@ -9,6 +9,7 @@ use lib.Dec.{eqb, ltb}
 use lib.ListN.{length, take}
 use lib.Seq.{take-at}
 use Rattle.text.specs.Put.{Put, written, after, put}
+use Rattle.text.specs.Sizes.{maxTime}
 use Rattle.text.proofs.Writes.{put-fits, written-parts, put-length}
 use Rattle.bill.specs.declared.section.Section.{Section}
 use Rattle.bill.specs.declared.section.Section.the-variants.{Cores, Processes}
@@ -16,7 +17,7 @@ use Rattle.bill.specs.Rows.{Row}
 use Rattle.bill.specs.Text.{rowsText, sectionText, sheetText, title}
 use Rattle.bill.specs.Reading.{Bill, billText}
 use Rattle.sorting.specs.Sets.{twice, sortedBy}
-use Rattle.shifts.specs.Sound.{names, spanMost, tooMany, soundSheet}
+use Rattle.shifts.specs.Sound.{names, tooMany, soundSheet}
 use Rattle.shifts.specs.Sum.{byName, noCore, noProcess, sum, clash, refusal, Text, Refusal, totalBy, addSound, addTexts}
 use Rattle.shifts.proofs.Fine.{Fine, few-names, sound-is}
 use Rattle.shifts.proofs.SortedRows.{add-sorted}
@@ -88,10 +89,10 @@ module _ {s : List ℕ} {f : Form} {sc sp t : List ℕ} {g : Form} {tc tp : List
       merged Processes (first .sheet .processes) (second .sheet .processes) (u .process-rows) (v .process-rows) (u .span) (v .span) (fine-first .processes-once) (fine-second .processes-once)
 
   -- the spans may be added
-  first-short : f .span ≤ spanMost
+  first-short : f .span ≤ maxTime
   first-short = omega (arith, p .both .first .span, fine-first .short)
 
-  second-short : g .span ≤ spanMost
+  second-short : g .span ≤ maxTime
   second-short = omega (arith, p .both .second .span, fine-second .short)
 
   pub spans-fit : f .span + g .span < 18446744073709551616

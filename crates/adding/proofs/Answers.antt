@@ -7,9 +7,10 @@ use Prim.Native.Nat.{ℕ, zero, suc, _+_}
 use lib.Dec.{eqb, leb, ltb}
 use lib.ListN.{length}
 use Rattle.text.specs.Put.{written}
+use Rattle.text.specs.Sizes.{maxTime}
 use Rattle.words.specs.Named.{any}
 use Rattle.bill.specs.Reading.{Bill}
-use Rattle.shifts.specs.Sound.{spanMost, tooMany, soundSheet}
+use Rattle.shifts.specs.Sound.{tooMany, soundSheet}
 use Rattle.shifts.specs.Sum.{sum, clash, refusal, Total, Text, Refusal, totalBy, addSound, addTexts}
 use Rattle.adding.specs.declared.add.Sum.the-variants.{Added, Refused}
 use Rattle.adding.specs.Adding.{Summed, summed, sumAnswer, intoOutput, addInto, addAnswers}
@@ -29,7 +30,7 @@ by-number (suc n) b e = e
 refusal-numbered : (a b : Bill) → isOne (refusal a b) ≡ true
 unfolding refusal
 refusal-numbered a b =
-    go (not (eqb (a .scale) (b .scale))) (clash a b) (tooMany (sum a b .sheet .cores) (sum a b .sheet .processes)) (ltb spanMost (a .sheet .span + b .sheet .span))
+    go (not (eqb (a .scale) (b .scale))) (clash a b) (tooMany (sum a b .sheet .cores) (sum a b .sheet .processes)) (ltb maxTime (a .sheet .span + b .sheet .span))
   where
     go : (p q r s : Bool) → isOne (cond p 22 (cond q 23 (cond r 24 (cond s 25 0)))) ≡ true
     go true q r s = refl

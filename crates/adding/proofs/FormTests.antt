@@ -12,15 +12,16 @@ use borrow.Author.Tests.{eqb-true, eqb-false, le-leb, lt-ltb}
 use Rattle.text.specs.declared.number.Number.{Number}
 use Rattle.text.specs.declared.number.Number.the-variants.{Value, Bad}
 use Rattle.text.specs.Pieces.{pieces, ended}
+use Rattle.text.specs.Sizes.{nameLimit, coreLimit}
 use Rattle.text.proofs.Bools.{clash}
 use Rattle.bill.specs.declared.section.Section.the-variants.{Cores, Processes}
 use Rattle.bill.specs.Text.{title}
 use Rattle.bill.specs.Reading.{fromProcesses, atEnd}
-use Rattle.shifts.specs.Sound.{coresMost, namesMost, soundSheet}
+use Rattle.shifts.specs.Sound.{soundSheet}
 use Rattle.paper.specs.declared.head.Head.the-variants.{Line, Other}
 use Rattle.adding.specs.declared.sheet.Form.{Form}
 use Rattle.paper.specs.Lines.{lineFrom}
-use Rattle.adding.specs.PlaceCode.{fewLines, Placed, Lined}
+use Rattle.adding.specs.PlaceCode.{linesMost, fewLines, Placed, Lined}
 use Rattle.paper.specs.Heads.{headOf, countOf}
 use Rattle.adding.specs.SheetCode.{Begun, Formed, FormedAs}
 use Rattle.adding.proofs.SheetLines.{line-count, line-is, part-is, end-is}
@@ -36,7 +37,7 @@ few-lines : (text : List ℕ) → Passing text → fewLines text ≡ true
 unfolding fewLines
 few-lines text p =
     let n = length (ended (pieces 10 text)) in
-    rw (p .rest, lt-ltb 0 n (omega (arith, p .whole)), le-leb n 259 (omega (arith, p .whole, p .few)))
+    rw (p .rest, lt-ltb 0 n (omega (arith, p .whole)), le-leb n linesMost (omega (arith, p .whole, p .few)))
 
 pub too-few : (text starts : List ℕ) (n : ℕ) → Lined text starts n → n < 3 → soundSheet text ≡ none
 too-few text starts zero e h = not-passing text (λ p. clash (fewLines text) (few-lines text p) e)
@@ -64,17 +65,17 @@ module _ (text starts : List ℕ) (n scale span : ℕ) (b : Begun text starts n 
   title-line : getD (pieces 10 text) 1 [] ≡ lineFrom text (getD starts 1 0)
   title-line = line-is (b .placed) 1 (omega (arith, b .three))
 
-  pub no-cores : countOf (title Cores) (lineFrom text (getD starts 1 0)) coresMost ≡ Bad → soundSheet text ≡ none
+  pub no-cores : countOf (title Cores) (lineFrom text (getD starts 1 0)) coreLimit ≡ Bad → soundSheet text ≡ none
   no-cores e = not-passing text (λ p.
-      let q = sym (p .first) ∙ ap (λ l. countOf (title Cores) l coresMost) title-line ∙ e in
+      let q = sym (p .first) ∙ ap (λ l. countOf (title Cores) l coreLimit) title-line ∙ e in
       let z : _≡_ {A = ℕ} 0 1 = cc in omega arith)
 
-  module _ (k : ℕ) (e : countOf (title Cores) (lineFrom text (getD starts 1 0)) coresMost ≡ Value k) where
-    first : countOf (title Cores) (getD (pieces 10 text) 1 []) coresMost ≡ Value k
-    first = ap (λ l. countOf (title Cores) l coresMost) title-line ∙ e
+  module _ (k : ℕ) (e : countOf (title Cores) (lineFrom text (getD starts 1 0)) coreLimit ≡ Value k) where
+    first : countOf (title Cores) (getD (pieces 10 text) 1 []) coreLimit ≡ Value k
+    first = ap (λ l. countOf (title Cores) l coreLimit) title-line ∙ e
 
-    pub cores-told : CountTold (title Cores) (getD (pieces 10 text) 1 []) coresMost k
-    cores-told = count-told (title Cores) (getD (pieces 10 text) 1 []) coresMost k first
+    pub cores-told : CountTold (title Cores) (getD (pieces 10 text) 1 []) coreLimit k
+    cores-told = count-told (title Cores) (getD (pieces 10 text) 1 []) coreLimit k first
 
     pub cores-cut-off : n < 3 + k → soundSheet text ≡ none
     cores-cut-off h = not-passing text (λ p. omega (arith, p .whole, line-count (b .placed), cores-told .count-is))
@@ -85,18 +86,18 @@ module _ (text starts : List ℕ) (n scale span : ℕ) (b : Begun text starts n 
           let z : 2 + k + 0 ≡ 2 + k = omega arith in
           rw (cores-told .count-is, drop-drop, getD-drop, z) (line-is (b .placed) (2 + k) (omega arith))
 
-      second : (r : Number) → countOf (title Processes) (lineFrom text (getD starts (2 + k) 0)) (namesMost - k) ≡ r → countOf (title Processes) (getD (fromProcesses (pieces 10 text)) 0 []) (namesMost - k) ≡ r
-      second r d = ap (λ l. countOf (title Processes) l (namesMost - k)) second-line ∙ d
+      second : (r : Number) → countOf (title Processes) (lineFrom text (getD starts (2 + k) 0)) (nameLimit - k) ≡ r → countOf (title Processes) (getD (fromProcesses (pieces 10 text)) 0 []) (nameLimit - k) ≡ r
+      second r d = ap (λ l. countOf (title Processes) l (nameLimit - k)) second-line ∙ d
 
-      pub no-processes : countOf (title Processes) (lineFrom text (getD starts (2 + k) 0)) (namesMost - k) ≡ Bad → soundSheet text ≡ none
+      pub no-processes : countOf (title Processes) (lineFrom text (getD starts (2 + k) 0)) (nameLimit - k) ≡ Bad → soundSheet text ≡ none
       no-processes d = not-passing text (λ p.
-          let most = ap (λ j. countOf (title Processes) (getD (fromProcesses (pieces 10 text)) 0 []) (namesMost - j)) (cores-told .count-is) in
+          let most = ap (λ j. countOf (title Processes) (getD (fromProcesses (pieces 10 text)) 0 []) (nameLimit - j)) (cores-told .count-is) in
           let q = sym (p .second) ∙ most ∙ second Bad d in
           let z : _≡_ {A = ℕ} 0 1 = cc in omega arith)
 
-      module _ (m : ℕ) (d : countOf (title Processes) (lineFrom text (getD starts (2 + k) 0)) (namesMost - k) ≡ Value m) where
-        pub processes-told : CountTold (title Processes) (getD (fromProcesses (pieces 10 text)) 0 []) (namesMost - k) m
-        processes-told = count-told (title Processes) (getD (fromProcesses (pieces 10 text)) 0 []) (namesMost - k) m (second (Value m) d)
+      module _ (m : ℕ) (d : countOf (title Processes) (lineFrom text (getD starts (2 + k) 0)) (nameLimit - k) ≡ Value m) where
+        pub processes-told : CountTold (title Processes) (getD (fromProcesses (pieces 10 text)) 0 []) (nameLimit - k) m
+        processes-told = count-told (title Processes) (getD (fromProcesses (pieces 10 text)) 0 []) (nameLimit - k) m (second (Value m) d)
 
         abbrev form : Bool → Form
         form t = record { ok = t; scale = scale; span = span; cores = k; processes = m }

@@ -14,19 +14,19 @@ use Rattle.text.specs.Pieces.{pieces, ended, unended}
 use Rattle.text.proofs.Pieces.{pieces-cut, pieces-one, pieces-some, ended-cons, unended-cons}
 use Rattle.text.proofs.PiecesFrom.{after-found}
 use Rattle.paper.specs.Lines.{lineFrom}
-use Rattle.adding.specs.PlaceCode.{isEmpty, fewLines, Lined}
+use Rattle.adding.specs.PlaceCode.{linesMost, isEmpty, fewLines, Lined}
 
 pub record Placing (text starts : List ℕ) (at n : ℕ) : Type 0 where
   pub here : at ≤ length text
-  pub sized : length starts ≡ 259
-  pub room : n ≤ 259
+  pub sized : length starts ≡ linesMost
+  pub room : n ≤ linesMost
   pub last : unended (pieces 10 text) ≡ unended (pieces 10 (drop at text))
   pub done : ended (pieces 10 text) ≡ map (lineFrom text) (take n starts) ++ ended (pieces 10 (drop at text))
 
-pub placing-start : (text starts : List ℕ) → length starts ≡ 259 → Placing text starts 0 0
+pub placing-start : (text starts : List ℕ) → length starts ≡ linesMost → Placing text starts 0 0
 placing-start text starts h = record { here = omega arith; sized = h; room = omega arith; last = refl; done = refl }
 
-few-is : (text u : List ℕ) (n : ℕ) → unended (pieces 10 text) ≡ u → length (ended (pieces 10 text)) ≡ n → fewLines text ≡ isEmpty u && (ltb 0 n && leb n 259)
+few-is : (text u : List ℕ) (n : ℕ) → unended (pieces 10 text) ≡ u → length (ended (pieces 10 text)) ≡ n → fewLines text ≡ isEmpty u && (ltb 0 n && leb n linesMost)
 unfolding fewLines
 few-is text u n p q = rw (p, q)
 
@@ -34,10 +34,10 @@ not-empty : (s : List ℕ) (t : Bool) → 1 ≤ length s → isEmpty s && t ≡ 
 not-empty [] t h = absurd (omega arith)
 not-empty (x ∷ s) t h = refl
 
-too-many : (a b : Bool) (n : ℕ) → 259 < n → a && (b && leb n 259) ≡ false
+too-many : (a b : Bool) (n : ℕ) → linesMost < n → a && (b && leb n linesMost) ≡ false
 too-many false b n h = refl
 too-many true false n h = refl
-too-many true true n h = lt-leb n 259 h
+too-many true true n h = lt-leb n linesMost h
 
 module _ (text starts : List ℕ) (at n : ℕ) (k : Placing text starts at n) where
   -- the lines stored are n
@@ -70,12 +70,12 @@ module _ (text starts : List ℕ) (at n : ℕ) (k : Placing text starts at n) wh
     unended-is : unended (pieces 10 (drop at text)) ≡ unended (pieces 10 (drop (suc (findFrom 10 text at)) text))
     unended-is = ap unended left-is ∙ unended-cons (lineFrom text at) (pieces 10 (drop (suc (findFrom 10 text at)) text)) (pieces-some 10 (drop (suc (findFrom 10 text at)) text))
 
-    pub placing-full : n ≡ 259 → fewLines text ≡ false
+    pub placing-full : n ≡ linesMost → fewLines text ≡ false
     placing-full g =
         few-is text (unended (pieces 10 text)) (length (ended (pieces 10 text))) refl refl
         ∙ too-many (isEmpty (unended (pieces 10 text))) (ltb 0 (length (ended (pieces 10 text)))) (length (ended (pieces 10 text))) (omega (arith, stored, ap length ended-is))
 
-    pub placing-turn : n < 259 → Placing text (set starts n at) (findFrom 10 text at + 1) (n + 1)
+    pub placing-turn : n < linesMost → Placing text (set starts n at) (findFrom 10 text at + 1) (n + 1)
     placing-turn g =
         let u : take (n + 1) (set starts n at) ≡ take n starts ++ at ∷ [] = rw add-one (take-suc-set starts n at (omega (arith, k .sized))) in
         record {
@@ -94,14 +94,14 @@ module _ (text starts : List ℕ) (at n : ℕ) (k : Placing text starts at n) wh
     unfolding pieces ended
     done-is = rw (drop-of-length-le text h, append-nil) at (k .done)
 
-    few-end : fewLines text ≡ ltb 0 n && leb n 259
+    few-end : fewLines text ≡ ltb 0 n && leb n linesMost
     unfolding pieces unended ended
     few-end = few-is text [] n (rw (drop-of-length-le text h) at (k .last)) (rw (drop-of-length-le text h) at stored ∙ omega arith)
 
 pub placing-end : (text starts : List ℕ) (at n : ℕ) → Placing text starts at n → length text ≤ at → Lined text starts n
 placing-end text starts at zero k h = few-end text starts at zero k h
 placing-end text starts at (suc n) k h = record {
-  few = few-end text starts at (suc n) k h ∙ rw (lt-ltb 0 (suc n) (omega arith)) (le-leb (suc n) 259 (k .room));
+  few = few-end text starts at (suc n) k h ∙ rw (lt-ltb 0 (suc n) (omega arith)) (le-leb (suc n) linesMost (k .room));
   sized = k .sized;
   count = k .room;
   lines = sym (done-is text starts at (suc n) k h);

@@ -11,6 +11,7 @@ use borrow.Author.Tests.{eq-eqb, leb-true, le-leb, not-false}
 use Rattle.text.specs.Name.{isName}
 use Rattle.text.specs.declared.number.Number.the-variants.{Value}
 use Rattle.text.specs.Pieces.{pieces, ended, unended}
+use Rattle.text.specs.Sizes.{maxTime, nameLimit, coreLimit}
 use Rattle.text.proofs.Bools.{and-l, and-r, or-l, or-r}
 use Rattle.bill.specs.declared.section.Section.the-variants.{Cores, Processes}
 use Rattle.bill.specs.Rows.{allNamed}
@@ -19,7 +20,7 @@ use Rattle.bill.specs.Reading.{Bill, scaleIn, spanIn, headExact, countIn, count
 use Rattle.bill.proofs.Formed.{all-pass}
 use Rattle.bill.proofs.Readings.{read-print, read-lengths}
 use Rattle.sorting.specs.Sets.{all, meets, twice}
-use Rattle.shifts.specs.Sound.{names, firsts, total, spanMost, coresMost, namesMost, notCount, notTotal, someRow, soundSheet}
+use Rattle.shifts.specs.Sound.{names, firsts, total, notCount, notTotal, someRow, soundSheet}
 use Rattle.shifts.proofs.Fine.{Fine, few-cores, few-names, unsound-is}
 use Rattle.shifts.proofs.Sizes.{bill-longest}
 use Rattle.paper.specs.declared.head.Head.the-variants.{Line}
@@ -86,22 +87,22 @@ pub record HeadTold (line : List ℕ) (scale span : ℕ) : Type 0 where
   pub exact : headExact line ≡ true
   pub scale-is : scaleIn line ≡ scale
   pub span-is : spanIn line ≡ span
-  pub short : span ≤ spanMost
+  pub short : span ≤ maxTime
 
-head-if : (t u : Bool) (s n scale span : ℕ) → leb n spanMost ≡ u → headIf (t && u) s n ≡ Line scale span → (t ≡ true) × (s ≡ scale) × (n ≡ span) × (n ≤ spanMost)
-head-if true true s n scale span h e = (refl, cc, cc, leb-true n spanMost h)
+head-if : (t u : Bool) (s n scale span : ℕ) → leb n maxTime ≡ u → headIf (t && u) s n ≡ Line scale span → (t ≡ true) × (s ≡ scale) × (n ≡ span) × (n ≤ maxTime)
+head-if true true s n scale span h e = (refl, cc, cc, leb-true n maxTime h)
 head-if true false s n scale span h e = (cc, cc, cc, absurd (let z : _≡_ {A = ℕ} 0 1 = cc in omega arith))
 head-if false u s n scale span h e = (cc, cc, cc, absurd (let z : _≡_ {A = ℕ} 0 1 = cc in omega arith))
 
 pub head-told : (line : List ℕ) (scale span : ℕ) → headOf line ≡ Line scale span → HeadTold line scale span
 unfolding headOf
 head-told line scale span e =
-    let w = head-if (headExact line) (leb (spanIn line) spanMost) (scaleIn line) (spanIn line) scale span refl e in
+    let w = head-if (headExact line) (leb (spanIn line) maxTime) (scaleIn line) (spanIn line) scale span refl e in
     record { exact = w .0; scale-is = w .1; span-is = w .2; short = omega (arith, w .2, w .3) }
 
-head-tells : (line : List ℕ) → headExact line ≡ true → spanIn line ≤ spanMost → headOf line ≡ Line (scaleIn line) (spanIn line)
+head-tells : (line : List ℕ) → headExact line ≡ true → spanIn line ≤ maxTime → headOf line ≡ Line (scaleIn line) (spanIn line)
 unfolding headOf
-head-tells line e h = rw (e, le-leb (spanIn line) spanMost h)
+head-tells line e h = rw (e, le-leb (spanIn line) maxTime h)
 
 pub record CountTold (head line : List ℕ) (max n : ℕ) : Type 0 where
   pub exact : countExact head line ≡ true
@@ -126,10 +127,10 @@ headIn text = getD (pieces 10 text) 0 []
 pub record Passing (text : List ℕ) : Type 0 where
   pub rest : unended (pieces 10 text) ≡ []
   pub whole : length (ended (pieces 10 text)) ≡ 3 + coreCount (pieces 10 text) + processCount (pieces 10 text)
-  pub few : coreCount (pieces 10 text) + processCount (pieces 10 text) ≤ namesMost
+  pub few : coreCount (pieces 10 text) + processCount (pieces 10 text) ≤ nameLimit
   pub head : headOf (getD (pieces 10 text) 0 []) ≡ Line (scaleIn (headIn text)) (spanIn (headIn text))
-  pub first : countOf (title Cores) (getD (pieces 10 text) 1 []) coresMost ≡ Value (coreCount (pieces 10 text))
-  pub second : countOf (title Processes) (getD (fromProcesses (pieces 10 text)) 0 []) (namesMost - coreCount (pieces 10 text)) ≡ Value (processCount (pieces 10 text))
+  pub first : countOf (title Cores) (getD (pieces 10 text) 1 []) coreLimit ≡ Value (coreCount (pieces 10 text))
+  pub second : countOf (title Processes) (getD (fromProcesses (pieces 10 text)) 0 []) (nameLimit - coreCount (pieces 10 text)) ≡ Value (processCount (pieces 10 text))
   pub sums : sumsRight (spanIn (headIn text)) (coreLines (pieces 10 text)) (processLines (pieces 10 text)) ≡ true
   pub cores-once : twice (names (map rowFrom (coreLines (pieces 10 text)))) ≡ false
   pub processes-once : twice (names (map rowFrom (processLines (pieces 10 text)))) ≡ false
@@ -167,8 +168,8 @@ passing text b r f =
       whole = n .whole;
       few = omega (arith, n .cores, n .processes, few-names (b .sheet .cores) (b .sheet .processes) (f .few));
       head = head-tells (headIn text) (v .0) (g .short);
-      first = count-tells (title Cores) (getD ls 1 []) coresMost (v .1 .0) (omega (arith, n .cores, few-cores (b .sheet .cores) (b .sheet .processes) (f .few)));
-      second = count-tells (title Processes) (getD (fromProcesses ls) 0 []) (namesMost - coreCount ls) (v .1 .1 .1 .0)
+      first = count-tells (title Cores) (getD ls 1 []) coreLimit (v .1 .0) (omega (arith, n .cores, few-cores (b .sheet .cores) (b .sheet .processes) (f .few)));
+      second = count-tells (title Processes) (getD (fromProcesses ls) 0 []) (nameLimit - coreCount ls) (v .1 .1 .1 .0)
           (omega (arith, n .cores, n .processes, few-names (b .sheet .cores) (b .sheet .processes) (f .few)));
       sums = sums-of-fine text (s .forms) g;
       cores-once = g .cores-once;

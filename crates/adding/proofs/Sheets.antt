@@ -9,6 +9,7 @@ use lib.Dec.{ltb}
 use lib.ListN.{length, getD, take, length-map}
 use borrow.Author.Tests.{eqb-true, le-ltb, le-leb, ltb-false}
 use Rattle.text.specs.Pieces.{pieces}
+use Rattle.text.specs.Sizes.{nameLimit, coreLimit}
 use Rattle.text.proofs.Bools.{and-l, and-r, or-l, or-r}
 use Rattle.bill.specs.declared.section.Section.{Section}
 use Rattle.bill.specs.declared.section.Section.the-variants.{Cores, Processes}
@@ -17,7 +18,7 @@ use Rattle.bill.specs.Reading.{rowFrom, fromProcesses, coreLines, processLines,
 use Rattle.bill.proofs.LineReadings.{head-low, head-high}
 use Rattle.sorting.specs.Sets.{all, sortedBy}
 use Rattle.sorting.proofs.Keys.{rename-sorted, rising-keys, all-sorted}
-use Rattle.shifts.specs.Sound.{names, firsts, coresMost, namesMost, notTotal, someRow, tooMany}
+use Rattle.shifts.specs.Sound.{names, firsts, notTotal, someRow, tooMany}
 use Rattle.shifts.specs.Sum.{byName}
 use Rattle.shifts.proofs.Fine.{Fine, is-sound}
 use Rattle.shifts.proofs.Small.{above, small}
@@ -90,11 +91,11 @@ module _ {text starts : List ℕ} {f : Form} (k : Formed text starts f) where
   head : HeadTold (getD ls 0 []) (f .scale) (f .span)
   head = head-told (getD ls 0 []) (f .scale) (f .span) (k .head)
 
-  first : CountTold (title Cores) (getD ls 1 []) coresMost (f .cores)
-  first = count-told (title Cores) (getD ls 1 []) coresMost (f .cores) (k .first)
+  first : CountTold (title Cores) (getD ls 1 []) coreLimit (f .cores)
+  first = count-told (title Cores) (getD ls 1 []) coreLimit (f .cores) (k .first)
 
-  second : CountTold (title Processes) (getD (fromProcesses ls) 0 []) (namesMost - f .cores) (f .processes)
-  second = count-told (title Processes) (getD (fromProcesses ls) 0 []) (namesMost - f .cores) (f .processes) (k .second)
+  second : CountTold (title Processes) (getD (fromProcesses ls) 0 []) (nameLimit - f .cores) (f .processes)
+  second = count-told (title Processes) (getD (fromProcesses ls) 0 []) (nameLimit - f .cores) (f .processes) (k .second)
 
   pub formed-sized : Sized starts f
   formed-sized = record { sized = k .sized; few = first .few; names = omega (arith, first .few, second .few); short = head .short }
@@ -120,7 +121,7 @@ module _ {text starts : List ℕ} {f : Form} (k : Formed text starts f) where
 
     not-many : tooMany (map rowFrom (coreLines ls)) (map rowFrom (processLines ls)) ≡ false
     unfolding tooMany
-    not-many = rw (core-length, process-length, le-ltb coresMost (f .cores) (first .few)) (le-ltb namesMost (f .cores + f .processes) (formed-sized .names))
+    not-many = rw (core-length, process-length, le-ltb coreLimit (f .cores) (first .few)) (le-ltb nameLimit (f .cores + f .processes) (formed-sized .names))
 
     forms : allOf (formTests ls) ≡ true
     unfolding formTests

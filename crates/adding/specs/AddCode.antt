@@ -7,12 +7,13 @@ use Prim.Native.Nat.{ℕ, zero, suc, _+_}
 use lib.Dec.{eqb, ltb}
 use lib.ListN.{length}
 use Rattle.text.specs.Number.{digitsOf}
+use Rattle.text.specs.Sizes.{maxTime, nameLimit, coreLimit}
 use Rattle.bill.specs.declared.section.Section.the-variants.{Cores, Processes}
 use Rattle.bill.specs.Text.{title}
 use Rattle.bill.specs.Verdict.{acceptedText}
 use Rattle.bill.specs.Reading.{Bill}
 use Rattle.sorting.specs.Sets.{sortedBy}
-use Rattle.shifts.specs.Sound.{spanMost, coresMost, namesMost, soundSheet}
+use Rattle.shifts.specs.Sound.{soundSheet}
 use Rattle.shifts.specs.Sum.{byName, clash, Refusal, addTexts}
 use Rattle.adding.specs.declared.sheet.Form.{Form}
 use Rattle.adding.specs.MergeCode.{rowsAt, InOrder}
@@ -35,7 +36,7 @@ madeLength scale span cores core-rows processes process-rows =
 
 -- 24 or 25, or 0
 unfoldable pub ownRefusal : ℕ → ℕ → ℕ → ℕ
-ownRefusal cores processes span = cond (ltb coresMost cores || ltb namesMost (cores + processes)) 24 (cond (ltb spanMost span) 25 0)
+ownRefusal cores processes span = cond (ltb coreLimit cores || ltb nameLimit (cores + processes)) 24 (cond (ltb maxTime span) 25 0)
 
 -- a sheet that was read, by the places of its rows
 pub record Sheeted (text : List ℕ) (f : Form) (cores processes : List ℕ) (b : Bill) : Type 0 where

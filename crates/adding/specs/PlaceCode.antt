@@ -2,26 +2,31 @@
 use mathlib.Core.Path.{_≡_}
 use mathlib.Core.Bool.{Bool, true, false, _&&_}
 use mathlib.Core.List.{List, [], _∷_, map}
-use Prim.Native.Nat.{ℕ, zero, suc, _≤_}
+use Prim.Native.Nat.{ℕ, zero, suc, _+_, _≤_}
 use lib.Dec.{leb, ltb}
 use lib.ListN.{length, take}
 use Rattle.text.specs.Pieces.{pieces, ended, unended}
+use Rattle.text.specs.Sizes.{nameLimit}
 use Rattle.paper.specs.Lines.{lineFrom}
 
--- every line has its end, and there are from 1 to 259
+-- no sheet that may be added has more lines: the verdict's, two titles, and a row for each name
+abbrev pub linesMost : ℕ
+linesMost = nameLimit + 3
+
+-- every line has its end, and there are from 1 to that many
 abbrev pub isEmpty : List ℕ → Bool
 isEmpty [] = true
 isEmpty (x ∷ s) = false
 
 unfoldable pub fewLines : List ℕ → Bool
 fewLines text =
-    isEmpty (unended (pieces 10 text)) && (ltb 0 (length (ended (pieces 10 text))) && leb (length (ended (pieces 10 text))) 259)
+    isEmpty (unended (pieces 10 text)) && (ltb 0 (length (ended (pieces 10 text))) && leb (length (ended (pieces 10 text))) linesMost)
 
 -- the places of the lines, in the first n entries
 pub record Placed (text starts : List ℕ) (n : ℕ) : Type 0 where
   pub few : fewLines text ≡ true
-  pub sized : length starts ≡ 259
-  pub count : n ≤ 259
+  pub sized : length starts ≡ linesMost
+  pub count : n ≤ linesMost
   pub lines : map (lineFrom text) (take n starts) ≡ ended (pieces 10 text)
 
 abbrev pub Lined : List ℕ → List ℕ → ℕ → Type 0

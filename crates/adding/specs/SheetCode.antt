@@ -7,11 +7,12 @@ use Prim.Native.Nat.{ℕ, _+_, _-_, _≤_}
 use lib.ListN.{length, getD, take, drop}
 use Rattle.text.specs.declared.number.Number.the-variants.{Value}
 use Rattle.text.specs.Pieces.{pieces}
+use Rattle.text.specs.Sizes.{maxTime, nameLimit, coreLimit}
 use Rattle.bill.specs.declared.section.Section.the-variants.{Cores, Processes}
 use Rattle.bill.specs.Text.{title}
 use Rattle.bill.specs.Reading.{Bill, rowFrom, fromProcesses, processCount, coreLines, processLines, atEnd}
 use Rattle.sorting.specs.Sets.{all, meets, twice, sortedBy}
-use Rattle.shifts.specs.Sound.{firsts, spanMost, coresMost, namesMost, soundSheet}
+use Rattle.shifts.specs.Sound.{firsts, soundSheet}
 use Rattle.shifts.specs.Sum.{byName}
 use Rattle.paper.specs.declared.head.Head.the-variants.{Line}
 use Rattle.adding.specs.declared.sheet.Form.{Form}
@@ -41,8 +42,8 @@ pub record Begun (text starts : List ℕ) (n scale span : ℕ) : Type 0 where
 pub record Formed (text starts : List ℕ) (f : Form) : Type 0 where
   pub sized : length starts ≡ 259
   pub head : headOf (getD (pieces 10 text) 0 []) ≡ Line (f .scale) (f .span)
-  pub first : countOf (title Cores) (getD (pieces 10 text) 1 []) coresMost ≡ Value (f .cores)
-  pub second : countOf (title Processes) (getD (fromProcesses (pieces 10 text)) 0 []) (namesMost - f .cores) ≡ Value (f .processes)
+  pub first : countOf (title Cores) (getD (pieces 10 text) 1 []) coreLimit ≡ Value (f .cores)
+  pub second : countOf (title Processes) (getD (fromProcesses (pieces 10 text)) 0 []) (nameLimit - f .cores) ≡ Value (f .processes)
   pub end : atEnd (drop (processCount (pieces 10 text)) (drop 1 (fromProcesses (pieces 10 text)))) ≡ true
   pub core-lines : map (lineFrom text) (corePlaces starts f) ≡ coreLines (pieces 10 text)
   pub process-lines : map (lineFrom text) (processPlaces starts f) ≡ processLines (pieces 10 text)
@@ -54,9 +55,9 @@ FormedAs false text starts f = soundSheet text ≡ none
 -- the places of both sections are there, and the span is one
 pub record Sized (starts : List ℕ) (f : Form) : Type 0 where
   pub sized : length starts ≡ 259
-  pub few : f .cores ≤ coresMost
-  pub names : f .cores + f .processes ≤ namesMost
-  pub short : f .span ≤ spanMost
+  pub few : f .cores ≤ coreLimit
+  pub names : f .cores + f .processes ≤ nameLimit
+  pub short : f .span ≤ maxTime
 
 -- ---- the rows
 

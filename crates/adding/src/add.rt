@@ -9,7 +9,7 @@ use crate::sheet::Form;
 use crate::sheet::read_sheet;
 use crate::whole::put_bill;
 use bill::section::Section;
-use paper::head::SPAN_MOST;
+use text::size::MAX_TIME;
 
 // How many bytes of the output the sum takes; or a refusal, 21 to 25 or 15, and then nothing was written.
 pub enum Sum {
@@ -30,7 +30,7 @@ fn own_refusal(cores: usize, processes: usize, span: u64) -> u32
     if (64 < cores) | (256 < cores + processes) {
         return 24;
     }
-    if SPAN_MOST < span {
+    if MAX_TIME < span {
         return 25;
     }
     0

@@ -3,7 +3,7 @@ ghost use mathlib.Core.Path.{_≡_};
 ghost use mathlib.Core.List.{map};
 ghost use Prim.Native.Nat.{_≤_};
 ghost use lib.ListN.{length};
-ghost use Rattle.shifts.specs.Sound.{spanMost, coresMost};
+ghost use Rattle.text.specs.Sizes.{maxTime, coreLimit};
 ghost use Rattle.paper.specs.Lines.{lineFrom};
 ghost use Rattle.adding.specs.RowCode.{allHeld, chargesMake};
 use paper::line::line_at;
@@ -13,7 +13,7 @@ use text::number::Number;
 
 // All held ticks of the cores whose rows begin at these places, where each is a core's with this span.
 pub(crate) fn all_held(text: &[u8], places: &[u32], span: u64) -> Number
-    requires { ⌜ (length (now places) ≤ coresMost) × (span ≤ spanMost) ⌝ }
+    requires { ⌜ (length (now places) ≤ coreLimit) × (span ≤ maxTime) ⌝ }
     ensures { λ r. ⌜ r ≡ allHeld span (map (lineFrom (now (text .entry))) (now (places .entry))) ⌝ }
 {
     let mut total: u64 = 0;

@@ -5,11 +5,12 @@ use mathlib.Core.List.{List, [], _∷_}
 use Prim.Native.Nat.{ℕ, _+_}
 use lib.Dec.{eqb, leb, ltb}
 use Rattle.text.specs.Bytes.{sameBytes}
+use Rattle.text.specs.Sizes.{nameLimit, coreLimit}
 use Rattle.rules.specs.Words.{core, semaphore, increment, decrement, lock-used, full, overfull, unlock-full, used}
 use Rattle.rules.specs.Lists.{member}
 use Rattle.rules.specs.Charts.{chartOf}
 use Rattle.rules.specs.Event.{Event}
-use Rattle.rules.specs.Limits.{nameLimit, coreLimit, instanceLimit}
+use Rattle.rules.specs.Limits.{instanceLimit}
 use Rattle.rules.specs.Core.{no-core, takes-core}
 use Rattle.rules.specs.History.{hasInstances, isTracked, activates}
 use Rattle.rules.specs.Refusals.{exceedsLimit, countAllowed}

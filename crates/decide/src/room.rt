@@ -15,6 +15,8 @@ use steps::kind::tracked;
 use steps::kind::with_instances;
 use steps::numbers::*;
 use tables::entry::*;
+use text::size::CORE_LIMIT;
+use text::size::NAME_LIMIT;
 use words::code::MTALIMITEXCEEDED;
 
 // Whether an event is a process's mtalimitexceeded.

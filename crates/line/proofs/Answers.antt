@@ -14,6 +14,7 @@ use Rattle.text.specs.Name.{isName}
 use Rattle.text.specs.Number.{numberOf}
 use Rattle.text.specs.declared.number.Number.{Number}
 use Rattle.text.specs.declared.number.Number.the-variants.{Value, Bad}
+use Rattle.text.specs.Sizes.{maxTime}
 use Rattle.text.proofs.Bools.{is-false}
 use Rattle.text.proofs.Words.{same-eq, starts-split}
 use Rattle.words.specs.declared.pair.Pair.{Pair}
@@ -30,7 +31,7 @@ use Rattle.line.specs.declared.event.Event.{Event}
 use Rattle.line.specs.declared.reading.Reading.{Reading}
 use Rattle.line.specs.declared.reading.Reading.the-variants.{Version, Comment, Creator, CreationDate, Refused}
 use Rattle.line.specs.Parameter.{isVersion, isVersionLine, isComment, timeScale, isCreator, isCreationDate, scaleOr, otherReading, parameterReading}
-use Rattle.line.specs.Event.{maxTime, numbersAs, numbersOf, hasNames, eventOf, ruled, knownReading, pairReading, numbersReading, fieldsReading, eventReading}
+use Rattle.line.specs.Event.{numbersAs, numbersOf, hasNames, eventOf, ruled, knownReading, pairReading, numbersReading, fieldsReading, eventReading}
 use Rattle.line.specs.Reading.{isEventLine, readLine, answerOf}
 use Rattle.line.specs.Answer.{Test, test, lowest}
 use Rattle.line.specs.Condition.{

@@ -14,6 +14,7 @@ use borrow.Author.Tests.{le-leb, leb-true, le-ltb, not-false}
 use Rattle.text.specs.Name.{isName}
 use Rattle.text.specs.Number.{digitsOf}
 use Rattle.text.specs.Put.{written}
+use Rattle.text.specs.Sizes.{maxTime}
 use Rattle.text.proofs.Bools.{and-l, and-r}
 use Rattle.text.proofs.Digits.{written-read}
 use Rattle.text.proofs.Writes.{written-parts}
@@ -29,7 +30,7 @@ use Rattle.forms.specs.Rule.{ruleBroken}
 use Rattle.line.specs.declared.event.Event.{Event}
 use Rattle.line.specs.declared.reading.Reading.the-variants.{EventLine}
 use Rattle.line.specs.declared.writing.Written.the-variants.{Done, NotWritten}
-use Rattle.line.specs.Event.{maxTime, numbersOf, hasNames, knownReading, fieldsReading, eventReading}
+use Rattle.line.specs.Event.{numbersOf, hasNames, knownReading, fieldsReading, eventReading}
 use Rattle.line.specs.Reading.{lineMost, readLine}
 use Rattle.line.specs.Writing.{hasInstances, hasSizes, recordRefusal, textOf, wrote, writeText, writeLine}
 use Rattle.line.proofs.Said.{Allowed, Noted, Said, said}

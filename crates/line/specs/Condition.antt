@@ -8,6 +8,7 @@ use Rattle.text.specs.Name.{isName}
 use Rattle.text.specs.Number.{numberOf}
 use Rattle.text.specs.declared.number.Number.{Number}
 use Rattle.text.specs.declared.number.Number.the-variants.{Value, Bad}
+use Rattle.text.specs.Sizes.{maxTime}
 use Rattle.words.specs.declared.pair.Pair.{Pair}
 use Rattle.words.specs.declared.pair.Pair.the-variants.{Known, Unknown}
 use Rattle.words.specs.declared.scale.ScaleFound.{ScaleFound}
@@ -17,7 +18,6 @@ use Rattle.fields.specs.Part.{partsOf, fieldOf}
 use Rattle.forms.specs.Note.{maxInstance, noteOf, isWrong}
 use Rattle.forms.specs.Rule.{ruleBroken}
 use Rattle.line.specs.Parameter.{isVersion, isVersionLine, isComment, timeScale, isCreator, isCreationDate}
-use Rattle.line.specs.Event.{maxTime}
 use Rattle.line.specs.Reading.{lineMost, hasBreak, isEventLine}
 use Rattle.line.specs.Answer.{Test, test, holds}
 

@@ -9,6 +9,7 @@ use Rattle.text.specs.Name.{allNameBytes, isName}
 use Rattle.text.specs.Number.{numberOf}
 use Rattle.text.specs.declared.number.Number.{Number}
 use Rattle.text.specs.declared.number.Number.the-variants.{Value, Bad}
+use Rattle.text.specs.Sizes.{maxTime}
 use Rattle.words.specs.declared.kind.Kind.{Kind}
 use Rattle.words.specs.declared.action.Action.{Action}
 use Rattle.words.specs.declared.pair.Pair.{Pair}
@@ -24,10 +25,6 @@ use Rattle.line.specs.declared.event.Numbers.{Numbers}
 use Rattle.line.specs.declared.event.Numbers.the-variants.{TimeAndInstances, Wrong as NoNumbers}
 use Rattle.line.specs.declared.reading.Reading.{Reading}
 use Rattle.line.specs.declared.reading.Reading.the-variants.{EventLine, Refused}
-
--- "time | 72,057,594,037,927,935 (2^56 − 1)"
-abbrev pub maxTime : ℕ
-maxTime = 72057594037927935
 
 -- ---- the three numbers
 

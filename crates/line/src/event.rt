@@ -16,13 +16,11 @@ use text::name::NAME_MOST;
 use text::name::name;
 use text::number::Number;
 use text::number::read_number;
+use text::size::MAX_TIME;
 use words::action::Action;
 use words::kind::Kind;
 use words::pair::Pair;
 use words::pair::named;
-
-// the latest time, as specs/Event.antt has it
-pub const MAX_TIME: u64 = 72057594037927935;
 
 // What an event line says, but for its source, target and note, which are the parts 2, 5 and 8 of the line itself.
 pub struct Event {

@@ -13,10 +13,10 @@ use Rattle.text.specs.Bytes.{startsWith, toByte, findFrom}
 use Rattle.text.specs.Number.{isNumber, valueFrom, numberIf, numberOf}
 use Rattle.text.specs.declared.number.Number.{Number}
 use Rattle.text.specs.declared.number.Number.the-variants.{Value, Bad}
+use Rattle.text.specs.Sizes.{maxTime}
 use Rattle.text.proofs.Words.{starts-long}
 use Rattle.words.specs.Scale.{scaleOf}
 use Rattle.bill.specs.Reading.{scaleCode, fromScale, fromSpan, scaleIn, spanIn, headExact, countIn, countExact}
-use Rattle.shifts.specs.Sound.{spanMost}
 use Rattle.paper.specs.declared.head.Head.the-variants.{Line, Other}
 use Rattle.paper.specs.Heads.{headIf, headOf, countOf}
 
@@ -80,12 +80,12 @@ module _ (line : List ℕ) where
       no-span f = let g = rw (rest line blank) at f in rw (e, scale-is, low, span-from, g)
 
       module _ (f : startsWith (take (length line - blank) (drop blank line)) (bytes " span ") ≡ true) (r : Number)
-          (given : r ≡ numberOf (take (length line - (blank + 6)) (drop (blank + 6) line)) spanMost) where
+          (given : r ≡ numberOf (take (length line - (blank + 6)) (drop (blank + 6) line)) maxTime) where
         abbrev digits : List ℕ
         digits = drop (blank + 6) line
 
         abbrev in-range : Bool
-        in-range = isNumber digits && leb (valueFrom 0 digits) spanMost
+        in-range = isNumber digits && leb (valueFrom 0 digits) maxTime
 
         digits-are : drop 6 (fromSpan (fromScale line)) ≡ digits
         digits-are = rw (span-from, drop-drop)

@@ -5,8 +5,8 @@ use Prim.Native.Nat.{ℕ}
 use lib.Dec.{leb}
 use Rattle.text.specs.Number.{numberIf}
 use Rattle.text.specs.declared.number.Number.{Number}
+use Rattle.text.specs.Sizes.{maxTime}
 use Rattle.bill.specs.Reading.{scaleIn, spanIn, headExact, countIn, countExact}
-use Rattle.shifts.specs.Sound.{spanMost}
 use Rattle.paper.specs.declared.head.Head.{Head}
 use Rattle.paper.specs.declared.head.Head.the-variants.{Line, Other}
 
@@ -15,7 +15,7 @@ headIf true scale span = Line scale span
 headIf false scale span = Other
 
 unfoldable pub headOf : List ℕ → Head
-headOf line = headIf (headExact line && leb (spanIn line) spanMost) (scaleIn line) (spanIn line)
+headOf line = headIf (headExact line && leb (spanIn line) maxTime) (scaleIn line) (spanIn line)
 
 unfoldable pub countOf : List ℕ → List ℕ → ℕ → Number
 countOf head line max = numberIf (countExact head line && leb (countIn head line) max) (countIn head line)

@@ -8,11 +8,9 @@ use text::bytes::find;
 use text::bytes::starts;
 use text::number::Number;
 use text::number::read_number;
+use text::size::MAX_TIME;
 use words::scale::ScaleFound;
 use words::scale::scale_of;
-
-// 2^56 − 1, as shifts/specs/Sound.antt has it
-pub const SPAN_MOST: u64 = 72057594037927935;
 
 // The time scale's number and the span that a verdict's line tells; or that it is no line of an accepted trace.
 pub enum Head {
@@ -46,7 +44,7 @@ pub fn read_head(line: &[u8]) -> Head
     if !starts(&line[blank..], b" span ") {
         return Head::Other;
     }
-    let span = read_number(&line[blank + 6..], SPAN_MOST);
+    let span = read_number(&line[blank + 6..], MAX_TIME);
     let Number::Value(n) = span else {
         return Head::Other;
     };

@@ -9,8 +9,9 @@ use native.Mathlib.Omega.{arith}
 use lib.Dec.{eqb, leb, ltb}
 use lib.ListN.{length}
 use Rattle.text.specs.Bytes.{sameBytes}
+use Rattle.text.specs.Sizes.{nameLimit, coreLimit}
 use Rattle.rules.specs.Words.{core}
-use Rattle.rules.specs.Limits.{nameLimit, coreLimit, instanceLimit}
+use Rattle.rules.specs.Limits.{instanceLimit}
 use Rattle.rules.specs.Event.{Event}
 use Rattle.rules.specs.Core.{onCore}
 use Rattle.rules.specs.History.{hasInstances, isTracked, names, cores, kindOf, entries, lastTime as timeBefore}

@@ -5,7 +5,7 @@ use mathlib.Core.List.{List, [], _∷_}
 use Prim.Native.Nat.{ℕ, zero, suc, _-_, _≤_}
 use native.Mathlib.Omega.{arith}
 use lib.Dec.{eqb}
-use Rattle.line.specs.Event.{maxTime}
+use Rattle.text.specs.Sizes.{maxTime}
 use Rattle.rules.specs.Chart.{Step, isStateOf, stateAfter}
 use Rattle.rules.specs.Event.{Event}
 use Rattle.rules.specs.Verdict.{Accepted}

@@ -9,11 +9,12 @@ use lib.Dec.{eqb}
 use lib.ListN.{length}
 use borrow.Author.Tests.{le-ltb}
 use Rattle.text.specs.Name.{isName}
+use Rattle.text.specs.Sizes.{nameLimit, coreLimit}
 use Rattle.bill.specs.Reading.{billText}
 use Rattle.bill.proofs.Readings.{print-read}
 use Rattle.sorting.specs.Order.{Name}
 use Rattle.sorting.specs.Sets.{has}
-use Rattle.shifts.specs.Sound.{coresMost, namesMost, notCount, notTotal, tooMany, soundSheet}
+use Rattle.shifts.specs.Sound.{notCount, notTotal, tooMany, soundSheet}
 use Rattle.shifts.proofs.Fine.{Fine, no-other, is-sound}
 use Rattle.shifts.proofs.AddedRows.{rows-pass}
 use Rattle.rules.specs.Words.{core}
@@ -63,8 +64,8 @@ module _ (ls : List (List ℕ)) (accepted : verdictOn [] ls .0 ≡ 0) where
         process-rows h (processes h),
         rows-count (coreFigures h) (cores h),
         rows-count (processFigures h) (processes h),
-        le-ltb coresMost (length (cores h)) (room .cores-fit),
-        le-ltb namesMost (length (cores h) + length (processes h)) (omega (arith, listed-most h, room .names-fit)),
+        le-ltb coreLimit (length (cores h)) (room .cores-fit),
+        le-ltb nameLimit (length (cores h) + length (processes h)) (omega (arith, listed-most h, room .names-fit)),
       )
 
   fine : Fine (billOf ls)

@@ -7,11 +7,11 @@ use Prim.Native.Nat.{ℕ, _≤_, _<_, _*_}
 use native.Mathlib.Omega.{arith}
 use lib.ListN.{length, drop, length-take}
 use Rattle.text.specs.Name.{isName}
+use Rattle.text.specs.Sizes.{maxTime, coreLimit}
 use Rattle.text.proofs.Names.{name-length}
 use Rattle.text.proofs.Words.{same-eq, eq-same}
-use Rattle.line.specs.Event.{maxTime}
 use Rattle.rules.specs.Words.{core, semaphore}
-use Rattle.rules.specs.Limits.{verdictLineLimit, lineLimit, coreLimit, lastRefusal}
+use Rattle.rules.specs.Limits.{verdictLineLimit, lineLimit, lastRefusal}
 use Rattle.rules.specs.Chart.{isStateOf}
 use Rattle.rules.specs.Charts.{chartOf}
 use Rattle.rules.specs.History.{hasInstances}

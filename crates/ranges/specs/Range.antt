@@ -8,9 +8,9 @@ use lib.Dec.{eqb, leb, ltb}
 use lib.ListN.{length}
 use Rattle.text.specs.Bytes.{sameBytes}
 use Rattle.text.specs.Name.{isName}
-use Rattle.line.specs.Event.{maxTime}
+use Rattle.text.specs.Sizes.{maxTime, coreLimit}
 use Rattle.rules.specs.Words.{core, semaphore}
-use Rattle.rules.specs.Limits.{verdictLineLimit, lineLimit, coreLimit, lastRefusal}
+use Rattle.rules.specs.Limits.{verdictLineLimit, lineLimit, lastRefusal}
 use Rattle.rules.specs.Chart.{isStateOf}
 use Rattle.rules.specs.Charts.{isProcess, chartOf}
 use Rattle.rules.specs.History.{hasInstances}

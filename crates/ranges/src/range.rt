@@ -12,12 +12,14 @@ use crate::placed::row_placed;
 use crate::placed::taken_places;
 use crate::state::of_semaphore;
 use crate::state::state_ok;
-use line::event::MAX_TIME;
 use steps::kind::is_process;
 use steps::numbers::*;
 use tables::entry::*;
 use tables::size::sized;
 use text::name::name;
+use text::size::CORE_LIMIT;
+use text::size::MAX_TIME;
+use text::size::NAME_LIMIT;
 
 // The verdict and the line level's entries.
 fn line_level_ok(nums: &[u32]) -> bool

@@ -9,6 +9,7 @@ use native.Mathlib.Nat.{mul-le-mul-left, mul-le-mul-right}
 use native.Mathlib.Omega.{arith}
 use lib.Dec.{eqb}
 use Rattle.text.specs.Bytes.{sameBytes}
+use Rattle.text.specs.Sizes.{coreLimit}
 use Rattle.text.proofs.Words.{same-eq, same-refl}
 use Rattle.rules.specs.Lists.{any, sumOver, oneIf}
 use Rattle.rules.specs.Words.{core}
@@ -22,7 +23,6 @@ use Rattle.rules.proofs.Sums.{sum-cong, sum-zero, sum-at-most, sum-swap
 use Rattle.rules.proofs.Room.{all-fit}
 use Rattle.rules.proofs.Totals.{ticks-add, core-total}
 use Rattle.rules.proofs.Tracked.{Since, now, before, Tracked, tracked, still-accepted, still-kind, kind-named, names-once, named-kind}
-use Rattle.rules.specs.Limits.{coreLimit}
 
 -- ---- sums of ticks
 

@@ -11,6 +11,7 @@ use lib.ListN.{length, length-append}
 use borrow.Author.Tests.{ne-eqb, le-ltb, lt-ltb, lt-leb}
 use Rattle.text.specs.Literal.{bytes}
 use Rattle.text.specs.Bytes.{sameBytes}
+use Rattle.text.specs.Sizes.{nameLimit, coreLimit}
 use Rattle.text.proofs.Words.{same-eq, same-refl, other-length}
 use Rattle.line.specs.Answer.{test, lowest}
 use Rattle.rules.specs.Lists.{any, only, when, orElse, addUnless, addNew}
@@ -22,7 +23,7 @@ use Rattle.rules.specs.History.{hasInstances, isTracked, named, names, k
 use Rattle.rules.specs.Refusals.{look, timeFalls, secondKind, noRoom, notAllowed, notNext, coreBroken, countBroken, eventTests, answerTo}
 use Rattle.rules.specs.Verdict.{answer}
 use Rattle.rules.proofs.Sums.{any-new, none-one-more, only-less}
-use Rattle.rules.specs.Limits.{instanceLimit, coreLimit, nameLimit}
+use Rattle.rules.specs.Limits.{instanceLimit}
 
 -- an event line of each type: time, source and its instance, target and its instance, event
 abbrev pub line : ℕ → ℕ → List ℕ → ℕ → List ℕ → ℕ → ℕ → Event

@@ -12,6 +12,7 @@ use Rattle.text.specs.Name.{isName}
 use Rattle.text.specs.Number.{numberOf}
 use Rattle.text.specs.declared.number.Number.{Number}
 use Rattle.text.specs.declared.number.Number.the-variants.{Value, Bad}
+use Rattle.text.specs.Sizes.{maxTime, nameLimit, coreLimit}
 use Rattle.text.proofs.Digits.{read-written}
 use Rattle.words.specs.declared.kind.Kind.{Kind}
 use Rattle.words.specs.declared.kind.Kind.the-variants.{Stimulus, Task, Interrupt, Runnable, Scheduler, OsEvent, Signal, Semaphore}
@@ -25,7 +26,6 @@ use Rattle.forms.specs.Note.{maxInstance, asCount, countNote, isSignal, signalN
 use Rattle.line.specs.declared.event.Event.{Event as ReadEvent}
 use Rattle.line.specs.declared.reading.Reading.{Reading}
 use Rattle.line.specs.declared.reading.Reading.the-variants.{Version, Comment, TimeScale, Creator, CreationDate, EventLine, Refused}
-use Rattle.line.specs.Event.{maxTime}
 use Rattle.line.specs.Reading.{readLine}
 use Rattle.line.proofs.Said.{said}
 use Rattle.rules.specs.Lists.{any, member, ifZero}
@@ -43,7 +43,6 @@ use Rattle.rules.proofs.Tests.{both}
 use Rattle.rules.proofs.CoreWords.{isStep}
 use Rattle.rules.proofs.Room.{all-fit}
 use Rattle.rules.proofs.Seen.{OneWorded, Worded, first-seen}
-use Rattle.rules.specs.Limits.{coreLimit, nameLimit}
 
 -- ---- the words: one computed test for each type
 

@@ -11,6 +11,7 @@ use lib.Dec.{eqb, leb, ltb}
 use lib.ListN.{length, length-append}
 use borrow.Author.Tests.{le-ltb, ltb-false, leb-true, leb-false}
 use Rattle.text.specs.Bytes.{sameBytes}
+use Rattle.text.specs.Sizes.{nameLimit, coreLimit}
 use Rattle.text.proofs.Bools.{is-false}
 use Rattle.rules.specs.Lists.{any, only, keep, oneIf, addUnless, addNew, addAll}
 use Rattle.rules.specs.Words.{core}
@@ -24,7 +25,7 @@ use Rattle.rules.proofs.Answers.{accepted-exactly}
 use Rattle.rules.proofs.Tracked.{kind-stays}
 use Rattle.rules.proofs.Entries.{entries-counted}
 use Rattle.rules.proofs.Needed.{needing-gains, gaining-needs}
-use Rattle.rules.specs.Limits.{instanceLimit, coreLimit, nameLimit}
+use Rattle.rules.specs.Limits.{instanceLimit}
 
 -- ---- lists that grow
 

@@ -14,6 +14,7 @@ use Rattle.text.proofs.Words.{same-eq, starts-split}
 use Rattle.text.specs.Number.{numberOf}
 use Rattle.text.specs.declared.number.Number.{Number}
 use Rattle.text.specs.declared.number.Number.the-variants.{Value, Bad}
+use Rattle.text.specs.Sizes.{maxTime}
 use Rattle.words.specs.declared.pair.Pair.{Pair}
 use Rattle.words.specs.declared.pair.Pair.the-variants.{Known, Unknown}
 use Rattle.words.specs.declared.scale.ScaleFound.{ScaleFound}
@@ -30,7 +31,7 @@ use Rattle.line.specs.declared.event.Event.{Event}
 use Rattle.line.specs.declared.reading.Reading.{Reading}
 use Rattle.line.specs.declared.reading.Reading.the-variants.{Version, Comment, TimeScale, Creator, CreationDate, EventLine, Refused}
 use Rattle.line.specs.Parameter.{isVersion, isVersionLine, isComment, timeScale, isCreator, isCreationDate, scaleOr, otherReading, parameterReading}
-use Rattle.line.specs.Event.{maxTime, numbersAs, numbersOf, hasNames, eventOf, ruled, knownReading, numbersReading, fieldsReading, eventReading}
+use Rattle.line.specs.Event.{numbersAs, numbersOf, hasNames, eventOf, ruled, knownReading, numbersReading, fieldsReading, eventReading}
 use Rattle.line.specs.Reading.{isEventLine, readLine}
 use Rattle.line.specs.Condition.{refuses1}
 use Rattle.rules.proofs.Tests.{clash}

@@ -5,8 +5,9 @@ use mathlib.Core.List.{List, [], _∷_}
 use Prim.Native.Nat.{ℕ}
 use lib.Dec.{ltb}
 use lib.ListN.{length}
+use Rattle.text.specs.Sizes.{nameLimit, coreLimit}
 use Rattle.line.specs.Answer.{lowest}
-use Rattle.rules.specs.Limits.{nameLimit, coreLimit, instanceLimit}
+use Rattle.rules.specs.Limits.{instanceLimit}
 use Rattle.rules.specs.First.{takenOf}
 use Rattle.rules.specs.Event.{Event}
 use Rattle.rules.specs.History.{names, cores, instances}

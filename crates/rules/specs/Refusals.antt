@@ -6,12 +6,13 @@ use Prim.Native.Nat.{ℕ, _+_}
 use lib.Dec.{eqb, ltb, leb}
 use lib.ListN.{length}
 use Rattle.text.specs.Bytes.{sameBytes}
+use Rattle.text.specs.Sizes.{nameLimit, coreLimit}
 use Rattle.line.specs.Answer.{Test, test, lowest}
 use Rattle.rules.specs.Lists.{member}
 use Rattle.rules.specs.Chart.{allowed}
 use Rattle.rules.specs.Charts.{isProcess, chartOf}
 use Rattle.rules.specs.Words.{core, semaphore, mtalimitexceeded, increment, decrement, free, unlock, lock, lock-used, full, overfull, unlock-full, used}
-use Rattle.rules.specs.Limits.{nameLimit, coreLimit, instanceLimit}
+use Rattle.rules.specs.Limits.{instanceLimit}
 use Rattle.rules.specs.Event.{Event, Instance, sameInstance, instanceOf, stateOf}
 use Rattle.rules.specs.Core.{Core, unknown, idle, held, takes, onCore, coreAt}
 use Rattle.rules.specs.History.{hasInstances, isTracked, activates, kindOf, names, cores, lastTime, lastNumber, firstNumber, aboveAll, reaches, entries, hasEntry, lastCount}

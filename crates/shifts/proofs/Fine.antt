@@ -9,16 +9,17 @@ use native.Mathlib.Omega.{arith}
 use lib.Dec.{eqb, leb, ltb}
 use lib.ListN.{length}
 use borrow.Author.Tests.{eqb-true, eq-eqb, leb-true, le-leb, ltb-false, le-ltb, not-false}
+use Rattle.text.specs.Sizes.{maxTime, nameLimit, coreLimit}
 use Rattle.text.proofs.Bools.{or-l, or-r}
 use Rattle.bill.specs.Rows.{Row, allNamed}
 use Rattle.bill.specs.Reading.{Bill, readSheet}
 use Rattle.sorting.specs.Sets.{meets, twice}
-use Rattle.shifts.specs.Sound.{names, firsts, spanMost, coresMost, namesMost, notCount, notTotal, someRow, tooMany, shapeTests, sumTests, anyOf, malformed, unsound, soundOnly, soundSheet}
+use Rattle.shifts.specs.Sound.{names, firsts, notCount, notTotal, someRow, tooMany, shapeTests, sumTests, anyOf, malformed, unsound, soundOnly, soundSheet}
 
 pub record Fine (b : Bill) : Type 0 where
   pub low : 1 ≤ b .scale
   pub high : b .scale ≤ 5
-  pub short : b .sheet .span ≤ spanMost
+  pub short : b .sheet .span ≤ maxTime
   pub core-names : allNamed (b .sheet .cores) ≡ true
   pub process-names : allNamed (b .sheet .processes) ≡ true
   pub core-counts : someRow (notCount 3) (b .sheet .cores) ≡ false
@@ -62,7 +63,7 @@ module _ (b : Bill) where
       record {
         low = at-most 1 (b .scale) (w .0);
         high = at-most (b .scale) 5 (w .1 .0);
-        short = ltb-false spanMost (b .sheet .span) (w .1 .1 .0);
+        short = ltb-false maxTime (b .sheet .span) (w .1 .1 .0);
         core-names = not-false (allNamed (b .sheet .cores)) (k .0);
         process-names = not-false (allNamed (b .sheet .processes)) (k .1 .0);
         core-counts = k .1 .1 .0;
@@ -81,7 +82,7 @@ module _ (b : Bill) where
       rw (
         le-leb 1 (b .scale) (f .low),
         le-leb (b .scale) 5 (f .high),
-        le-ltb spanMost (b .sheet .span) (f .short),
+        le-ltb maxTime (b .sheet .span) (f .short),
         f .core-names,
         f .process-names,
         f .core-counts,
@@ -99,13 +100,13 @@ module _ (b : Bill) where
 -- ---- the counts
 
 module _ (cs ps : List Row) (e : tooMany cs ps ≡ false) where
-  pub few-cores : length cs ≤ coresMost
+  pub few-cores : length cs ≤ coreLimit
   unfolding tooMany
-  few-cores = ltb-false coresMost (length cs) (or-l (ltb coresMost (length cs)) (ltb namesMost (length cs + length ps)) e)
+  few-cores = ltb-false coreLimit (length cs) (or-l (ltb coreLimit (length cs)) (ltb nameLimit (length cs + length ps)) e)
 
-  pub few-names : length cs + length ps ≤ namesMost
+  pub few-names : length cs + length ps ≤ nameLimit
   unfolding tooMany
-  few-names = ltb-false namesMost (length cs + length ps) (or-r (ltb coresMost (length cs)) (ltb namesMost (length cs + length ps)) e)
+  few-names = ltb-false nameLimit (length cs + length ps) (or-r (ltb coreLimit (length cs)) (ltb nameLimit (length cs + length ps)) e)
 
 -- ---- the bill of a text
 

@@ -8,8 +8,9 @@ use Prim.Native.Nat.{ℕ, zero, suc, _+_, _≤_, _<_}
 use native.Mathlib.Omega.{arith}
 use lib.Dec.{eqb, ltb}
 use borrow.Author.Tests.{ltb-false, le-ltb}
+use Rattle.text.specs.Sizes.{maxTime}
 use Rattle.bill.specs.Reading.{Bill, billText}
-use Rattle.shifts.specs.Sound.{spanMost, tooMany, soundSheet}
+use Rattle.shifts.specs.Sound.{tooMany, soundSheet}
 use Rattle.shifts.specs.Sum.{sum, clash, refusal, Text, Refusal, totalBy, addSound, addTexts}
 use Rattle.shifts.proofs.Fine.{AllFail, equal, no-other}
 
@@ -57,14 +58,14 @@ none-there n (false ∷ bs) pos e = (refl, none-there (suc n) bs (omega arith) e
 abbrev pub conditions : Bill → Bill → List Bool
 conditions a b =
     not (eqb (a .scale) (b .scale)) ∷ clash a b ∷ tooMany (sum a b .sheet .cores) (sum a b .sheet .processes)
-    ∷ ltb spanMost (a .sheet .span + b .sheet .span) ∷ []
+    ∷ ltb maxTime (a .sheet .span + b .sheet .span) ∷ []
 
 -- no condition holds
 pub record Addable (a b : Bill) : Type 0 where
   pub scales : a .scale ≡ b .scale
   pub apart : clash a b ≡ false
   pub few : tooMany (sum a b .sheet .cores) (sum a b .sheet .processes) ≡ false
-  pub short : a .sheet .span + b .sheet .span ≤ spanMost
+  pub short : a .sheet .span + b .sheet .span ≤ maxTime
 
 module _ (a b : Bill) where
   pub refused-exactly : (k : ℕ) → (refusal a b ≡ 22 + k) ↔ FirstAt k (conditions a b)
@@ -87,11 +88,11 @@ module _ (a b : Bill) where
             scales = equal (a .scale) (b .scale) (w .0);
             apart = w .1 .0;
             few = w .1 .1 .0;
-            short = ltb-false spanMost (a .sheet .span + b .sheet .span) (w .1 .1 .1 .0);
+            short = ltb-false maxTime (a .sheet .span + b .sheet .span) (w .1 .1 .1 .0);
           }
 
       none-refused : Addable a b → refusal a b ≡ 0
-      none-refused k = rw (no-other (a .scale) (b .scale) (k .scales), k .apart, k .few, le-ltb spanMost (a .sheet .span + b .sheet .span) (k .short))
+      none-refused k = rw (no-other (a .scale) (b .scale) (k .scales), k .apart, k .few, le-ltb maxTime (a .sheet .span + b .sheet .span) (k .short))
 
 -- ---- two texts
 

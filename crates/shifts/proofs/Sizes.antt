@@ -10,6 +10,7 @@ use lib.ListN.{length, length-append}
 use borrow.Author.Tests.{ltb-false, le-ltb}
 use Rattle.text.specs.Number.{digitsOf}
 use Rattle.text.specs.Name.{isName}
+use Rattle.text.specs.Sizes.{maxTime, coreLimit}
 use Rattle.text.proofs.Bools.{or-l, or-r, and-l, and-r}
 use Rattle.text.proofs.Digits.{digits-at-most}
 use Rattle.text.proofs.Names.{name-length}
@@ -20,7 +21,7 @@ use Rattle.bill.proofs.Texts.{length-row, length-section}
 use Rattle.bill.proofs.VerdictLine.{length-accepted}
 use Rattle.bill.proofs.Readings.{read-print}
 use Rattle.bill.proofs.Scales.{scale-short}
-use Rattle.shifts.specs.Sound.{spanMost, coresMost, notCount, someRow, soundSheet}
+use Rattle.shifts.specs.Sound.{notCount, someRow, soundSheet}
 use Rattle.shifts.specs.Sum.{noCore, noProcess, sum}
 use Rattle.shifts.proofs.Fine.{Fine, equal, few-cores, few-names, sound-is}
 use Rattle.shifts.proofs.Small.{above, cores-small, charges-small, small}
@@ -66,7 +67,7 @@ module _ (a b : Bill) (f : Fine a) (g : Fine b) where
         few-cores ds (b .sheet .processes) (g .few),
       )
     where
-      missing : (b : Bill) → b .sheet .span ≤ spanMost → above (2 ^ 62) (noCore b) ≡ false
+      missing : (b : Bill) → b .sheet .span ≤ maxTime → above (2 ^ 62) (noCore b) ≡ false
       missing b h = rw (le-ltb (2 ^ 62) (b .sheet .span) (omega arith))
 
   pub process-rows-most : length (rowsText (sum a b .sheet .processes)) ≤ 44032
@@ -101,8 +102,8 @@ bill-longest b f =
       digits-at-most 16 (b .sheet .span) (omega (arith, f .short)),
       digits-at-most 1 (length cs) (omega arith),
       digits-at-most 2 (length ps) (omega arith),
-      rows-short 16 spanMost (omega arith) 3 cs (f .core-names) (f .core-counts) (cores-small b f spanMost (f .short)),
-      rows-short 18 (coresMost * spanMost) (omega arith) 1 ps (f .process-names) (f .process-counts) (charges-small b f (coresMost * spanMost) (omega arith)),
+      rows-short 16 maxTime (omega arith) 3 cs (f .core-names) (f .core-counts) (cores-small b f maxTime (f .short)),
+      rows-short 18 (coreLimit * maxTime) (omega arith) 1 ps (f .process-names) (f .process-counts) (charges-small b f (coreLimit * maxTime) (omega arith)),
     ))
 
 -- of a text that shows it

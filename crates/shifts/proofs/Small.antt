@@ -7,11 +7,12 @@ use native.Mathlib.Omega.{arith}
 use lib.Dec.{ltb}
 use lib.ListN.{length}
 use borrow.Author.Tests.{le-ltb}
+use Rattle.text.specs.Sizes.{maxTime, coreLimit}
 use Rattle.text.proofs.Bools.{or-l, or-r}
 use Rattle.bill.specs.Rows.{Row}
 use Rattle.bill.specs.Reading.{Bill}
 use Rattle.sorting.specs.Sets.{any}
-use Rattle.shifts.specs.Sound.{total, first, firsts, spanMost, coresMost, notCount, notTotal, someRow}
+use Rattle.shifts.specs.Sound.{total, first, firsts, notCount, notTotal, someRow}
 use Rattle.shifts.proofs.Fine.{Fine, equal, few-cores}
 
 -- some figure is above m
@@ -34,7 +35,7 @@ first-most : (fs : List ℕ) → first fs ≤ total fs
 first-most [] = omega arith
 first-most (x ∷ fs) = omega arith
 
-held-rows : (span : ℕ) (rs : List Row) → span ≤ spanMost → someRow (notTotal span) rs ≡ false → firsts rs ≤ length rs * spanMost
+held-rows : (span : ℕ) (rs : List Row) → span ≤ maxTime → someRow (notTotal span) rs ≡ false → firsts rs ≤ length rs * maxTime
 held-rows span [] h e = omega arith
 held-rows span (r ∷ rs) h e =
     let t = equal (total (r .figures)) span (or-l (notTotal span (r .figures)) (someRow (notTotal span) rs) e) in
@@ -61,10 +62,10 @@ module _ (b : Bill) (f : Fine b) where
   cores-small m h =
       rows-follow (notTotal (b .sheet .span)) (above m) (λ fs e. not-above m fs (omega (arith, equal (total fs) (b .sheet .span) e))) (b .sheet .cores) (f .spans)
 
-  held-small : firsts (b .sheet .cores) ≤ coresMost * spanMost
+  held-small : firsts (b .sheet .cores) ≤ coreLimit * maxTime
   held-small = omega (arith, held-rows (b .sheet .span) (b .sheet .cores) (f .short) (f .spans), few-cores (b .sheet .cores) (b .sheet .processes) (f .few))
 
-  pub charges-small : (m : ℕ) → coresMost * spanMost ≤ m → someRow (above m) (b .sheet .processes) ≡ false
+  pub charges-small : (m : ℕ) → coreLimit * maxTime ≤ m → someRow (above m) (b .sheet .processes) ≡ false
   charges-small m h = charge-rows m (b .sheet .processes) (f .process-counts) (omega (arith, held-small, f .charges))
 
   pub small : (someRow (above (2 ^ 62)) (b .sheet .cores) ≡ false) × (someRow (above (2 ^ 62)) (b .sheet .processes) ≡ false)

@@ -2,9 +2,10 @@
 use mathlib.Core.Bool.{Bool, false, not, _||_, cond}
 use mathlib.Core.List.{List, [], _∷_}
 use mathlib.Core.Option.{Option, none, some}
-use Prim.Native.Nat.{ℕ, _+_, _-_, _^_}
+use Prim.Native.Nat.{ℕ, _+_}
 use lib.Dec.{eqb, leb, ltb}
 use lib.ListN.{length}
+use Rattle.text.specs.Sizes.{maxTime, nameLimit, coreLimit}
 use Rattle.bill.specs.Rows.{Row, Sheet, allNamed}
 use Rattle.bill.specs.Reading.{Bill, readSheet}
 use Rattle.sorting.specs.Order.{Name}
@@ -26,16 +27,6 @@ first (x ∷ xs) = x
 abbrev pub firsts : List Row → ℕ
 firsts = sumOver (λ r. first (r .figures))
 
--- 01, "Sizes": time 2^56 − 1, tracked names 256, of them 64 cores
-abbrev pub spanMost : ℕ
-spanMost = 2 ^ 56 - 1
-
-abbrev pub coresMost : ℕ
-coresMost = 64
-
-abbrev pub namesMost : ℕ
-namesMost = 256
-
 -- ---- a sheet that no trace has: "A malformed sheet includes a refused trace's line, a name listed twice, more than 64 cores or 256 names, and a span above 2^56 − 1"
 
 -- not k figures; figures that don't make n
@@ -49,13 +40,13 @@ abbrev pub someRow : (List ℕ → Bool) → List Row → Bool
 someRow p = any (λ r. p (r .figures))
 
 unfoldable pub tooMany : List Row → List Row → Bool
-tooMany cs ps = ltb coresMost (length cs) || ltb namesMost (length cs + length ps)
+tooMany cs ps = ltb coreLimit (length cs) || ltb nameLimit (length cs + length ps)
 
 unfoldable pub shapeTests : Bill → List Bool
 shapeTests b =
     let cs = b .sheet .cores in
     let ps = b .sheet .processes in
-    not (leb 1 (b .scale)) ∷ not (leb (b .scale) 5) ∷ ltb spanMost (b .sheet .span)
+    not (leb 1 (b .scale)) ∷ not (leb (b .scale) 5) ∷ ltb maxTime (b .sheet .span)
     ∷ not (allNamed cs) ∷ not (allNamed ps) ∷ someRow (notCount 3) cs ∷ someRow (notCount 1) ps
     ∷ twice (names cs) ∷ twice (names ps) ∷ meets (names cs) (names ps)
     ∷ tooMany cs ps ∷ []

@@ -4,11 +4,12 @@ use mathlib.Core.List.{List, [], _∷_, _++_}
 use mathlib.Core.Option.{Option, none, some}
 use Prim.Native.Nat.{ℕ, zero, suc, _+_}
 use lib.Dec.{eqb, ltb}
+use Rattle.text.specs.Sizes.{maxTime}
 use Rattle.bill.specs.Rows.{Row, Sheet}
 use Rattle.bill.specs.Reading.{Bill, billText}
 use Rattle.sorting.specs.Order.{Name, order, isSame}
 use Rattle.sorting.specs.Sets.{sorted, meets}
-use Rattle.shifts.specs.Sound.{names, spanMost, tooMany, soundSheet}
+use Rattle.shifts.specs.Sound.{names, tooMany, soundSheet}
 
 -- a row's name, by which a section is sorted
 abbrev pub byName : Row → Name
@@ -61,7 +62,7 @@ refusal a b =
     cond (not (eqb (a .scale) (b .scale))) 22
     (cond (clash a b) 23
     (cond (tooMany (sum a b .sheet .cores) (sum a b .sheet .processes)) 24
-    (cond (ltb spanMost (a .sheet .span + b .sheet .span)) 25 0)))
+    (cond (ltb maxTime (a .sheet .span + b .sheet .span)) 25 0)))
 
 -- ---- what adding two texts comes to: the sum's own text, or a refusal
 

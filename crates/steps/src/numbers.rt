@@ -38,11 +38,7 @@ pub const LINE_LIMIT: u32 = 1000000000;
 
 pub const VERDICT_LINE_LIMIT: u32 = LINE_LIMIT + 1;
 
-// how many names, cores among them and instances are tracked at most
-pub const NAME_LIMIT: u32 = 256;
-
-pub const CORE_LIMIT: u32 = 64;
-
+// how many instances are tracked at most
 pub const INSTANCE_LIMIT: u32 = 1024;
 
 // the highest refusal that is remembered

@@ -4,7 +4,8 @@ use mathlib.Core.List.{List}
 use Prim.Native.Nat.{ℕ, _+_, _*_}
 use lib.ListN.{getD, set, take, drop}
 use Rattle.text.specs.Name.{nameMost}
-use Rattle.rules.specs.Limits.{nameLimit, instanceLimit}
+use Rattle.text.specs.Sizes.{nameLimit}
+use Rattle.rules.specs.Limits.{instanceLimit}
 
 -- the three tables
 pub record Tables : Type 0 where

@@ -1,8 +1,8 @@
 // Where each entry lies: the one place in code that names a base or a size. "Numbers, states and charges lie in lent tables of u32 and u64
 // entries", in columns: entry BASE + i.
 use steps::numbers::INSTANCE_LIMIT;
-use steps::numbers::NAME_LIMIT;
 use text::name::NAME_MOST;
+use text::size::NAME_LIMIT;
 
 // how many rows a column has, by name and by instance, and how many bytes a name
 pub const NAME_ROWS: usize = NAME_LIMIT as usize;

@@ -5,7 +5,7 @@ use Prim.Native.Nat.{_+_, _*_, _-_, _≤_}
 use native.Mathlib.Omega.{arith}
 use borrow.Author.Needs.{needs}
 use lib.ListN.{length, getD, drop}
-use Rattle.shifts.specs.Sound.{spanMost}
+use Rattle.text.specs.Sizes.{maxTime}
 use Rattle.paper.specs.Lines.{lineFrom}
 use Rattle.paper.specs.Rows.{coreHeld}
 use Rattle.adding.specs.RowCode.{allHeld}
@@ -17,7 +17,7 @@ use Rattle.adding.proofs.rows.all_held.Tie as tie
 abbrev Inv-loop : tie.InvT-loop
 Inv-loop text places span total₀ i₀ total i =
     (i ≤ length places)
-    × (total ≤ i * spanMost)
+    × (total ≤ i * maxTime)
     × (allHeld span (map (lineFrom text) places) ≡ heldWith span total (map (lineFrom text) (drop i places)))
 
 abbrev μ-loop : tie.MeasureT-loop

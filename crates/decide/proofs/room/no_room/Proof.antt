@@ -3,7 +3,8 @@ use Prim.Native.Nat.{_≤_}
 use native.Mathlib.Omega.{arith}
 use borrow.Author.Needs.{needs}
 use borrow.Author.Tests.{lt-ltb, le-ltb, lt-leb, le-leb}
-use Rattle.rules.specs.Limits.{nameLimit, coreLimit, instanceLimit}
+use Rattle.text.specs.Sizes.{nameLimit, coreLimit}
+use Rattle.rules.specs.Limits.{instanceLimit}
 use Rattle.tables.specs.Entry.{namesIndex, coresIndex}
 use Rattle.lookup.proofs.Added.{one-at-most, one-core}
 use Rattle.decide.specs.PlanCode.{noRoomIn}

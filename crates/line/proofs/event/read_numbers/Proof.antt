@@ -5,9 +5,10 @@ use native.Mathlib.Omega.{arith}
 use borrow.Author.Needs.{needs}
 use Rattle.text.specs.Number.{numberOf}
 use Rattle.text.specs.declared.number.Number.the-variants.{Value}
+use Rattle.text.specs.Sizes.{maxTime}
 use Rattle.text.proofs.Digits.{read-written}
 use Rattle.forms.specs.Note.{maxInstance}
-use Rattle.line.specs.Event.{maxTime, numbersOf}
+use Rattle.line.specs.Event.{numbersOf}
 use Rattle.line.proofs.event.read_numbers.Statement.{statement}
 use Rattle.line.proofs.event.read_numbers.Tie as tie
 
