@@ -9,8 +9,7 @@ use Rattle.text.specs.Literal.{bytes}
 use Rattle.text.specs.Number.{digitsOf}
 use Rattle.text.specs.Put.{after, put}
 use Rattle.text.proofs.Digits.{digits-short}
-use Rattle.text.proofs.Writes.{put-then}
-use Rattle.adding.proofs.Adds.{put-front}
+use Rattle.text.proofs.Writes.{put-front, put-then}
 use Rattle.ledger.specs.Totals.{IsRefusal}
 use Rattle.add.specs.Line.{refusedLine, lineMost, IsRefused, IsAnswer}
 

@@ -3,14 +3,11 @@ use mathlib.Core.Path.{_≡_, refl, sym, ap, _∙_}
 use mathlib.Core.Bool.{Bool, true, false, not, _||_, cond}
 use mathlib.Core.List.{List, [], _∷_, _++_}
 use mathlib.Core.Option.{some}
-use Prim.Native.Nat.{ℕ, zero, suc, _+_, _-_, _≤_, _<_}
+use Prim.Native.Nat.{ℕ, zero, suc, _+_, _≤_, _<_}
 use native.Mathlib.Omega.{arith}
 use lib.Dec.{eqb, ltb}
-use lib.ListN.{length, take}
-use lib.Seq.{take-at}
-use Rattle.text.specs.Put.{Put, written, after, put}
+use lib.ListN.{length}
 use Rattle.text.specs.Sizes.{maxTime}
-use Rattle.text.proofs.Writes.{put-fits, written-parts, put-length}
 use Rattle.bill.specs.declared.section.Section.{Section}
 use Rattle.bill.specs.declared.section.Section.the-variants.{Cores, Processes}
 use Rattle.bill.specs.Rows.{Row}
@@ -29,14 +26,6 @@ use Rattle.adding.specs.Adding.{summed, intoOutput, addInto}
 use Rattle.adding.specs.MergeCode.{rowsAt, sumRows, InOrder, Merging}
 use Rattle.adding.specs.AddCode.{countedText, madeText, ownRefusal, Paired}
 use Rattle.adding.proofs.Pairs.{comes-to}
-
--- what was put at the front of an output is its front, as a part of it from 0 on is told
-pub put-front : {m : List ℕ} {n : ℕ} (l t : List ℕ) → after n m ≡ put l 0 t → length t ≤ length l → (take (n - 0) m ≡ t) × (n ≤ length m)
-put-front {n = n} l t p h =
-    let f = p ∙ put-fits l 0 t (omega (arith, h)) in
-    let e : n - 0 ≡ length t = omega (arith, ap (λ (x : Put). x .next) f) in
-    let o = ap (λ (x : Put). x .output) f ∙ written-parts l 0 t (omega (arith, h)) in
-    (rw (e, o) (take-at t _ (length t) refl), omega (arith, put-length l 0 t p))
 
 -- rows in order, added, are the rows added
 merged : (section : Section) (cs ds : List Row) {rs qs : List Row} {x y a b : ℕ} → rs ≡ sortedBy byName cs → qs ≡ sortedBy byName ds → x ≡ a → y ≡ b

@@ -6,7 +6,7 @@ use native.Mathlib.Omega.{arith}
 use lib.ListN.{length}
 use borrow.Author.Tests.{le-leb}
 use Rattle.text.specs.Put.{written}
-use Rattle.text.proofs.Writes.{length-written}
+use Rattle.text.proofs.Writes.{length-written, take-written}
 use Rattle.walk.specs.Lines.{linesOf}
 use Rattle.tables.specs.Sized.{Sized}
 use Rattle.tables.specs.Fresh.{Cleared, clearedOf}
@@ -15,7 +15,6 @@ use Rattle.judge.specs.Feed.{Tables, tables, freshTables}
 use Rattle.run.specs.declared.report.Printed.{Printed}
 use Rattle.run.specs.declared.report.Printed.the-variants.{Done, NotPrinted}
 use Rattle.run.specs.Report.{Reported, reported, textPrinted, reportWritten, textMost}
-use Rattle.run.proofs.Buffered.{front}
 use Rattle.promises.specs.Fed.{joined}
 use Rattle.promises.proofs.Reading.{written-right}
 use Rattle.promises.proofs.Printed.{text-fits}
@@ -107,7 +106,7 @@ told-text {l = l} room w =
     record {
       reads = w .came .reads;
       each = w .came .each;
-      text = rw (w .size, w .output) (front (l .output) text short);
+      text = rw (w .size, w .output) (take-written (l .output) text short);
       fits = rw (w .size, w .output) (omega (arith, short, length-written (l .output) 0 text));
     }
 

@@ -2,16 +2,14 @@
 use mathlib.Core.Path.{_≡_, sym, ap, _∙_}
 use mathlib.Core.Bool.{true, false}
 use mathlib.Core.List.{List, [], _∷_, _++_}
-use Prim.Native.Nat.{ℕ, _+_, _-_, _≤_, _<_}
+use Prim.Native.Nat.{ℕ, _≤_, _<_}
 use native.Mathlib.Omega.{arith}
-use lib.ListN.{length, take}
+use lib.ListN.{length}
 use borrow.Author.Tests.{le-ltb}
-use Rattle.text.specs.Put.{written}
-use Rattle.text.proofs.Writes.{put-fits, length-written}
+use Rattle.text.proofs.Writes.{length-written, take-written}
 use Rattle.shifts.specs.Sum.{Total, Text, addAll}
 use Rattle.shifts.specs.Many.{alone, sumFrom}
 use Rattle.shifts.proofs.Many.{stays, add-more, all-added, total-short}
-use Rattle.adding.proofs.Adds.{put-front}
 use Rattle.ledger.specs.declared.total.Answer.{Answer}
 use Rattle.ledger.specs.declared.total.Answer.the-variants.{Text as Told, Refused, WrongSize}
 use Rattle.ledger.specs.Totals.{sheetMost, RefusedAt, Summed, Answered, IsSum, IsRefusal}
@@ -20,12 +18,6 @@ use Rattle.ledger.specs.Totals.{sheetMost, RefusedAt, Summed, Answered, 
 pub by-others : (t : List ℕ) (us : List (List ℕ)) → 0 < length us → sumFrom t us ≡ addAll (Text t) us
 by-others t [] h = absurd (omega arith)
 by-others t (u ∷ us) h = all-added t u us
-
--- a text at the front of an output
-front : (l t : List ℕ) → length t ≤ length l → take (length t) (written l 0 t) ≡ t
-front l t h =
-    let z : 0 + length t - 0 ≡ length t = omega arith in
-    rw z at (put-front l t (sym (put-fits l 0 t (omega arith))) h .0)
 
 refusal-is : {n k : ℕ} → RefusedAt n k → IsRefusal n
 refusal-is {n} w =
@@ -52,7 +44,7 @@ sum-is l m h room w =
       others = c .others;
       each = c .each;
       some = others;
-      sum = sym (by-others (c .first) (c .others) others) ∙ c .total ∙ ap Text (sym (rw (w .size, w .output) (front l t short)));
+      sum = sym (by-others (c .first) (c .others) others) ∙ c .total ∙ ap Text (sym (rw (w .size, w .output) (take-written l t short)));
       fits = rw (w .size, w .output) (omega (arith, length-written l 0 t));
     }
 

@@ -8,14 +8,13 @@ use lib.ListN.{length, take, getD}
 use lib.Seq.{getD-take, length-take-le}
 use borrow.Author.Tests.{le-leb}
 use Rattle.text.specs.Put.{Put, written, after, put}
-use Rattle.text.proofs.Writes.{put-fits}
+use Rattle.text.proofs.Writes.{put-fits, put-front}
 use Rattle.shifts.specs.Sum.{Total, Text, Refusal, addTexts}
 use Rattle.shifts.specs.Many.{isSound, alone}
 use Rattle.shifts.proofs.Many.{sound-short, sum-short}
 use Rattle.adding.specs.declared.add.Sum.{Sum}
 use Rattle.adding.specs.declared.add.Sum.the-variants.{Added, Refused}
 use Rattle.adding.specs.Adding.{Summed, summed, intoOutput, addInto}
-use Rattle.adding.proofs.Adds.{put-front}
 use Rattle.ledger.specs.declared.files.File.{File}
 use Rattle.ledger.specs.declared.files.File.the-variants.{Read}
 use Rattle.ledger.specs.Files.{FileRead}

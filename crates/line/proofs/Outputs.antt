@@ -4,14 +4,13 @@ use mathlib.Core.Path.{_≡_, refl, sym, ap, _∙_}
 use mathlib.Core.Bool.{Bool, true, false, not, _&&_, _||_, cond}
 use mathlib.Core.List.{List, [], _∷_, _++_}
 use Prim.Native.Nat.{ℕ, zero, suc, _+_, _-_, _≤_}
-use native.Mathlib.Nat.{zero-add}
 use native.Mathlib.Omega.{arith}
 use lib.Dec.{eqb, leb}
 use lib.ListN.{length, getD, take, drop}
 use lib.Seq.{take-at, getD-append-add, getD-drop}
 use borrow.Author.Tests.{leb-true}
 use Rattle.text.specs.Put.{written}
-use Rattle.text.proofs.Writes.{length-written, written-parts}
+use Rattle.text.proofs.Writes.{length-written, written-first}
 use Rattle.words.specs.Named.{any}
 use Rattle.words.specs.Action.{isOf}
 use Rattle.forms.specs.Note.{noteOf, isWrong}
@@ -35,10 +34,7 @@ module _ (text out : List ℕ) (P : Wrote → Type 0) (done : length text ≤ le
   text-case (suc r) refused = refused (suc r)
   text-case zero refused = fit-case (refused 15)
 
--- ---- the text at the front, and the rest as it was
-
-front-rest : (text out : List ℕ) → length text ≤ length out → written out 0 text ≡ text ++ drop (length text) out
-front-rest text out h = written-parts out 0 text (omega arith) ∙ rw zero-add
+-- ---- past the text at the front the rest is as it was
 
 rest-keeps : (text out : List ℕ) (i : ℕ) → length text ≤ i → getD (text ++ drop (length text) out) i 0 ≡ getD out i 0
 rest-keeps text out i h =
@@ -60,7 +56,7 @@ module _ (e : Event) (source target note out : List ℕ) where
   unfolding writeLine
   done-parts n =
       let text = textOf e source target note in
-      text-case text out (λ w. w .answer ≡ Done n → (n ≡ length text) × (w .output ≡ text ++ drop (length text) out)) (λ room p. (cc, front-rest text out room)) (recordRefusal e source target note) (λ k p. (cc, cc))
+      text-case text out (λ w. w .answer ≡ Done n → (n ≡ length text) × (w .output ≡ text ++ drop (length text) out)) (λ room p. (cc, written-first out text room)) (recordRefusal e source target note) (λ k p. (cc, cc))
 
   pub written-size : (n : ℕ) → writeLine e source target note out .answer ≡ Done n → n ≡ length (textOf e source target note)
   written-size n p = done-parts n p .0

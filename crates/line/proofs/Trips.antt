@@ -5,11 +5,9 @@ use mathlib.Core.Bool.{Bool, true, false, not, _&&_, _||_, cond}
 use mathlib.Core.Logic.{inl, inr}
 use mathlib.Core.List.{List, [], _∷_, _++_}
 use Prim.Native.Nat.{ℕ, zero, suc, _≤_}
-use native.Mathlib.Nat.{suc-ne-zero, zero-add}
-use native.Mathlib.Omega.{arith}
+use native.Mathlib.Nat.{suc-ne-zero}
 use lib.Dec.{leb}
 use lib.ListN.{length, getD, take, drop}
-use lib.Seq.{take-append-seam}
 use borrow.Author.Tests.{le-leb, leb-true, le-ltb, not-false}
 use Rattle.text.specs.Name.{isName}
 use Rattle.text.specs.Number.{digitsOf}
@@ -17,7 +15,7 @@ use Rattle.text.specs.Put.{written}
 use Rattle.text.specs.Sizes.{maxTime}
 use Rattle.text.proofs.Bools.{and-l, and-r}
 use Rattle.text.proofs.Digits.{written-read}
-use Rattle.text.proofs.Writes.{written-parts}
+use Rattle.text.proofs.Writes.{written-first, take-written}
 use Rattle.words.specs.Kind.{kindWord}
 use Rattle.words.specs.Action.{wordOf, isOf}
 use Rattle.words.proofs.Found.{pair-back}
@@ -168,15 +166,12 @@ said-text l e count s = rw (text-joined, ← said-parts l e count s) (join-parts
 
 -- ---- what is written
 
-written-front : (out text : List ℕ) → length text ≤ length out → written out 0 text ≡ text ++ drop (length text) out
-written-front out text h = rw zero-add at (written-parts out 0 text (omega arith))
-
 fits-front : (text out : List ℕ) (n : ℕ) (b : Bool) → leb (length text) (length out) ≡ b
     → (cond b (wrote (Done (length text)) (written out 0 text)) (wrote (NotWritten 15) out)) .answer ≡ Done n
     → take n ((cond b (wrote (Done (length text)) (written out 0 text)) (wrote (NotWritten 15) out)) .output) ≡ text
 fits-front text out n true p q =
     let m : n ≡ length text = cc in
-    rw (m, written-front out text (leb-true (length text) (length out) p)) (take-append-seam text (drop (length text) out))
+    rw m (take-written out text (leb-true (length text) (length out) p))
 fits-front text out n false p q = cc
 
 done-front : (r : ℕ) (text out : List ℕ) (n : ℕ) → writeText r text out .answer ≡ Done n → (r ≡ 0) × (take n (writeText r text out .output) ≡ text)
@@ -190,7 +185,7 @@ pub read-then-write : (l : List ℕ) (e : Event) (count : ℕ) (out : List ℕ) 
 unfolding writeLine
 read-then-write l e count out q h =
     let s = said l e count q in
-    rw (allowed-passes e (fieldOf l 2) (fieldOf l 5) (fieldOf l 8) count (s .allowed), said-text l e count s, le-leb (length l) (length out) h, written-front out l h)
+    rw (allowed-passes e (fieldOf l 2) (fieldOf l 5) (fieldOf l 8) count (s .allowed), said-text l e count s, le-leb (length l) (length out) h, written-first out l h)
 
 -- ---- the second trip
 

@@ -1,14 +1,14 @@
 -- A turn over the buffer is a step of reading, and the end of input over the buffer is that of reading: the buffer's front holds what was carried over.
-use mathlib.Core.Path.{_≡_, refl, ap, _∙_}
+use mathlib.Core.Path.{_≡_, refl, ap}
 use mathlib.Core.Bool.{Bool, true, false, cond}
 use mathlib.Core.List.{List, _∷_, _++_}
 use Prim.Native.Nat.{ℕ, zero, suc, _≤_}
 use native.Mathlib.Omega.{arith}
 use lib.Dec.{ltb}
 use lib.ListN.{length, take, drop, length-append, take-append-drop}
-use lib.Seq.{length-take-le, take-all, take-append-seam}
+use lib.Seq.{length-take-le, take-all}
 use Rattle.text.specs.Put.{written}
-use Rattle.text.proofs.Writes.{written-parts}
+use Rattle.text.proofs.Writes.{take-written}
 use Rattle.walk.specs.Lines.{restOf}
 use Rattle.walk.proofs.Chunks.{size}
 use Rattle.rules.specs.Lists.{ifZero}
@@ -24,10 +24,6 @@ readAfter Stop t buf rs = stopped t
 
 abbrev pub goesOn : Turned → List (List ℕ) → Progress
 goesOn u rs = readAfter (u .turn) (u .left) (u .buffer) rs
-
--- what was written at the front is there
-pub front : (buf rest : List ℕ) → length rest ≤ length buf → take (length rest) (written buf 0 rest) ≡ rest
-front buf rest h = ap (take (length rest)) (written-parts buf 0 rest (omega arith)) ∙ take-append-seam rest _
 
 -- the rest of a part of the buffer fits into it
 rest-fits : (buf : List ℕ) (n : ℕ) → length (restOf (take n buf)) ≤ length buf
@@ -48,7 +44,7 @@ turn-step t buf n rest r rs e =
         (record { turn = Stop; left = u; buffer = buf })) rs
         ≡ ifZero a (cond b (stopped (fedLine u s .left)) (readOn u s rs)) (stopped u)
     by-tests zero true u s h = refl
-    by-tests zero false u s h = ap (λ (x : List ℕ). readOn u x rs) (front buf s h)
+    by-tests zero false u s h = ap (λ (x : List ℕ). readOn u x rs) (take-written buf s h)
     by-tests (suc a) b u s h = refl
 
 pub turn-end : (t : Tables) (buf : List ℕ) (n : ℕ) → n ≤ length buf → lastTaken t buf n ≡ atInputEnd (going t (take n buf))

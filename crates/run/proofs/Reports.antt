@@ -11,7 +11,7 @@ use lib.ListN.{length, take, length-append}
 use lib.Seq.{length-take-le, take-all, take-length}
 use borrow.Author.Tests.{eq-eqb, ne-eqb, le-leb, lt-leb}
 use Rattle.text.specs.Put.{written, Put, after, put}
-use Rattle.text.proofs.Writes.{put-fits, put-two}
+use Rattle.text.proofs.Writes.{take-written, put-fits, put-two}
 use Rattle.bill.specs.Text.{sheetText}
 use Rattle.bill.specs.Verdict.{verdictText, reportText}
 use Rattle.rules.proofs.Tests.{if-some}
@@ -26,7 +26,6 @@ use Rattle.outcome.specs.Outcome.{Asked, asked, refusedBy, outcomeIn}
 use Rattle.outcome.proofs.AtEnd.{told-most}
 use Rattle.run.specs.declared.report.Printed.the-variants.{Done, NotPrinted}
 use Rattle.run.specs.Report.{reported, textPrinted, outcomePrinted, reportWritten}
-use Rattle.run.proofs.Buffered.{front}
 
 -- ---- as much of the sheet as is printed
 
@@ -108,5 +107,5 @@ module _ (names nums ticks : List ℕ) where
     unfolding outcomePrinted reportWritten
     report-told out h =
         ⊎-elim
-        (λ z. let w = told z in rw (z, w .0, w .1, front blank sheet (omega (arith, sheet-fits (valid names nums ticks z)))))
+        (λ z. let w = told z in rw (z, w .0, w .1, take-written blank sheet (omega (arith, sheet-fits (valid names nums ticks z)))))
         (λ l. absurd (omega (arith, refused l))) own-least

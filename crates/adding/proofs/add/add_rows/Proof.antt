@@ -3,11 +3,12 @@ use mathlib.Core.Path.{_≡_, sym, ap, _∙_}
 use Prim.Native.Nat.{_-_, _≤_}
 use native.Mathlib.Omega.{arith}
 use lib.ListN.{length, take}
+use Rattle.text.proofs.Writes.{put-front}
 use Rattle.bill.specs.declared.section.Section.the-variants.{Cores, Processes}
 use Rattle.bill.specs.Text.{rowsText}
 use Rattle.adding.specs.MergeCode.{rowsAt, sumRows}
 use borrow.Author.Needs.{needs}
-use Rattle.adding.proofs.Adds.{put-front, spans-fit, cores-merge, processes-merge, few, sum-refused, sum-made}
+use Rattle.adding.proofs.Adds.{spans-fit, cores-merge, processes-merge, few, sum-refused, sum-made}
 use Rattle.adding.proofs.add.add_rows.Statement.{statement}
 use Rattle.adding.proofs.add.add_rows.Tie as tie
 
