@@ -8,7 +8,7 @@ use lib.Dec.{eqb, leb, ltb}
 use lib.ListN.{length}
 use Rattle.text.specs.Put.{written}
 use Rattle.text.specs.Sizes.{maxTime}
-use Rattle.words.specs.Named.{any}
+use Rattle.text.specs.Lists.{any}
 use Rattle.bill.specs.Reading.{Bill}
 use Rattle.shifts.specs.Sound.{tooMany, soundSheet}
 use Rattle.shifts.specs.Sum.{sum, clash, refusal, Total, Text, Refusal, totalBy, addSound, addTexts}

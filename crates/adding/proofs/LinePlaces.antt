@@ -11,10 +11,11 @@ use lib.Seq.{take-suc-set, length-take-le}
 use borrow.Author.Tests.{le-leb, lt-leb, lt-ltb}
 use Rattle.text.specs.Bytes.{findFrom}
 use Rattle.text.specs.Pieces.{pieces, ended, unended}
+use Rattle.text.specs.Lists.{isEmpty}
 use Rattle.text.proofs.Pieces.{pieces-cut, pieces-one, pieces-some, ended-cons, unended-cons}
 use Rattle.text.proofs.PiecesFrom.{after-found}
 use Rattle.paper.specs.Lines.{lineFrom}
-use Rattle.adding.specs.PlaceCode.{linesMost, isEmpty, fewLines, Lined}
+use Rattle.adding.specs.PlaceCode.{linesMost, fewLines, Lined}
 
 pub record Placing (text starts : List ℕ) (at n : ℕ) : Type 0 where
   pub here : at ≤ length text

@@ -7,6 +7,7 @@ use native.Mathlib.Omega.{arith}
 use lib.ListN.{length, getD, drop, length-map, List·getD-map, drop-of-length-le}
 use lib.Seq.{drop-cons}
 use Rattle.text.specs.Put.{after, put}
+use Rattle.text.specs.Lists.{all}
 use Rattle.text.proofs.Bools.{and-l, and-r}
 use Rattle.bill.specs.declared.section.Section.{Section}
 use Rattle.bill.specs.Rows.{Row}
@@ -14,7 +15,6 @@ use Rattle.bill.specs.Text.{rowText}
 use Rattle.sorting.specs.declared.order.Order.{Order}
 use Rattle.sorting.specs.declared.order.Order.the-variants.{Less, Same, More}
 use Rattle.sorting.specs.Order.{Name, order}
-use Rattle.sorting.specs.Sets.{all}
 use Rattle.shifts.specs.Merge.{nextOf, noRow, nextRow}
 use Rattle.adding.specs.declared.put.Figures.{Figures}
 use Rattle.paper.specs.Lines.{lineFrom, rowAt, nameAt}

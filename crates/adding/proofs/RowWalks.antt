@@ -13,9 +13,9 @@ use borrow.Author.Tests.{eqb-true, eq-eqb, ne-eqb, leb-false}
 use Rattle.text.specs.Number.{numberIf}
 use Rattle.text.specs.declared.number.Number.{Number}
 use Rattle.text.specs.declared.number.Number.the-variants.{Value, Bad}
+use Rattle.text.specs.Lists.{all}
 use Rattle.text.proofs.Bools.{and-l, and-r, is-false, same-or-not}
 use Rattle.bill.specs.Reading.{rowFrom}
-use Rattle.sorting.specs.Sets.{all}
 use Rattle.shifts.specs.Sound.{first, firsts}
 use Rattle.paper.specs.Lines.{lineFrom}
 use Rattle.paper.specs.Rows.{rowOf, coreOk, coreHeld, processCharge}

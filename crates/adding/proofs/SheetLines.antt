@@ -7,10 +7,11 @@ use native.Mathlib.Omega.{arith}
 use lib.ListN.{length, getD, take, drop, length-map}
 use lib.Seq.{length-take-le, drop-at}
 use Rattle.text.specs.Pieces.{pieces, ended, unended}
+use Rattle.text.specs.Lists.{isEmpty}
 use Rattle.text.proofs.Bools.{and-l}
 use Rattle.text.proofs.Pieces.{pieces-some}
 use Rattle.paper.specs.Lines.{lineFrom}
-use Rattle.adding.specs.PlaceCode.{isEmpty, fewLines, Placed}
+use Rattle.adding.specs.PlaceCode.{fewLines, Placed}
 
 -- ---- things at the front of others, each made of an entry
 

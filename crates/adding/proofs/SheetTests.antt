@@ -12,6 +12,7 @@ use Rattle.text.specs.Name.{isName}
 use Rattle.text.specs.declared.number.Number.the-variants.{Value}
 use Rattle.text.specs.Pieces.{pieces, ended, unended}
 use Rattle.text.specs.Sizes.{maxTime, nameLimit, coreLimit}
+use Rattle.text.specs.Lists.{all}
 use Rattle.text.proofs.Bools.{and-l, and-r, or-l, or-r}
 use Rattle.bill.specs.declared.section.Section.the-variants.{Cores, Processes}
 use Rattle.bill.specs.Rows.{allNamed}
@@ -19,7 +20,7 @@ use Rattle.bill.specs.Text.{title}
 use Rattle.bill.specs.Reading.{Bill, scaleIn, spanIn, headExact, countIn, countExact, wordOf, rowFrom, rowExact, rowsExact, coreCount, fromProcesses, processCount, coreLines, processLines, billFrom, allOf, formTests, readSheet}
 use Rattle.bill.proofs.Formed.{all-pass}
 use Rattle.bill.proofs.Readings.{read-print, read-lengths}
-use Rattle.sorting.specs.Sets.{all, meets, twice}
+use Rattle.sorting.specs.Sets.{meets, twice}
 use Rattle.shifts.specs.Sound.{names, firsts, total, notCount, notTotal, someRow, soundSheet}
 use Rattle.shifts.proofs.Fine.{Fine, few-cores, few-names, unsound-is}
 use Rattle.shifts.proofs.Sizes.{bill-longest}

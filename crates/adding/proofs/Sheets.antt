@@ -10,13 +10,14 @@ use lib.ListN.{length, getD, take, length-map}
 use borrow.Author.Tests.{eqb-true, le-ltb, le-leb, ltb-false}
 use Rattle.text.specs.Pieces.{pieces}
 use Rattle.text.specs.Sizes.{nameLimit, coreLimit}
+use Rattle.text.specs.Lists.{all}
 use Rattle.text.proofs.Bools.{and-l, and-r, or-l, or-r}
 use Rattle.bill.specs.declared.section.Section.{Section}
 use Rattle.bill.specs.declared.section.Section.the-variants.{Cores, Processes}
 use Rattle.bill.specs.Text.{title}
 use Rattle.bill.specs.Reading.{rowFrom, fromProcesses, coreLines, processLines, billFrom, allOf, formTests, readSheet}
 use Rattle.bill.proofs.LineReadings.{head-low, head-high}
-use Rattle.sorting.specs.Sets.{all, sortedBy}
+use Rattle.sorting.specs.Sets.{sortedBy}
 use Rattle.sorting.proofs.Keys.{rename-sorted, rising-keys, all-sorted}
 use Rattle.shifts.specs.Sound.{names, firsts, notTotal, someRow, tooMany}
 use Rattle.shifts.specs.Sum.{byName}

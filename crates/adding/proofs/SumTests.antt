@@ -5,8 +5,8 @@ use mathlib.Core.List.{List, map}
 use Prim.Native.Nat.{ℕ}
 use Rattle.text.specs.declared.number.Number.{Number}
 use Rattle.text.specs.declared.number.Number.the-variants.{Value, Bad}
+use Rattle.text.specs.Lists.{all}
 use Rattle.bill.specs.Reading.{rowFrom}
-use Rattle.sorting.specs.Sets.{all}
 use Rattle.shifts.specs.Sound.{firsts}
 use Rattle.adding.specs.declared.sheet.Form.{Form}
 use Rattle.paper.specs.Lines.{lineFrom}

@@ -5,13 +5,14 @@ use mathlib.Core.List.{List, [], _∷_, map}
 use Prim.Native.Nat.{ℕ, _+_, _^_, _≤_, _<_}
 use lib.Dec.{leb}
 use lib.ListN.{length, drop}
+use Rattle.text.specs.Lists.{all}
 use Rattle.bill.specs.declared.section.Section.{Section}
 use Rattle.bill.specs.declared.section.Section.the-variants.{Cores, Processes}
 use Rattle.bill.specs.Rows.{Row}
 use Rattle.bill.specs.Text.{rowText, rowsText}
 use Rattle.bill.specs.Reading.{rowFrom}
 use Rattle.sorting.specs.Order.{Name}
-use Rattle.sorting.specs.Sets.{all, rising}
+use Rattle.sorting.specs.Sets.{rising}
 use Rattle.sorting.specs.declared.order.Order.{Order}
 use Rattle.shifts.specs.Sum.{addRows}
 use Rattle.shifts.specs.Merge.{leftStep, rightStep, nextRow}
@@ -50,8 +51,7 @@ width Processes = 1
 
 -- a row of the section whose figures are at most 2^62
 abbrev pub allSmall : List ℕ → Bool
-allSmall [] = true
-allSmall (x ∷ xs) = leb x (2 ^ 62) && allSmall xs
+allSmall = all (λ x. leb x (2 ^ 62))
 
 unfoldable pub fineRow : Section → List ℕ → Bool
 fineRow section line = rowOf (width section) line && allSmall (rowFrom line .figures)

@@ -1,11 +1,12 @@
 -- FOR THE CODE ALONE: the places where the lines of a text begin.
 use mathlib.Core.Path.{_≡_}
 use mathlib.Core.Bool.{Bool, true, false, _&&_}
-use mathlib.Core.List.{List, [], _∷_, map}
+use mathlib.Core.List.{List, map}
 use Prim.Native.Nat.{ℕ, zero, suc, _+_, _≤_}
 use lib.Dec.{leb, ltb}
 use lib.ListN.{length, take}
 use Rattle.text.specs.Pieces.{pieces, ended, unended}
+use Rattle.text.specs.Lists.{isEmpty}
 use Rattle.text.specs.Sizes.{nameLimit}
 use Rattle.paper.specs.Lines.{lineFrom}
 
@@ -14,10 +15,6 @@ abbrev pub linesMost : ℕ
 linesMost = nameLimit + 3
 
 -- every line has its end, and there are from 1 to that many
-abbrev pub isEmpty : List ℕ → Bool
-isEmpty [] = true
-isEmpty (x ∷ s) = false
-
 unfoldable pub fewLines : List ℕ → Bool
 fewLines text =
     isEmpty (unended (pieces 10 text)) && (ltb 0 (length (ended (pieces 10 text))) && leb (length (ended (pieces 10 text))) linesMost)

@@ -5,8 +5,8 @@ use Prim.Native.Nat.{ℕ}
 use lib.Dec.{eqb}
 use Rattle.text.specs.Number.{numberIf}
 use Rattle.text.specs.declared.number.Number.{Number}
+use Rattle.text.specs.Lists.{all}
 use Rattle.bill.specs.Reading.{rowFrom}
-use Rattle.sorting.specs.Sets.{all}
 use Rattle.shifts.specs.Sound.{firsts}
 use Rattle.paper.specs.Rows.{rowOf, coreOk}
 

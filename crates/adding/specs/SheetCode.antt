@@ -8,10 +8,11 @@ use lib.ListN.{length, getD, take, drop}
 use Rattle.text.specs.declared.number.Number.the-variants.{Value}
 use Rattle.text.specs.Pieces.{pieces}
 use Rattle.text.specs.Sizes.{maxTime, nameLimit, coreLimit}
+use Rattle.text.specs.Lists.{all}
 use Rattle.bill.specs.declared.section.Section.the-variants.{Cores, Processes}
 use Rattle.bill.specs.Text.{title}
 use Rattle.bill.specs.Reading.{Bill, rowFrom, fromProcesses, processCount, coreLines, processLines, atEnd}
-use Rattle.sorting.specs.Sets.{all, meets, twice, sortedBy}
+use Rattle.sorting.specs.Sets.{meets, twice, sortedBy}
 use Rattle.shifts.specs.Sound.{firsts, soundSheet}
 use Rattle.shifts.specs.Sum.{byName}
 use Rattle.paper.specs.declared.head.Head.the-variants.{Line}

@@ -10,6 +10,7 @@ use Rattle.text.specs.Literal.{bytes}
 use Rattle.text.specs.Bytes.{startsWith, toByte}
 use Rattle.text.specs.Number.{isNumber, valueFrom}
 use Rattle.text.specs.Pieces.{pieces}
+use Rattle.text.specs.Lists.{all}
 use Rattle.words.specs.declared.scale.ScaleFound.{ScaleFound}
 use Rattle.words.specs.declared.scale.ScaleFound.the-variants.{ThisScale, NoScale}
 use Rattle.words.specs.Scale.{scaleOf}
@@ -69,15 +70,13 @@ unfoldable pub rowFrom : List ℕ → Row
 rowFrom line = record { name = wordOf line 0; figures = map (valueFrom 0) (drop 1 (pieces 32 line)) }
 
 abbrev pub allNumbers : List (List ℕ) → Bool
-allNumbers [] = true
-allNumbers (w ∷ ws) = isNumber w && allNumbers ws
+allNumbers = all isNumber
 
 unfoldable pub rowExact : List ℕ → Bool
 rowExact line = allNumbers (drop 1 (pieces 32 line))
 
 abbrev pub rowsExact : List (List ℕ) → Bool
-rowsExact [] = true
-rowsExact (l ∷ ls) = rowExact l && rowsExact ls
+rowsExact = all rowExact
 
 -- ---- the whole, by its lines: the verdict's, the cores' title with as many rows, the processes' title with as many rows, and nothing after their end
 
@@ -110,8 +109,7 @@ atEnd ([] ∷ l ∷ ls) = false
 atEnd ((x ∷ l) ∷ ls) = false
 
 abbrev pub allOf : List Bool → Bool
-allOf [] = true
-allOf (b ∷ bs) = b && allOf bs
+allOf = all (λ b. b)
 
 unfoldable pub formTests : List (List ℕ) → List Bool
 formTests ls =

@@ -6,12 +6,13 @@ use mathlib.Core.List.{[], _∷_}
 use Prim.Native.Nat.{ℕ}
 use lib.Dec.{eqb, leb}
 use borrow.Author.Tests.{eq-eqb, ne-eqb}
+use Rattle.text.specs.Lists.{all}
 use Rattle.words.specs.declared.kind.Kind.{Kind}
 use Rattle.words.specs.declared.action.Action.{Action}
 use Rattle.words.specs.declared.action.Action.the-variants.{InterruptSuspended, Schedule, SetEvent}
 use Rattle.words.specs.Action.{actionCode, among}
 use Rattle.words.specs.Class.{readying, beginning, interrupt-suspension, scheduling, event-setting, semaphore-state, classAt, classOf}
-use Rattle.words.proofs.Actions.{actions, all, every}
+use Rattle.words.proofs.Actions.{actions, every}
 use Rattle.words.proofs.Classes.{agree, agreed}
 use Rattle.forms.specs.Rule.{isProcess, coreActions, zeroSource, isOwn, presence, presenceAt, presenceBroken, noteBroken}
 

@@ -10,8 +10,8 @@ use lib.ListN.{length, getD, take, drop}
 use lib.Seq.{take-at, getD-append-add, getD-drop}
 use borrow.Author.Tests.{leb-true}
 use Rattle.text.specs.Put.{written}
+use Rattle.text.specs.Lists.{any}
 use Rattle.text.proofs.Writes.{length-written, written-first}
-use Rattle.words.specs.Named.{any}
 use Rattle.words.specs.Action.{isOf}
 use Rattle.forms.specs.Note.{noteOf, isWrong}
 use Rattle.forms.specs.Rule.{ruleBroken}

@@ -13,6 +13,7 @@ use Rattle.text.specs.Number.{digitsOf, numberOf}
 use Rattle.text.specs.declared.number.Number.{Number}
 use Rattle.text.specs.declared.number.Number.the-variants.{Value, Bad}
 use Rattle.text.specs.Sizes.{maxTime}
+use Rattle.text.specs.Lists.{isEmpty}
 use Rattle.text.proofs.Bools.{and-l, and-r, lt-or-ge}
 use Rattle.text.proofs.Digits.{read-written}
 use Rattle.words.specs.declared.scale.ScaleFound.{ScaleFound}
@@ -38,7 +39,6 @@ use Rattle.line.specs.declared.reading.Reading.the-variants.{Version, Co
 use Rattle.line.specs.Parameter.{isVersion, isVersionLine, isComment, timeScale, isCreator, isCreationDate, scaleOr, otherReading, parameterReading}
 use Rattle.line.specs.Event.{numbersAs, numbersOf, hasNames, ruled, knownReading, numbersReading, fieldsReading, eventReading}
 use Rattle.line.specs.Reading.{lineMost, hasBreak, isEventLine, readLine}
-use Rattle.line.specs.Writing.{isEmpty}
 use Rattle.line.proofs.Events.{InOrder, in-order}
 
 -- what document 01 asks of a record, an event with its source, target and note, and the count that the note means

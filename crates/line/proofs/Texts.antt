@@ -13,6 +13,7 @@ use Rattle.text.specs.Number.{digitsOf}
 use Rattle.text.specs.Name.{nameMost, isName}
 use Rattle.text.specs.Put.{written, Put, after, put}
 use Rattle.text.specs.Sizes.{maxTime}
+use Rattle.text.specs.Lists.{isEmpty}
 use Rattle.text.proofs.Bools.{and-l, and-r}
 use Rattle.text.proofs.Digits.{digits-short}
 use Rattle.text.proofs.Names.{name-length}
@@ -25,7 +26,7 @@ use Rattle.forms.specs.Rule.{ruleBroken}
 use Rattle.line.specs.declared.event.Event.{Event}
 use Rattle.line.specs.declared.writing.Written.the-variants.{Done, NotWritten}
 use Rattle.line.specs.Answer.{test, lowest}
-use Rattle.line.specs.Writing.{nameField, numberField, noteText, textOf, isEmpty, hasSizes, hasInstances, recordRefusal, wrote, writeText}
+use Rattle.line.specs.Writing.{nameField, numberField, noteText, textOf, hasSizes, hasInstances, recordRefusal, wrote, writeText}
 
 -- ---- a note that is empty is no note
 

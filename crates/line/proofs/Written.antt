@@ -9,6 +9,7 @@ use lib.ListN.{length, length-append}
 use borrow.Author.Tests.{ne-eqb, le-leb}
 use Rattle.text.specs.Name.{nameMost, isNameByte, allNameBytes, isName}
 use Rattle.text.specs.Number.{isDigit, allDigits, digitsOf}
+use Rattle.text.specs.Lists.{isEmpty}
 use Rattle.text.proofs.Bools.{and-l, and-r}
 use Rattle.text.proofs.Pieces.{joinedBy}
 use Rattle.text.proofs.Digits.{digits-all, digits-at-most, length-pos, digit-low}
@@ -20,7 +21,7 @@ use Rattle.fields.specs.Part.{partsOf}
 use Rattle.fields.proofs.Parts.{parts-join, parts-last, joined, name-clean}
 use Rattle.line.specs.declared.event.Event.{Event}
 use Rattle.line.specs.Reading.{lineMost, hasBreak, isEventLine}
-use Rattle.line.specs.Writing.{nameField, numberField, noteText, textOf, isEmpty}
+use Rattle.line.specs.Writing.{nameField, numberField, noteText, textOf}
 use Rattle.line.proofs.Said.{Allowed}
 
 -- ---- the parts of a record

@@ -1,7 +1,7 @@
 -- The one line that a record is, when it is refused, and what writing it leaves. A record is an event with its source, target and note;
 -- an empty note is no note.
 use Prim.Native.Nat.{ℕ, zero, suc}
-use mathlib.Core.Bool.{Bool, true, false, not, _&&_, _||_, cond}
+use mathlib.Core.Bool.{Bool, not, _&&_, _||_, cond}
 use mathlib.Core.List.{List, [], _∷_, _++_}
 use lib.Dec.{leb}
 use lib.ListN.{length}
@@ -9,6 +9,7 @@ use Rattle.text.specs.Name.{isName}
 use Rattle.text.specs.Number.{digitsOf}
 use Rattle.text.specs.Put.{written}
 use Rattle.text.specs.Sizes.{maxTime}
+use Rattle.text.specs.Lists.{isEmpty}
 use Rattle.words.specs.Kind.{kindWord}
 use Rattle.words.specs.Action.{wordOf, isOf}
 use Rattle.forms.specs.Note.{maxInstance, noteOf, isWrong}
@@ -36,10 +37,6 @@ textOf e source target note =
     ++ numberField (e .«target_instance»)) ++ wordOf (e .action)) ++ noteText note
 
 -- ---- when it is refused
-
-abbrev pub isEmpty : List ℕ → Bool
-isEmpty [] = true
-isEmpty (x ∷ s) = false
 
 unfoldable pub hasSizes : ℕ → List ℕ → List ℕ → List ℕ → Bool
 hasSizes time source target note = leb time maxTime && (isName source && (isName target && (isEmpty note || isName note)))

@@ -8,9 +8,9 @@ use Prim.Native.Nat.{ℕ}
 use native.Mathlib.Omega.{arith}
 use borrow.Author.Tests.{lt-ltb}
 use Rattle.text.specs.Bytes.{sameBytes}
+use Rattle.text.specs.Lists.{any}
 use Rattle.text.proofs.Bools.{is-false}
 use Rattle.text.proofs.Words.{same-eq, same-refl}
-use Rattle.rules.specs.Lists.{any}
 use Rattle.rules.specs.Event.{Event, sameInstance}
 use Rattle.rules.specs.History.{names, kindOf, instances, firstNumber, isFrom, aboveAll}
 use Rattle.rules.specs.Verdict.{Accepted}

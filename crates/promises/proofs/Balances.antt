@@ -2,7 +2,7 @@
 use mathlib.Core.Path.{_≡_, refl, ap}
 use mathlib.Core.List.{List, [], _∷_}
 use Prim.Native.Nat.{ℕ, _+_}
-use Rattle.rules.specs.Lists.{sumOver}
+use Rattle.text.specs.Lists.{sumOver}
 use Rattle.rules.specs.Event.{Event}
 use Rattle.rules.specs.Sheet.{heldTicks, idleTicks, unknownTicks, charge, coreRows, processRows}
 use Rattle.promises.specs.Sheets.{figure, Balanced}

@@ -7,8 +7,10 @@ use Prim.Native.Nat.{ℕ, _+_, _*_, _%_, _^_, _<_}
 use native.Mathlib.Omega.{arith}
 use lib.Dec.{eqb}
 use Rattle.text.specs.Bytes.{sameBytes}
+use Rattle.text.specs.Lists.{any, sumOver}
 use Rattle.text.proofs.Words.{same-eq, same-refl}
-use Rattle.rules.specs.Lists.{any, sumOver, oneIf, addAll}
+use Rattle.text.proofs.Lists.{sum-cong, sum-add}
+use Rattle.rules.specs.Lists.{oneIf, addAll}
 use Rattle.rules.specs.Words.{core}
 use Rattle.rules.specs.Charts.{isProcess}
 use Rattle.rules.specs.Event.{Event, instanceOf}
@@ -17,7 +19,7 @@ use Rattle.rules.specs.History.{isTracked, named, names, kindOf, isKind}
 use Rattle.rules.specs.Verdict.{Accepted}
 use Rattle.rules.specs.Sheet.{gap, ticks, isHeldBy, holding, charge}
 use Rattle.rules.proofs.Tests.{both, clash}
-use Rattle.rules.proofs.Sums.{sum-cong, sum-zero, sum-add, sum-added}
+use Rattle.rules.proofs.Sums.{sum-zero, sum-added}
 use Rattle.rules.proofs.Answers.{Passed}
 use Rattle.rules.proofs.Changes.{core-other}
 use Rattle.rules.proofs.Tracked.{now, tracked, names-once, named-kind, kind-named, kind-stays}

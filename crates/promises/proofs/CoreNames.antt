@@ -7,8 +7,9 @@ use mathlib.Core.List.{List, [], _∷_}
 use Prim.Native.Nat.{ℕ}
 use native.Mathlib.Omega.{arith}
 use Rattle.text.specs.Bytes.{sameBytes}
+use Rattle.text.specs.Lists.{any}
 use Rattle.text.proofs.Words.{same-eq}
-use Rattle.rules.specs.Lists.{any, when, orElse, latest}
+use Rattle.rules.specs.Lists.{when, orElse, latest}
 use Rattle.rules.specs.Words.{core}
 use Rattle.rules.specs.Event.{Event, Instance, instanceOf}
 use Rattle.rules.specs.Core.{Core, unknown, idle, held, becomes, gives, onCore, on, effectOn, orUnknown, coreAt}

@@ -5,8 +5,8 @@ use mathlib.Core.Path.{_≡_, sym, _∙_}
 use mathlib.Core.List.{List, []}
 use Prim.Native.Nat.{ℕ}
 use Rattle.text.specs.Bytes.{sameBytes}
+use Rattle.text.specs.Lists.{sumOver}
 use Rattle.text.proofs.Words.{same-eq, same-refl}
-use Rattle.rules.specs.Lists.{sumOver}
 use Rattle.rules.specs.History.{names, cores, processes}
 use Rattle.rules.specs.Sheet.{span, sheet}
 use Rattle.rules.specs.Lines.{eventsOf}

@@ -11,8 +11,9 @@ use lib.ListN.{length}
 use borrow.Author.Tests.{eqb-false, eq-eqb, ne-eqb, le-ltb}
 use Rattle.text.specs.Bytes.{sameBytes}
 use Rattle.text.specs.Sizes.{coreLimit}
+use Rattle.text.specs.Lists.{any, sumOver}
 use Rattle.text.proofs.Words.{same-eq, same-refl}
-use Rattle.rules.specs.Lists.{any, sumOver, oneIf}
+use Rattle.rules.specs.Lists.{oneIf}
 use Rattle.rules.specs.Words.{core}
 use Rattle.rules.specs.Charts.{isProcess}
 use Rattle.rules.specs.Event.{Event, Instance}

@@ -8,9 +8,9 @@ use native.Mathlib.Omega.{arith}
 use lib.Dec.{eqb}
 use borrow.Author.Tests.{eqb-true, eqb-false, eq-eqb, ne-eqb}
 use Rattle.text.specs.Bytes.{sameBytes}
+use Rattle.text.specs.Lists.{any}
 use Rattle.text.proofs.Bools.{is-false}
 use Rattle.text.proofs.Words.{same-eq, same-refl}
-use Rattle.rules.specs.Lists.{any}
 use Rattle.rules.specs.Event.{Event, Instance, sameInstance}
 use Rattle.rules.specs.Core.{Core, unknown, idle, held, coreAt}
 use Rattle.rules.specs.History.{names, kindOf}

@@ -8,7 +8,8 @@ use Prim.Native.Nat.{ℕ}
 use lib.Dec.{eqb}
 use borrow.Author.Tests.{eqb-true, not-false}
 use Rattle.text.specs.Bytes.{sameBytes}
-use Rattle.rules.specs.Lists.{any, when}
+use Rattle.text.specs.Lists.{any}
+use Rattle.rules.specs.Lists.{when}
 use Rattle.rules.specs.Words.{runnable, semaphore}
 use Rattle.rules.specs.Chart.{stepFor, stateAfter, allowed}
 use Rattle.rules.specs.Charts.{isProcess, chartOf}

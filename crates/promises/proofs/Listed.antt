@@ -9,9 +9,10 @@ use native.Mathlib.Omega.{arith}
 use lib.ListN.{length}
 use Rattle.text.specs.Bytes.{sameBytes}
 use Rattle.text.specs.Name.{isName}
+use Rattle.text.specs.Lists.{any}
 use Rattle.text.proofs.Names.{name-length}
 use Rattle.text.proofs.Words.{same-eq, same-refl, eq-same}
-use Rattle.rules.specs.Lists.{any, when, orElse}
+use Rattle.rules.specs.Lists.{when, orElse}
 use Rattle.rules.specs.Words.{core, semaphore}
 use Rattle.rules.specs.Event.{Event, Instance, sameInstance}
 use Rattle.rules.specs.Core.{onCore}

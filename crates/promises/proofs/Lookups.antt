@@ -10,10 +10,11 @@ use lib.Dec.{eqb}
 use lib.ListN.{length}
 use borrow.Author.Tests.{lt-ltb}
 use Rattle.text.specs.Bytes.{sameBytes}
+use Rattle.text.specs.Lists.{any}
 use Rattle.text.proofs.Bools.{is-false}
 use Rattle.marks.specs.First.{firstOf}
 use Rattle.marks.proofs.Firsts.{first-at, first-none}
-use Rattle.rules.specs.Lists.{any, oneIf}
+use Rattle.rules.specs.Lists.{oneIf}
 use Rattle.rules.specs.Event.{Event, Instance, instanceOf}
 use Rattle.rules.specs.Core.{onCore, coreClass, no-core}
 use Rattle.rules.specs.History.{hasInstances, isTracked, names, kindOf, hasEntry}

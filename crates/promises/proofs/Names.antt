@@ -5,8 +5,9 @@ use mathlib.Core.List.{List, _∷_}
 use Prim.Native.Nat.{ℕ, _≤_, _<_}
 use lib.ListN.{length}
 use Rattle.text.specs.Bytes.{sameBytes}
+use Rattle.text.specs.Lists.{any}
 use Rattle.text.proofs.Names.{name-length}
-use Rattle.rules.specs.Lists.{any, oneIf}
+use Rattle.rules.specs.Lists.{oneIf}
 use Rattle.rules.specs.Event.{Event, instanceOf, stateOf}
 use Rattle.rules.specs.Core.{onCore}
 use Rattle.rules.specs.History.{isTracked, names}

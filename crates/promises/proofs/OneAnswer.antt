@@ -7,9 +7,9 @@ use mathlib.Core.List.{List, [], reverse}
 use Prim.Native.Nat.{ℕ, _≤_}
 use lib.ListN.{length}
 use Rattle.text.specs.Put.{written}
+use Rattle.text.specs.Lists.{sumOver}
 use Rattle.walk.specs.Lines.{linesOf}
 use Rattle.bill.specs.Text.{sheetText}
-use Rattle.rules.specs.Lists.{sumOver}
 use Rattle.rules.specs.Trace.{placeOf, takenLines}
 use Rattle.rules.specs.Lawful.{Lawful}
 use Rattle.tables.specs.Sized.{isSized}

@@ -5,8 +5,9 @@ use mathlib.Core.Bool.{Bool, true, false, not, _&&_, or-true}
 use mathlib.Core.List.{List, [], _∷_}
 use Prim.Native.Nat.{ℕ}
 use Rattle.text.specs.Bytes.{sameBytes}
+use Rattle.text.specs.Lists.{any}
 use Rattle.text.proofs.Words.{same-eq, same-refl}
-use Rattle.rules.specs.Lists.{any, keep}
+use Rattle.rules.specs.Lists.{keep}
 use Rattle.rules.specs.Event.{Event, Instance, sameInstance, instanceOf}
 use Rattle.rules.specs.Core.{onCore}
 use Rattle.rules.specs.History.{hasInstances, isTracked, named, names, instances}

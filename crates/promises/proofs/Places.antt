@@ -9,7 +9,8 @@ use lib.Dec.{eqb}
 use lib.ListN.{length, drop}
 use lib.Seq.{drop-length}
 use borrow.Author.Tests.{eq-eqb, ne-eqb}
-use Rattle.rules.specs.Lists.{any, only, keep, addUnless, addNew, addAll}
+use Rattle.text.specs.Lists.{any}
+use Rattle.rules.specs.Lists.{only, keep, addUnless, addNew, addAll}
 use Rattle.rules.proofs.Tests.{both, neither, clash}
 use Rattle.rules.proofs.Sums.{any-new, other-way}
 use Rattle.promises.specs.Places.{place}

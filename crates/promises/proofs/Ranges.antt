@@ -9,8 +9,8 @@ use lib.Dec.{eqb}
 use borrow.Author.Tests.{eqb-true, eqb-false, eq-eqb, ne-eqb, lt-ltb, le-ltb}
 use Rattle.text.specs.Bytes.{sameBytes}
 use Rattle.text.specs.Sizes.{maxTime}
+use Rattle.text.specs.Lists.{any}
 use Rattle.text.proofs.Names.{name-length}
-use Rattle.rules.specs.Lists.{any}
 use Rattle.rules.specs.Words.{core, semaphore}
 use Rattle.rules.specs.Limits.{verdictLineLimit, lineLimit, lastRefusal}
 use Rattle.rules.specs.Chart.{isStateOf}

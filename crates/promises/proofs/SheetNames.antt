@@ -9,14 +9,15 @@ use lib.Dec.{eqb}
 use lib.ListN.{length}
 use borrow.Author.Tests.{eqb-true}
 use Rattle.text.specs.Bytes.{sameBytes}
+use Rattle.text.specs.Lists.{any}
 use Rattle.text.proofs.Bools.{and-l, is-false}
 use Rattle.text.proofs.Words.{same-eq, same-refl, eq-same}
 use Rattle.sorting.specs.declared.order.Order.{Order}
 use Rattle.sorting.specs.declared.order.Order.the-variants.{Less, Same, More}
 use Rattle.sorting.specs.Order.{Name, order, isSame}
-use Rattle.sorting.specs.Sets.{any as anyName, has, meets, twice}
+use Rattle.sorting.specs.Sets.{has, meets, twice}
 use Rattle.sorting.proofs.Orders.{order-self, order-same}
-use Rattle.rules.specs.Lists.{any, only, keep}
+use Rattle.rules.specs.Lists.{only, keep}
 use Rattle.rules.specs.Words.{core}
 use Rattle.rules.specs.Charts.{isProcess}
 use Rattle.rules.specs.Event.{Event}
@@ -60,11 +61,11 @@ only-once p (n ∷ ns) d = by-test (p n) (only-once p ns (d .1))
 
 -- two tests that no name passes both of
 module _ (p q : Name → Bool) (apart : (n : Name) → p n ≡ true → q n ≡ false) where
-  none-both : (ns : List Name) → anyName q (only p ns) ≡ false
+  none-both : (ns : List Name) → any q (only p ns) ≡ false
   none-both [] = refl
   none-both (n ∷ ns) = by-test (p n) refl (none-both ns)
     where
-      by-test : (b : Bool) → p n ≡ b → anyName q (only p ns) ≡ false → anyName q (keep b n (only p ns)) ≡ false
+      by-test : (b : Bool) → p n ≡ b → any q (only p ns) ≡ false → any q (keep b n (only p ns)) ≡ false
       by-test true e i = rw (apart n e, i)
       by-test false e i = i
 
@@ -104,7 +105,7 @@ module _ (h : List Event) where
 
   pub listed-apart : meets (cores h) (processes h) ≡ false
   listed-apart =
-      ap (λ (p : Name → Bool). anyName p (cores h)) (fun-ext (listed isProcess))
+      ap (λ (p : Name → Bool). any p (cores h)) (fun-ext (listed isProcess))
       ∙ none-both (λ n. isKind (eqb core) (kindOf n h)) (λ n. isKind isProcess (kindOf n h)) (λ n. kinds-apart (kindOf n h)) (names h)
 
   pub listed-most : length (cores h) + length (processes h) ≤ length (names h)

@@ -5,6 +5,7 @@ use mathlib.Core.List.{List, [], _∷_}
 use Prim.Native.Nat.{ℕ, suc, _+_}
 use lib.ListN.{length, getD}
 use Rattle.text.specs.Name.{isName}
+use Rattle.text.specs.Lists.{sumOver}
 use Rattle.bill.specs.Rows.{Row, allNamed}
 use Rattle.sorting.specs.Order.{Name, order, isSame}
 use Rattle.sorting.specs.Sets.{has}
@@ -12,7 +13,6 @@ use Rattle.sorting.proofs.Orders.{order-self}
 use Rattle.shifts.specs.Sound.{names, first, firsts}
 use Rattle.shifts.specs.Sum.{rowsOf}
 use Rattle.shifts.proofs.Rows.{names-rows}
-use Rattle.rules.specs.Lists.{sumOver}
 use Rattle.rules.specs.Event.{Event}
 use Rattle.rules.specs.Sheet.{coreRows, processRows}
 use Rattle.promises.specs.Sheets.{figure}

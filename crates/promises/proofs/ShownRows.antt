@@ -8,11 +8,12 @@ use lib.Dec.{eqb}
 use lib.ListN.{length}
 use borrow.Author.Tests.{eqb-true}
 use Rattle.text.specs.Bytes.{sameBytes}
+use Rattle.text.specs.Lists.{any}
 use Rattle.text.proofs.Words.{same-eq, same-refl}
 use Rattle.bill.specs.declared.section.Section.{Section}
 use Rattle.bill.specs.declared.section.Section.the-variants.{Cores, Processes}
 use Rattle.bill.specs.Rows.{Row}
-use Rattle.rules.specs.Lists.{any, only, keep}
+use Rattle.rules.specs.Lists.{only, keep}
 use Rattle.rules.specs.Words.{core}
 use Rattle.rules.specs.Charts.{isProcess}
 use Rattle.rules.specs.Event.{Event}

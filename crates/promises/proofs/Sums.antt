@@ -4,7 +4,7 @@ use mathlib.Core.Bool.{true}
 use mathlib.Core.List.{List, _∷_}
 use Prim.Native.Nat.{ℕ}
 use Rattle.text.specs.Bytes.{sameBytes}
-use Rattle.rules.specs.Lists.{any}
+use Rattle.text.specs.Lists.{any}
 use Rattle.rules.specs.Event.{Event}
 use Rattle.rules.specs.History.{names}
 use Rattle.rules.specs.Verdict.{Accepted}

@@ -9,8 +9,9 @@ use native.Mathlib.Omega.{arith}
 use lib.Dec.{eqb}
 use borrow.Author.Tests.{eqb-true, not-true}
 use Rattle.text.specs.Bytes.{sameBytes}
+use Rattle.text.specs.Lists.{any}
 use Rattle.text.proofs.Words.{same-eq, same-refl, eq-same}
-use Rattle.rules.specs.Lists.{any, oneIf}
+use Rattle.rules.specs.Lists.{oneIf}
 use Rattle.rules.specs.Words.{core}
 use Rattle.rules.specs.Event.{Event}
 use Rattle.rules.specs.Core.{onCore, coreClass, on, no-core, gives-core}

@@ -13,6 +13,7 @@ use Rattle.text.specs.Pieces.{pieces}
 use Rattle.text.specs.Name.{isNameByte, allNameBytes, isName}
 use Rattle.text.specs.Number.{numberOf, digitsOf}
 use Rattle.text.specs.Put.{written}
+use Rattle.text.specs.Lists.{sumOver}
 use Rattle.text.proofs.Tight.{ShutsOut, shut-out}
 use Rattle.words.specs.Named.{pick}
 use Rattle.words.specs.Scale.{scaleWord, scaleOf}
@@ -29,7 +30,7 @@ use Rattle.line.specs.Condition.{refuses1, refuses3, countWrong, numberWrong, n
 use Rattle.bill.specs.Rows.{Row, Sheet}
 use Rattle.bill.specs.Text.{figuresText, rowText, rowsText, sectionText, sheetText}
 use Rattle.bill.specs.Scale.{scaleNumber}
-use Rattle.rules.specs.Lists.{sumOver, ifZero}
+use Rattle.rules.specs.Lists.{ifZero}
 use Rattle.rules.specs.Charts.{chartOf, processChart, isProcess}
 use Rattle.rules.specs.Core.{takes, gives, keeps, onCore}
 use Rattle.rules.specs.History.{hasInstances, isTracked, named, kindIn, activates, numbers, lastNumber, firstNumber, isFrom, aboveAll, lastCount, names, needsEntry, instances}

@@ -8,6 +8,7 @@ use native.Mathlib.Omega.{arith}
 use lib.Dec.{eqb}
 use Rattle.text.specs.Bytes.{sameBytes}
 use Rattle.text.proofs.Words.{same-eq}
+use Rattle.text.proofs.Lists.{sum-cong}
 use Rattle.rules.specs.Lists.{oneIf}
 use Rattle.rules.specs.Words.{core}
 use Rattle.rules.specs.Charts.{isProcess}
@@ -17,7 +18,7 @@ use Rattle.rules.specs.History.{kindOf, isKind, cores}
 use Rattle.rules.specs.Verdict.{Accepted}
 use Rattle.rules.specs.Sheet.{ticks, isHeld, isIdle, isHeldBy, holding, charge, span}
 use Rattle.rules.proofs.Tests.{clash}
-use Rattle.rules.proofs.Sums.{sum-cong, sum-zero}
+use Rattle.rules.proofs.Sums.{sum-zero}
 use Rattle.rules.proofs.Answers.{passed}
 use Rattle.rules.proofs.Totals.{core-total}
 use Rattle.rules.proofs.Tracked.{Tracked, tracked, kind-stays}

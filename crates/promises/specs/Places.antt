@@ -3,7 +3,7 @@ use mathlib.Core.Bool.{Bool, cond}
 use mathlib.Core.List.{List, [], _∷_}
 use Prim.Native.Nat.{ℕ, suc}
 use Rattle.text.specs.Bytes.{sameBytes}
-use Rattle.rules.specs.Lists.{any}
+use Rattle.text.specs.Lists.{any}
 use Rattle.rules.specs.Event.{Event}
 use Rattle.rules.specs.History.{names}
 use Rattle.lookup.specs.declared.find.Found.{Found}

@@ -7,8 +7,8 @@ use Prim.Native.Nat.{ℕ, _+_, _-_, _*_, _≤_, _<_}
 use lib.Dec.{eqb}
 use lib.ListN.{length}
 use Rattle.text.specs.Bytes.{sameBytes}
+use Rattle.text.specs.Lists.{any, sumOver}
 use Rattle.rules.specs.Words.{core, semaphore}
-use Rattle.rules.specs.Lists.{any, sumOver}
 use Rattle.rules.specs.Event.{Event, Instance, stateOf}
 use Rattle.rules.specs.Core.{Core, unknown, idle, held, coreAt}
 use Rattle.rules.specs.History.{names, cores, kindOf, lastNumber, firstNumber, entries, hasEntry, lastCount}

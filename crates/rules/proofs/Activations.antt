@@ -19,7 +19,7 @@ use Rattle.rules.specs.History.{hasInstances, activates, numbers, firstN
 use Rattle.rules.specs.Refusals.{unseen}
 use Rattle.rules.proofs.Tests.{both, clash, instance-true}
 use Rattle.rules.proofs.Changes.{first-other, first-own}
-use Rattle.rules.proofs.CoreWords.{every, of-member, isStep}
+use Rattle.rules.proofs.CoreWords.{of-member, isStep}
 
 -- ---- lists
 
@@ -67,7 +67,7 @@ activates-instances k a = by-test (isProcess k) (member a (activate ∷ mtalimit
     by-test false m false s q = q
 
 pub activation-step : (k a : ℕ) → activates k a ≡ true → isStep (stepFor (chartOf k) a) ≡ true
-unfolding activates every isStep chartOf isProcess processChart runnableChart
+unfolding activates isStep chartOf isProcess processChart runnableChart
 activation-step k a = by-kind (isProcess k && member a (activate ∷ mtalimitexceeded ∷ [])) refl
   where
     by-kind : (b : Bool) → isProcess k && member a (activate ∷ mtalimitexceeded ∷ []) ≡ b → b || (eqb k runnable && eqb a start) ≡ true →

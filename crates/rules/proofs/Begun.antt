@@ -7,8 +7,9 @@ use mathlib.Core.Option.{Option, none, some}
 use mathlib.Core.List.{List, [], _∷_}
 use Prim.Native.Nat.{ℕ, _≤_}
 use borrow.Author.Tests.{leb-true, le-leb, not-true, not-false}
+use Rattle.text.specs.Lists.{any}
 use Rattle.text.proofs.Bools.{is-false}
-use Rattle.rules.specs.Lists.{any, when, orElse}
+use Rattle.rules.specs.Lists.{when, orElse}
 use Rattle.rules.specs.Event.{Event, Instance, sameInstance, instanceOf, firstWord, stateOf}
 use Rattle.rules.specs.History.{hasInstances, instances, activates, numbers, lastNumber, firstNumber, isFrom, aboveAll, reaches}
 use Rattle.rules.specs.Refusals.{Known, look, unseen, neverActivated}

@@ -10,8 +10,10 @@ use native.Mathlib.Omega.{arith}
 use lib.Dec.{eqb}
 use Rattle.text.specs.Bytes.{sameBytes}
 use Rattle.text.specs.Sizes.{coreLimit}
+use Rattle.text.specs.Lists.{any, sumOver}
 use Rattle.text.proofs.Words.{same-eq, same-refl}
-use Rattle.rules.specs.Lists.{any, sumOver, oneIf}
+use Rattle.text.proofs.Lists.{sum-cong}
+use Rattle.rules.specs.Lists.{oneIf}
 use Rattle.rules.specs.Words.{core}
 use Rattle.rules.specs.Charts.{isProcess}
 use Rattle.rules.specs.Event.{Event}
@@ -19,7 +21,7 @@ use Rattle.rules.specs.Core.{Core, unknown, idle, held, coreAt}
 use Rattle.rules.specs.History.{named, names, kindOf, isKind, cores, processes}
 use Rattle.rules.specs.Verdict.{Accepted}
 use Rattle.rules.specs.Sheet.{gap, ticks, isHeld, isHeldBy, heldTicks, holding, charge, chargeOn, span}
-use Rattle.rules.proofs.Sums.{sum-cong, sum-zero, sum-at-most, sum-swap, sum-added, sum-only}
+use Rattle.rules.proofs.Sums.{sum-zero, sum-at-most, sum-swap, sum-added, sum-only}
 use Rattle.rules.proofs.Room.{all-fit}
 use Rattle.rules.proofs.Totals.{ticks-add, core-total}
 use Rattle.rules.proofs.Tracked.{Since, now, before, Tracked, tracked, still-accepted, still-kind, kind-named, names-once, named-kind}

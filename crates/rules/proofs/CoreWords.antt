@@ -6,6 +6,7 @@ use mathlib.Core.List.{List, [], _∷_}
 use Prim.Native.Nat.{ℕ}
 use lib.Dec.{eqb}
 use borrow.Author.Tests.{eqb-true, not-true}
+use Rattle.text.specs.Lists.{all}
 use Rattle.rules.specs.Lists.{member, when, orElse}
 use Rattle.rules.specs.Chart.{Step, leaves, stepFor}
 use Rattle.rules.specs.Charts.{isProcess, processChart}
@@ -15,26 +16,20 @@ use Rattle.rules.proofs.Tests.{both}
 
 -- ---- a test that every element passes
 
-unfoldable pub every : {A : Type 0} → (A → Bool) → List A → Bool
-every f [] = true
-every f (x ∷ xs) = f x && every f xs
-
-pub of-member : (f : ℕ → Bool) (a : ℕ) (xs : List ℕ) → every f xs ≡ true → member a xs ≡ true → f a ≡ true
-unfolding every
+pub of-member : (f : ℕ → Bool) (a : ℕ) (xs : List ℕ) → all f xs ≡ true → member a xs ≡ true → f a ≡ true
 of-member f a [] t m = cc
 of-member f a (x ∷ xs) t m =
-    let p = both (f x) (every f xs) t in
+    let p = both (f x) (all f xs) t in
     by-test (eqb a x) refl m (p .0) (of-member f a xs (p .1))
   where
     by-test : (b : Bool) → eqb a x ≡ b → b || member a xs ≡ true → f x ≡ true → (member a xs ≡ true → f a ≡ true) → f a ≡ true
     by-test true q m k r = subst (λ (n : ℕ). f n ≡ true) (sym (eqb-true a x q)) k
     by-test false q m k r = r m
 
-pub of-step : (f : Step → Bool) (t : List Step) → every f t ≡ true → (a : ℕ) (r : Step) → stepFor t a ≡ some r → (f r ≡ true) × (a ≡ r .word)
-unfolding every
+pub of-step : (f : Step → Bool) (t : List Step) → all f t ≡ true → (a : ℕ) (r : Step) → stepFor t a ≡ some r → (f r ≡ true) × (a ≡ r .word)
 of-step f [] p a r q = (cc, cc)
 of-step f (s ∷ t) p a r q =
-    let k = both (f s) (every f t) p in
+    let k = both (f s) (all f t) p in
     by-test (eqb a (s .word)) refl (k .0) q (of-step f t (k .1) a r)
   where
     by-test : (b : Bool) → eqb a (s .word) ≡ b → f s ≡ true → orElse (when b s) (stepFor t a) ≡ some r → (stepFor t a ≡ some r → (f r ≡ true) × (a ≡ r .word)) →
@@ -54,10 +49,10 @@ beq-true false false q = refl
 agrees : Step → Bool
 agrees r =
     Bool·beq (occupies (some (r .enters))) (takes (r .word) || keeps (r .word))
-    && every (λ s. Bool·beq (occupies (some s)) (gives (r .word) || keeps (r .word))) (r .first ∷ r .others)
+    && all (λ s. Bool·beq (occupies (some s)) (gives (r .word) || keeps (r .word))) (r .first ∷ r .others)
 
-chart-agrees : every agrees processChart ≡ true
-unfolding every agrees processChart occupies takes gives keeps
+chart-agrees : all agrees processChart ≡ true
+unfolding agrees processChart occupies takes gives keeps
 chart-agrees = refl
 
 pub enters-core : (a : ℕ) (r : Step) → stepFor processChart a ≡ some r → occupies (some (r .enters)) ≡ takes a || keeps a
@@ -83,7 +78,7 @@ isStep none = false
 isStep (some r) = true
 
 pub takes-only : (a : ℕ) → takes a ≡ true → (gives a ≡ false) × (keeps a ≡ false) × (isStep (stepFor processChart a) ≡ true)
-unfolding processChart takes gives keeps every isStep
+unfolding processChart takes gives keeps isStep
 takes-only a q = (
   not-true _ (of-member (λ n. not (gives n)) a takers refl q),
   not-true _ (of-member (λ n. not (keeps n)) a takers refl q),
@@ -91,7 +86,7 @@ takes-only a q = (
 )
 
 pub gives-only : (a : ℕ) → gives a ≡ true → (takes a ≡ false) × (keeps a ≡ false) × (isStep (stepFor processChart a) ≡ true)
-unfolding processChart takes gives keeps every isStep
+unfolding processChart takes gives keeps isStep
 gives-only a q = (
   not-true _ (of-member (λ n. not (takes n)) a givers refl q),
   not-true _ (of-member (λ n. not (keeps n)) a givers refl q),
@@ -99,7 +94,7 @@ gives-only a q = (
 )
 
 pub keeps-only : (a : ℕ) → keeps a ≡ true → (takes a ≡ false) × (gives a ≡ false) × (isStep (stepFor processChart a) ≡ true)
-unfolding processChart takes gives keeps every isStep
+unfolding processChart takes gives keeps isStep
 keeps-only a q = (
   not-true _ (of-member (λ n. not (takes n)) a keepers refl q),
   not-true _ (of-member (λ n. not (gives n)) a keepers refl q),

@@ -8,8 +8,9 @@ use native.Mathlib.Omega.{arith}
 use lib.Dec.{leb}
 use lib.ListN.{length}
 use borrow.Author.Tests.{eqb-true, leb-true, not-true, not-false}
+use Rattle.text.specs.Lists.{any}
 use Rattle.text.proofs.Bools.{is-false}
-use Rattle.rules.specs.Lists.{any, only, keep, when, orElse, oneIf, addAll}
+use Rattle.rules.specs.Lists.{only, keep, when, orElse, oneIf, addAll}
 use Rattle.rules.specs.Words.{TERMINATED}
 use Rattle.rules.specs.Event.{Event, Instance, sameInstance, instanceOf, stateOf}
 use Rattle.rules.specs.History.{hasInstances, instances, activates, numbers, lastNumber, firstNumber, isFrom, aboveAll, reaches, isTerminated, needsEntry, entries, hasEntry}

@@ -2,7 +2,7 @@
 use mathlib.Core.Path.{_≡_}
 use mathlib.Core.List.{List, []}
 use Prim.Native.Nat.{ℕ, _+_, _*_, _≤_}
-use Rattle.rules.specs.Lists.{sumOver}
+use Rattle.text.specs.Lists.{sumOver}
 use Rattle.rules.specs.Chart.{Run}
 use Rattle.rules.specs.Charts.{chartOf}
 use Rattle.rules.specs.Event.{Event, Instance, wordsOf}

@@ -11,7 +11,8 @@ use lib.ListN.{length}
 use borrow.Author.Tests.{ne-eqb, eq-eqb, eqb-true, eqb-false}
 use Rattle.text.specs.Literal.{bytes}
 use Rattle.text.specs.Bytes.{sameBytes}
-use Rattle.rules.specs.Lists.{any, oneIf}
+use Rattle.text.specs.Lists.{any}
+use Rattle.rules.specs.Lists.{oneIf}
 use Rattle.rules.specs.Words.{runnable, start, terminate}
 use Rattle.rules.specs.Charts.{isProcess, chartOf, runnableChart}
 use Rattle.rules.specs.Event.{Event, Instance, sameInstance, instanceOf, stateOf}

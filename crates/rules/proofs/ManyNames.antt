@@ -12,9 +12,10 @@ use borrow.Author.Tests.{ne-eqb, le-ltb, lt-ltb, lt-leb}
 use Rattle.text.specs.Literal.{bytes}
 use Rattle.text.specs.Bytes.{sameBytes}
 use Rattle.text.specs.Sizes.{nameLimit, coreLimit}
+use Rattle.text.specs.Lists.{any}
 use Rattle.text.proofs.Words.{same-eq, same-refl, other-length}
 use Rattle.line.specs.Answer.{test, lowest}
-use Rattle.rules.specs.Lists.{any, only, when, orElse, addUnless, addNew}
+use Rattle.rules.specs.Lists.{only, when, orElse, addUnless, addNew}
 use Rattle.rules.specs.Words.{core, task, runnable, start}
 use Rattle.rules.specs.Charts.{isProcess}
 use Rattle.rules.specs.Event.{Event, Instance, sameInstance, instanceOf}

@@ -13,12 +13,13 @@ use Rattle.text.specs.Number.{numberOf}
 use Rattle.text.specs.declared.number.Number.{Number}
 use Rattle.text.specs.declared.number.Number.the-variants.{Value, Bad}
 use Rattle.text.specs.Sizes.{maxTime, nameLimit, coreLimit}
+use Rattle.text.specs.Lists.{any, all}
 use Rattle.text.proofs.Digits.{read-written}
 use Rattle.words.specs.declared.kind.Kind.{Kind}
 use Rattle.words.specs.declared.kind.Kind.the-variants.{Stimulus, Task, Interrupt, Runnable, Scheduler, OsEvent, Signal, Semaphore}
 use Rattle.words.specs.declared.action.Action.{Action}
 use Rattle.words.specs.Action.{actionCode, actionsOf, among, isOf}
-use Rattle.words.proofs.Actions.{actions, all, every}
+use Rattle.words.proofs.Actions.{actions, every}
 use Rattle.fields.specs.Part.{fieldOf}
 use Rattle.forms.specs.declared.note.Note.{Note}
 use Rattle.forms.specs.declared.note.Note.the-variants.{Means, Wrong}
@@ -28,7 +29,7 @@ use Rattle.line.specs.declared.reading.Reading.{Reading}
 use Rattle.line.specs.declared.reading.Reading.the-variants.{Version, Comment, TimeScale, Creator, CreationDate, EventLine, Refused}
 use Rattle.line.specs.Reading.{readLine}
 use Rattle.line.proofs.Said.{said}
-use Rattle.rules.specs.Lists.{any, member, ifZero}
+use Rattle.rules.specs.Lists.{member, ifZero}
 use Rattle.rules.specs.Chart.{stepFor}
 use Rattle.rules.specs.Charts.{isProcess, processChart, runnableChart, semaphoreChart, chartOf}
 use Rattle.rules.specs.Words.{semaphore}

@@ -7,8 +7,9 @@ use Prim.Native.Nat.{ℕ, _+_, _≤_}
 use native.Mathlib.Omega.{arith}
 use lib.Dec.{leb}
 use borrow.Author.Tests.{eqb-true, le-leb, not-true, not-false}
+use Rattle.text.specs.Lists.{any}
 use Rattle.text.proofs.Bools.{is-false}
-use Rattle.rules.specs.Lists.{any, when, orElse}
+use Rattle.rules.specs.Lists.{when, orElse}
 use Rattle.rules.specs.Chart.{Step, stepFor}
 use Rattle.rules.specs.Charts.{chartOf}
 use Rattle.rules.specs.Event.{Event, Instance, sameInstance, instanceOf, stateOf}

@@ -7,6 +7,7 @@ use Prim.Native.Nat.{ℕ, _+_, _<_}
 use native.Mathlib.Numerals.{add-one}
 use lib.Dec.{leb}
 use lib.ListN.{length}
+use Rattle.text.specs.Lists.{any}
 use Rattle.line.specs.declared.reading.Reading.{Reading}
 use Rattle.line.specs.declared.reading.Reading.the-variants.{Version, Comment, TimeScale, Creator, CreationDate, EventLine, Refused}
 use Rattle.line.specs.Answer.{holds, IsLowest}
@@ -16,7 +17,7 @@ use Rattle.line.specs.Condition.{refuses1}
 use Rattle.line.proofs.Lowest.{lowest-exactly, lowest-none}
 use Rattle.bill.specs.Scale.{scaleNumber}
 use Rattle.rules.specs.declared.place.Place.{Place}
-use Rattle.rules.specs.Lists.{any, latest, orElse}
+use Rattle.rules.specs.Lists.{latest, orElse}
 use Rattle.rules.specs.Lines.{eventIn, eventOfLine}
 use Rattle.rules.specs.Trace.{scaleIn, orZero, isSome, placeOf, tooMuch, placeTests, answerInPlace}
 use Rattle.rules.proofs.Tests.{neither}

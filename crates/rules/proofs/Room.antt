@@ -12,8 +12,9 @@ use lib.ListN.{length, length-append}
 use borrow.Author.Tests.{le-ltb, ltb-false, leb-true, leb-false}
 use Rattle.text.specs.Bytes.{sameBytes}
 use Rattle.text.specs.Sizes.{nameLimit, coreLimit}
+use Rattle.text.specs.Lists.{any}
 use Rattle.text.proofs.Bools.{is-false}
-use Rattle.rules.specs.Lists.{any, only, keep, oneIf, addUnless, addNew, addAll}
+use Rattle.rules.specs.Lists.{only, keep, oneIf, addUnless, addNew, addAll}
 use Rattle.rules.specs.Words.{core}
 use Rattle.rules.specs.Event.{Event, instanceOf}
 use Rattle.rules.specs.History.{named, names, kindOf, isKind, cores, instances, entries, hasEntry}

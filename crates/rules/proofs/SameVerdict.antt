@@ -9,8 +9,9 @@ use lib.Dec.{leb, ltb}
 use lib.ListN.{length, length-append}
 use borrow.Author.Tests.{ltb-false, leb-true}
 use Rattle.text.specs.Sizes.{nameLimit, coreLimit}
+use Rattle.text.specs.Lists.{any}
 use Rattle.text.proofs.Bools.{is-false}
-use Rattle.rules.specs.Lists.{any, ifZero}
+use Rattle.rules.specs.Lists.{ifZero}
 use Rattle.rules.specs.Limits.{instanceLimit}
 use Rattle.rules.specs.First.{firstRefusal}
 use Rattle.rules.specs.Event.{Event, sameInstance, instanceOf}

@@ -7,7 +7,8 @@ use mathlib.Core.List.{List, [], _∷_}
 use Prim.Native.Nat.{ℕ}
 use lib.Dec.{eqb}
 use borrow.Author.Tests.{eqb-true, not-false}
-use Rattle.rules.specs.Lists.{any, keep, orElse, latest, earliest, addAll}
+use Rattle.text.specs.Lists.{any}
+use Rattle.rules.specs.Lists.{keep, orElse, latest, earliest, addAll}
 use Rattle.rules.specs.Words.{semaphore}
 use Rattle.rules.specs.Chart.{Step, stepFor, entered}
 use Rattle.rules.specs.Charts.{isProcess, chartOf}

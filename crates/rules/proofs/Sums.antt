@@ -6,25 +6,19 @@ use Prim.Native.Nat.{ℕ, _+_, _*_, _≤_, _<_}
 use native.Mathlib.Nat.{suc-mul}
 use native.Mathlib.Omega.{arith}
 use lib.ListN.{length}
+use Rattle.text.specs.Lists.{any, sumOver}
 use Rattle.text.proofs.Bools.{clash}
-use Rattle.rules.specs.Lists.{any, only, keep, sumOver, oneIf, addUnless, addNew, addAll}
+use Rattle.text.proofs.Lists.{sum-cong, sum-add}
+use Rattle.rules.specs.Lists.{only, keep, oneIf, addUnless, addNew, addAll}
 
 or-false : (a b : Bool) → b ≡ false → a || (b || false) ≡ a
 or-false true b q = refl
 or-false false b q = rw q
 
 module _ {A : Type 0} where
-  pub sum-cong : (f g : A → ℕ) (xs : List A) → ((x : A) → f x ≡ g x) → sumOver f xs ≡ sumOver g xs
-  sum-cong f g [] q = refl
-  sum-cong f g (x ∷ xs) q = omega (arith, q x, sum-cong f g xs q)
-
   pub sum-zero : (xs : List A) → sumOver (λ (x : A). 0) xs ≡ 0
   sum-zero [] = refl
   sum-zero (x ∷ xs) = omega (arith, sum-zero xs)
-
-  pub sum-add : (f g : A → ℕ) (xs : List A) → sumOver (λ x. f x + g x) xs ≡ sumOver f xs + sumOver g xs
-  sum-add f g [] = refl
-  sum-add f g (x ∷ xs) = omega (arith, sum-add f g xs)
 
   pub sum-at-most : (f : A → ℕ) (m : ℕ) (xs : List A) → ((x : A) → f x ≤ m) → sumOver f xs ≤ length xs * m
   sum-at-most f m [] q = omega arith

@@ -7,6 +7,7 @@ use mathlib.Core.List.{[], _∷_}
 use Prim.Native.Nat.{ℕ}
 use lib.Dec.{eqb}
 use borrow.Author.Tests.{eqb-true, not-true}
+use Rattle.text.specs.Lists.{all}
 use Rattle.line.specs.Answer.{test, lowest}
 use Rattle.rules.specs.Lists.{member}
 use Rattle.rules.specs.Words.{task, interrupt, runnable, activate, mtalimitexceeded, start, TERMINATED}
@@ -17,7 +18,7 @@ use Rattle.rules.specs.Core.{takes, gives, keeps, onCore}
 use Rattle.rules.specs.History.{hasInstances, activates, reaches}
 use Rattle.rules.specs.Refusals.{Known, exceedsLimit, offChart, neverActivated, notAllowed, notNext, coreBroken, countBroken}
 use Rattle.rules.proofs.Tests.{both, clash}
-use Rattle.rules.proofs.CoreWords.{every, of-member, of-step, beq-true, isStep}
+use Rattle.rules.proofs.CoreWords.{of-member, of-step, beq-true, isStep}
 
 -- ---- the three kinds that have instances
 
@@ -37,9 +38,9 @@ ends k r =
     Bool·beq (leaves r TERMINATED) (activates k (r .word))
     && (not (activates k (r .word)) || Bool·beq (eqb (r .enters) TERMINATED) (exceedsLimit k (r .word)))
 
-charts-end : (k : ℕ) → hasInstances k ≡ true → every (ends k) (chartOf k) ≡ true
-unfolding every ends chartOf isProcess processChart runnableChart activates exceedsLimit
-charts-end = of-kinds (λ k. every (ends k) (chartOf k) ≡ true) refl refl refl
+charts-end : (k : ℕ) → hasInstances k ≡ true → all (ends k) (chartOf k) ≡ true
+unfolding ends chartOf isProcess processChart runnableChart activates exceedsLimit
+charts-end = of-kinds (λ k. all (ends k) (chartOf k) ≡ true) refl refl refl
 
 step-ends : (k a : ℕ) (r : Step) → hasInstances k ≡ true → stepFor (chartOf k) a ≡ some r →
     (leaves r TERMINATED ≡ activates k a) × (not (activates k a) || Bool·beq (eqb (r .enters) TERMINATED) (exceedsLimit k a) ≡ true)
@@ -70,7 +71,7 @@ exceeding-activates k a q = let r = both (isProcess k) _ q in rw (r .0, eqb-true
 
 -- and not on a core
 pub activation-off-core : (e : Event) → activates (e .kind) (e .word) ≡ true → onCore e ≡ false
-unfolding activates onCore takes gives keeps every isProcess
+unfolding activates onCore takes gives keeps isProcess
 activation-off-core e t = by-kind (isProcess (e .kind)) refl (eqb (e .kind) runnable) refl t
   where
     offCore : ℕ → Bool

@@ -5,7 +5,8 @@ use mathlib.Core.Option.{Option, none, some}
 use mathlib.Core.List.{List, [], _∷_}
 use Prim.Native.Nat.{ℕ}
 use lib.Dec.{eqb}
-use Rattle.rules.specs.Lists.{any, member, latest, when}
+use Rattle.text.specs.Lists.{any}
+use Rattle.rules.specs.Lists.{member, latest, when}
 
 -- A step: the event word, the state that it leaves (or one of the others), and the state that it enters.
 pub record Step : Type 0 where

@@ -5,7 +5,8 @@ use mathlib.Core.List.{List, [], _∷_}
 use Prim.Native.Nat.{ℕ}
 use lib.Dec.{eqb, leb}
 use Rattle.text.specs.Bytes.{sameBytes}
-use Rattle.rules.specs.Lists.{any, member, only, keep, when, orElse, latest, earliest, addAll}
+use Rattle.text.specs.Lists.{any}
+use Rattle.rules.specs.Lists.{member, only, keep, when, orElse, latest, earliest, addAll}
 use Rattle.rules.specs.Words.{core, runnable, semaphore, activate, mtalimitexceeded, start, TERMINATED}
 use Rattle.rules.specs.Charts.{isProcess}
 use Rattle.rules.specs.Event.{Event, Instance, sameInstance, instanceOf, stateOf}

@@ -9,7 +9,8 @@ use lib.Dec.{eqb}
 use lib.ListN.{length}
 use Rattle.text.specs.Bytes.{sameBytes}
 use Rattle.text.specs.Sizes.{nameLimit, coreLimit}
-use Rattle.rules.specs.Lists.{any, only}
+use Rattle.text.specs.Lists.{any}
+use Rattle.rules.specs.Lists.{only}
 use Rattle.rules.specs.Words.{core, semaphore}
 use Rattle.rules.specs.Limits.{instanceLimit}
 use Rattle.rules.specs.Chart.{Run}

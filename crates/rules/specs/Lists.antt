@@ -1,10 +1,10 @@
 -- A few functions on lists and on what may be missing.
-use Prim.Native.Nat.{ℕ, zero, suc, _+_}
+use Prim.Native.Nat.{ℕ, zero, suc}
 use mathlib.Core.Bool.{Bool, true, false}
 use mathlib.Core.Option.{Option, none, some}
 use mathlib.Core.List.{List, [], _∷_, _++_}
 use lib.Dec.{eqb}
-pub use Rattle.words.specs.Named.{any}
+use Rattle.text.specs.Lists.{any}
 
 abbrev pub oneIf : Bool → ℕ
 oneIf true = 1
@@ -33,10 +33,6 @@ module _ {A : Type 0} where
   abbrev pub only : (A → Bool) → List A → List A
   only f [] = []
   only f (x ∷ xs) = keep (f x) x (only f xs)
-
-  abbrev pub sumOver : (A → ℕ) → List A → ℕ
-  sumOver f [] = 0
-  sumOver f (x ∷ xs) = f x + sumOver f xs
 
   -- the list with each of the others that it lacks added at its end
   abbrev pub addUnless : Bool → List A → A → List A

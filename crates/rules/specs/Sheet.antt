@@ -2,8 +2,9 @@
 use mathlib.Core.List.{List, [], _∷_}
 use Prim.Native.Nat.{ℕ, _+_, _-_, _*_}
 use Rattle.text.specs.Bytes.{sameBytes}
+use Rattle.text.specs.Lists.{sumOver}
 use Rattle.bill.specs.Rows.{Row, Sheet}
-use Rattle.rules.specs.Lists.{sumOver, oneIf}
+use Rattle.rules.specs.Lists.{oneIf}
 use Rattle.rules.specs.Event.{Event}
 use Rattle.rules.specs.Core.{Core, unknown, idle, held, coreAt}
 use Rattle.rules.specs.History.{cores, processes}

@@ -7,6 +7,7 @@ use mathlib.Core.List.{List, [], _∷_}
 use Prim.Native.Nat.{ℕ, _+_}
 use lib.Dec.{eqb, leb}
 use lib.ListN.{length}
+use Rattle.text.specs.Lists.{any}
 use Rattle.line.specs.declared.reading.Reading.{Reading}
 use Rattle.line.specs.declared.reading.Reading.the-variants.{Version, Comment, TimeScale, Creator, CreationDate, EventLine, Refused}
 use Rattle.line.specs.Answer.{Test, test, lowest}
@@ -15,7 +16,7 @@ use Rattle.line.specs.Reading.{isEventLine, readLine}
 use Rattle.line.specs.Condition.{isScale, refuses1, refuses3, refuses5, refuses6, refuses7}
 use Rattle.bill.specs.Scale.{scaleNumber}
 use Rattle.rules.specs.declared.place.Place.{Place}
-use Rattle.rules.specs.Lists.{any, latest, ifZero}
+use Rattle.rules.specs.Lists.{latest, ifZero}
 use Rattle.rules.specs.First.{AllTaken, takenOf, firstRefusal}
 use Rattle.rules.specs.Event.{Event}
 use Rattle.rules.specs.Lines.{eventOfLine, eventsOf}

@@ -8,10 +8,11 @@ use lib.Dec.{ltb}
 use lib.ListN.{length}
 use borrow.Author.Tests.{ltb-false, le-ltb, not-false}
 use Rattle.text.specs.Name.{isName}
+use Rattle.text.specs.Lists.{any}
 use Rattle.text.proofs.Bools.{or-l, or-r}
 use Rattle.bill.specs.Rows.{Row, allNamed}
 use Rattle.sorting.specs.Order.{Name, order, isSame}
-use Rattle.sorting.specs.Sets.{any, twice, itself, sorted, rising}
+use Rattle.sorting.specs.Sets.{twice, itself, sorted, rising}
 use Rattle.sorting.proofs.Sets.{any-sorted}
 use Rattle.sorting.proofs.Rising.{twice-sorted, rising-sorted}
 use Rattle.sorting.proofs.Counts.{sorted-most-two}

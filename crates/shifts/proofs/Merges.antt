@@ -5,12 +5,13 @@ use mathlib.Core.List.{List, [], _∷_, _++_}
 use Prim.Native.Nat.{ℕ, _+_, _<_}
 use native.Mathlib.Omega.{arith}
 use lib.ListN.{length, drop}
+use Rattle.text.specs.Lists.{any}
 use Rattle.text.proofs.Bools.{or-l, or-r, and-l, and-r}
 use Rattle.bill.specs.Rows.{Row}
 use Rattle.sorting.specs.declared.order.Order.{Order}
 use Rattle.sorting.specs.declared.order.Order.the-variants.{Less, Same, More}
 use Rattle.sorting.specs.Order.{Name, order, isLess}
-use Rattle.sorting.specs.Sets.{any, has, insertBy, gatherBy, insert, gather, sorted, under, rising}
+use Rattle.sorting.specs.Sets.{has, insertBy, gatherBy, insert, gather, sorted, under, rising}
 use Rattle.sorting.proofs.Orders.{order-self, order-same, order-less}
 use Rattle.sorting.proofs.Sets.{at-less, turn, insert-again, gather-insert, gather-append, sorted-two, any-sorted}
 use Rattle.sorting.proofs.Rising.{is-less}

@@ -8,10 +8,10 @@ use lib.Dec.{ltb}
 use lib.ListN.{length}
 use borrow.Author.Tests.{le-ltb}
 use Rattle.text.specs.Sizes.{maxTime, coreLimit}
+use Rattle.text.specs.Lists.{any}
 use Rattle.text.proofs.Bools.{or-l, or-r}
 use Rattle.bill.specs.Rows.{Row}
 use Rattle.bill.specs.Reading.{Bill}
-use Rattle.sorting.specs.Sets.{any}
 use Rattle.shifts.specs.Sound.{total, first, firsts, notCount, notTotal, someRow}
 use Rattle.shifts.proofs.Fine.{Fine, equal, few-cores}
 

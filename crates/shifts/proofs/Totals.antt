@@ -4,11 +4,13 @@ use mathlib.Core.Bool.{Bool, true, false, _||_}
 use mathlib.Core.List.{List, [], _∷_, _++_}
 use Prim.Native.Nat.{ℕ, _+_}
 use native.Mathlib.Omega.{arith}
+use Rattle.text.specs.Lists.{any, sumOver}
 use Rattle.text.proofs.Bools.{or-l, or-r}
+use Rattle.text.proofs.Lists.{sum-cong, sum-add}
 use Rattle.bill.specs.Rows.{Row}
 use Rattle.bill.specs.Reading.{Bill}
 use Rattle.sorting.specs.Order.{Name, order, isSame}
-use Rattle.sorting.specs.Sets.{any, sumOver, has, meets, twice, sorted, rising}
+use Rattle.sorting.specs.Sets.{has, meets, twice, sorted, rising}
 use Rattle.sorting.proofs.Sets.{sorted-two, any-sorted}
 use Rattle.sorting.proofs.Rising.{sum-beside}
 use Rattle.shifts.specs.Sound.{names, first, firsts}
@@ -25,10 +27,6 @@ unfolding rowsOf
 firsts-rows f [] = refl
 firsts-rows f (n ∷ ns) = ap (λ (k : ℕ). first (f n) + k) (firsts-rows f ns)
 
-sum-two : (f g : Name → ℕ) (ns : List Name) → sumOver (λ n. f n + g n) ns ≡ sumOver f ns + sumOver g ns
-sum-two f g [] = refl
-sum-two f g (n ∷ ns) = omega (arith, sum-two f g ns)
-
 -- a section's own, over the names of both
 own-firsts : (d : List ℕ) (rs qs : List Row) → first d ≡ 0 → twice (names rs) ≡ false →
     sumOver (λ n. first (figuresOf d rs n)) (sorted (names rs ++ names qs)) ≡ firsts rs
@@ -41,8 +39,8 @@ firsts-add : (x y : List ℕ) (rs qs : List Row) → first x ≡ 0 → first y �
 unfolding addRows
 firsts-add x y rs qs zx zy e f =
     firsts-rows (λ n. plus (figuresOf x rs n) (figuresOf y qs n)) ns
-    ∙ ap (λ (g : Name → ℕ). sumOver g ns) (fun-ext (λ n. plus-first (figuresOf x rs n) (figuresOf y qs n)))
-    ∙ sum-two (λ n. first (figuresOf x rs n)) (λ n. first (figuresOf y qs n)) ns
+    ∙ sum-cong _ _ ns (λ n. plus-first (figuresOf x rs n) (figuresOf y qs n))
+    ∙ sum-add (λ n. first (figuresOf x rs n)) (λ n. first (figuresOf y qs n)) ns
     ∙ ap₂ _+_ (own-firsts x rs qs zx e) (ap (sumOver (λ n. first (figuresOf y qs n))) (sorted-two (names rs) (names qs)) ∙ own-firsts y qs rs zy f)
   where
     ns : List Name

@@ -1,15 +1,16 @@
 -- Which sheets may be added. 02, No. 2: "malformed, or a core's three figures not making the span, or charges not making all held ticks".
-use mathlib.Core.Bool.{Bool, false, not, _||_, cond}
+use mathlib.Core.Bool.{Bool, not, _||_, cond}
 use mathlib.Core.List.{List, [], _∷_}
 use mathlib.Core.Option.{Option, none, some}
 use Prim.Native.Nat.{ℕ, _+_}
 use lib.Dec.{eqb, leb, ltb}
 use lib.ListN.{length}
 use Rattle.text.specs.Sizes.{maxTime, nameLimit, coreLimit}
+use Rattle.text.specs.Lists.{any, sumOver}
 use Rattle.bill.specs.Rows.{Row, Sheet, allNamed}
 use Rattle.bill.specs.Reading.{Bill, readSheet}
 use Rattle.sorting.specs.Order.{Name}
-use Rattle.sorting.specs.Sets.{any, sumOver, meets, twice}
+use Rattle.sorting.specs.Sets.{meets, twice}
 
 unfoldable pub names : List Row → List Name
 names [] = []
@@ -59,8 +60,7 @@ sumTests b =
     ∷ not (eqb (firsts (b .sheet .cores)) (firsts (b .sheet .processes))) ∷ []
 
 abbrev pub anyOf : List Bool → Bool
-anyOf [] = false
-anyOf (b ∷ bs) = b || anyOf bs
+anyOf = any (λ b. b)
 
 unfoldable pub malformed : Bill → Bool
 malformed b = anyOf (shapeTests b)

@@ -5,11 +5,12 @@ use mathlib.Core.Bool.{Bool, true, false}
 use mathlib.Core.List.{List, [], _∷_, map}
 use native.Mathlib.Omega.{arith}
 use lib.ListN.{length, length-map}
+use Rattle.text.specs.Lists.{all, sumOver}
 use Rattle.text.proofs.Bools.{and-l, and-r}
 use Rattle.sorting.specs.declared.order.Order.{Order}
 use Rattle.sorting.specs.declared.order.Order.the-variants.{Less, Same, More}
 use Rattle.sorting.specs.Order.{Name, order, isSame}
-use Rattle.sorting.specs.Sets.{all, sumOver, has, twice, place, insertBy, gatherBy, sortedBy, itself, insert, sorted, rising}
+use Rattle.sorting.specs.Sets.{has, twice, place, insertBy, gatherBy, sortedBy, itself, insert, sorted, rising}
 use Rattle.sorting.proofs.Sets.{any-alone}
 use Rattle.sorting.proofs.Rising.{sum-sorted, rising-sorted}
 

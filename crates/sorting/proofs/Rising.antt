@@ -5,11 +5,12 @@ use mathlib.Core.List.{List, [], _∷_, _++_}
 use Prim.Native.Nat.{ℕ, _+_, _≤_}
 use native.Mathlib.Omega.{arith}
 use lib.ListN.{length}
+use Rattle.text.specs.Lists.{sumOver}
 use Rattle.text.proofs.Bools.{or-l, or-r, and-l, and-r}
 use Rattle.sorting.specs.declared.order.Order.{Order}
 use Rattle.sorting.specs.declared.order.Order.the-variants.{Less, Same, More}
 use Rattle.sorting.specs.Order.{Name, order, isSame, isLess}
-use Rattle.sorting.specs.Sets.{sumOver, has, twice, insertBy, gatherBy, insert, gather, sorted, under, rising}
+use Rattle.sorting.specs.Sets.{has, twice, insertBy, gatherBy, insert, gather, sorted, under, rising}
 use Rattle.sorting.proofs.Sets.{turn, at-less, gather-insert, gather-two, gather-append, any-insert, any-gather, has-insert}
 
 -- ---- a sum with one name more

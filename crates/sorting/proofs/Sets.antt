@@ -3,10 +3,11 @@
 use mathlib.Core.Path.{_≡_, refl, sym, ap, _∙_}
 use mathlib.Core.Bool.{Bool, true, false, _||_, or-false}
 use mathlib.Core.List.{List, [], _∷_, _++_, append-assoc}
+use Rattle.text.specs.Lists.{any}
 use Rattle.sorting.specs.declared.order.Order.{Order}
 use Rattle.sorting.specs.declared.order.Order.the-variants.{Less, Same, More}
 use Rattle.sorting.specs.Order.{Name, order, isSame}
-use Rattle.sorting.specs.Sets.{any, has, insertBy, gatherBy, insert, gather, sorted}
+use Rattle.sorting.specs.Sets.{has, insertBy, gatherBy, insert, gather, sorted}
 use Rattle.sorting.proofs.Orders.{turned, order-turned, order-self, order-same, order-less}
 
 -- ---- one name

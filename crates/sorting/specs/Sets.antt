@@ -1,22 +1,11 @@
 -- Lists of names, and things sorted by their names, each name once.
 use mathlib.Core.Bool.{Bool, true, false, _&&_, _||_, cond}
 use mathlib.Core.List.{List, [], _∷_}
-use Prim.Native.Nat.{ℕ, zero, suc, _+_}
+use Prim.Native.Nat.{ℕ, zero, suc}
+use Rattle.text.specs.Lists.{any}
 use Rattle.sorting.specs.declared.order.Order.{Order}
 use Rattle.sorting.specs.declared.order.Order.the-variants.{Less, Same, More}
 use Rattle.sorting.specs.Order.{Name, order, isSame, isLess}
-
-abbrev pub any : {A : Type 0} → (A → Bool) → List A → Bool
-any p [] = false
-any p (x ∷ xs) = p x || any p xs
-
-abbrev pub all : {A : Type 0} → (A → Bool) → List A → Bool
-all p [] = true
-all p (x ∷ xs) = p x && all p xs
-
-abbrev pub sumOver : {A : Type 0} → (A → ℕ) → List A → ℕ
-sumOver f [] = 0
-sumOver f (x ∷ xs) = f x + sumOver f xs
 
 abbrev pub has : Name → List Name → Bool
 has n = any (λ m. isSame (order n m))

@@ -1,9 +1,10 @@
 -- What holds of every event: one test computed over the list of all 38, and a law that turns it into the rule at each.
 use mathlib.Core.Path.{_≡_, refl, sym, ap, _∙_}
-use mathlib.Core.Bool.{Bool, true, _&&_}
+use mathlib.Core.Bool.{Bool, true}
 use mathlib.Core.List.{List, [], _∷_}
 use Prim.Native.Nat.{ℕ, zero, suc}
 use lib.ListN.{getD}
+use Rattle.text.specs.Lists.{all}
 use Rattle.text.proofs.Bools.{and-l, and-r}
 use Rattle.words.specs.declared.action.Action.{Action}
 use Rattle.words.specs.declared.action.Action.the-variants.{
@@ -90,10 +91,6 @@ actions =
     ∷ Used
     ∷ Waiting
     ∷ []
-
-abbrev pub all : (Action → Bool) → List Action → Bool
-all f [] = true
-all f (a ∷ rest) = f a && all f rest
 
 -- an event stands in the list at its code
 place : (a : Action) → getD actions (actionCode a) Trigger ≡ a

@@ -5,13 +5,14 @@ use mathlib.Core.List.{List, [], _∷_}
 use Prim.Native.Nat.{ℕ, zero, suc, _≤_, _<_}
 use native.Mathlib.Omega.{arith}
 use lib.ListN.{length, getD}
+use Rattle.text.specs.Lists.{all}
 use Rattle.words.specs.declared.kind.Kind.{Kind}
 use Rattle.words.specs.declared.kind.Kind.the-variants.{Stimulus, Task, Interrupt, Runnable, Scheduler, OsEvent, Signal, Semaphore}
 use Rattle.words.specs.declared.action.Action.{Action}
 use Rattle.words.specs.Code.{waiting}
 use Rattle.words.specs.Action.{actionCode, actionsOf, among, isOf}
 use Rattle.words.specs.Class.{no-class, classes, classAt, classOf, classIsOf}
-use Rattle.words.proofs.Actions.{actions, all, every}
+use Rattle.words.proofs.Actions.{actions, every}
 
 -- two tests give the same answer
 abbrev pub agree : Bool → Bool → Bool

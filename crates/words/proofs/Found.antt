@@ -9,6 +9,7 @@ use lib.ListN.{length}
 use borrow.Author.Tests.{eq-eqb, eqb-true, leb-true}
 use Rattle.text.specs.Bytes.{sameBytes}
 use Rattle.text.specs.Name.{isNameByte, allNameBytes, isName}
+use Rattle.text.specs.Lists.{all}
 use Rattle.text.proofs.Words.{same-eq}
 use Rattle.words.specs.declared.kind.Kind.{Kind}
 use Rattle.words.specs.declared.kind.Kind.the-variants.{Stimulus, Task, Interrupt, Runnable, Scheduler, OsEvent, Signal, Semaphore}
@@ -22,7 +23,7 @@ use Rattle.words.specs.Named.{pick, firstNamed}
 use Rattle.words.specs.Kind.{kindWord, kinds, kindOf}
 use Rattle.words.specs.Action.{wordOf, actionCode, actionsOf, actionOf, among, isOf}
 use Rattle.words.specs.Pair.{pairAs, pairWith, namedBy}
-use Rattle.words.proofs.Actions.{actions, all, every, one-code}
+use Rattle.words.proofs.Actions.{actions, every, one-code}
 use Rattle.words.proofs.Classes.{agree, agreed}
 
 -- ---- the first thing of a list whose word bytes are: what holds where none is found, and of each thing that has these bytes for its word

@@ -4,6 +4,7 @@ use mathlib.Core.Bool.{Bool}
 use mathlib.Core.List.{List, [], _∷_, _++_}
 use lib.Dec.{eqb}
 use Rattle.text.specs.Literal.{bytes}
+use Rattle.text.specs.Lists.{any}
 use Rattle.words.specs.declared.kind.Kind.{Kind}
 use Rattle.words.specs.declared.kind.Kind.the-variants.{Stimulus, Task, Interrupt, Runnable, Scheduler, OsEvent, Signal, Semaphore}
 use Rattle.words.specs.declared.action.Action.{Action}
@@ -49,7 +50,7 @@ use Rattle.words.specs.declared.action.Action.the-variants.{
 }
 use Rattle.words.specs.declared.action.ActionFound.{ActionFound}
 use Rattle.words.specs.declared.action.ActionFound.the-variants.{ThisAction, NoAction}
-use Rattle.words.specs.Named.{firstNamed, any}
+use Rattle.words.specs.Named.{firstNamed}
 use Rattle.words.specs.Code.{
   trigger,
   activate,

@@ -1,6 +1,6 @@
 -- Words of fixed lists: the first thing of a list whose word the bytes are.
 use Prim.Native.Nat.{ℕ}
-use mathlib.Core.Bool.{Bool, true, false, _||_}
+use mathlib.Core.Bool.{Bool, true, false}
 use mathlib.Core.List.{List, [], _∷_}
 use Rattle.text.specs.Bytes.{sameBytes}
 
@@ -16,9 +16,3 @@ module _ {A B : Type 0} where
   abbrev pub firstNamed : (A → List ℕ) → (A → B) → List A → B → List ℕ → B
   firstNamed word found [] other s = other
   firstNamed word found (x ∷ xs) other s = pick (sameBytes s (word x)) (found x) (firstNamed word found xs other s)
-
-module _ {A : Type 0} where
-  -- some element passes the test
-  abbrev pub any : (A → Bool) → List A → Bool
-  any f [] = false
-  any f (x ∷ xs) = f x || any f xs
