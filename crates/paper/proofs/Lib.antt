@@ -3,3 +3,4 @@ pub mod Numbers
 pub mod LineWalk
 pub mod Heads
 pub mod RowTests
+pub mod Tight
