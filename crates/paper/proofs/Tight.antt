@@ -36,17 +36,17 @@ lines (text, p) = lineFrom text p
 pub line-at-unique : (text : Text) (p : ℕ) (x y : Text) → x ≡ lineFrom text p → y ≡ lineFrom text p → x ≡ y
 line-at-unique text = unique (lineFrom text)
 
-abbrev two-rows : Text
-two-rows = bytes "a 7" ++ 10 ∷ bytes "bc 89" ++ 10 ∷ bytes "d 1"
+abbrev three-rows : Text
+three-rows = bytes "a 7" ++ 10 ∷ bytes "bc 89" ++ 10 ∷ bytes "d 1"
 
 -- with the byte 10 that ends it
 pub line-at-not-with-its-end : ShutsOut lines (λ (text, p). take (toByte 10 (drop p text) + 1) (drop p text))
 unfolding lineFrom toByte
-line-at-not-with-its-end = shut-out (λ l. eqb (length l) 5) (two-rows, 4) refl refl
+line-at-not-with-its-end = shut-out (λ l. eqb (length l) 5) (three-rows, 4) refl refl
 
 pub line-at-not-from-the-front : ShutsOut lines (λ (text, p). lineFrom text 0)
 unfolding lineFrom toByte
-line-at-not-from-the-front = shut-out (λ l. eqb (length l) 5) (two-rows, 4) refl refl
+line-at-not-from-the-front = shut-out (λ l. eqb (length l) 5) (three-rows, 4) refl refl
 
 -- ---- `name_at`
 
@@ -58,12 +58,12 @@ name-at-unique text = unique (nameAt text)
 
 pub name-at-not-the-line : ShutsOut rowNames lines
 unfolding lineFrom toByte rowFrom pieces sameBytes
-name-at-not-the-line = shut-out (sameBytes (bytes "bc")) (two-rows, 4) refl refl
+name-at-not-the-line = shut-out (sameBytes (bytes "bc")) (three-rows, 4) refl refl
 
 -- words counted from 1
 pub name-at-not-the-second : ShutsOut rowNames (λ (text, p). wordOf (lineFrom text p) 1)
 unfolding lineFrom toByte rowFrom pieces sameBytes
-name-at-not-the-second = shut-out (sameBytes (bytes "bc")) (two-rows, 4) refl refl
+name-at-not-the-second = shut-out (sameBytes (bytes "bc")) (three-rows, 4) refl refl
 
 -- ---- `amount`
 

@@ -27,7 +27,7 @@ abbrev less-told : tie.After-none-for → tie.After-enum-told
 less-told c = c .before .before .before
 
 sum-less : tie.Need-sum-of-requires
-sum-less c κs = (read-small _ _ (c .before .figures-at .ensures), none-small _ (less (less-told c) .pre .second-span) (c .none-for .ensures))
+sum-less c κs = (read-small _ _ (c .before .figures-at .ensures), none-small _ (search needs) (c .none-for .ensures))
 
 row-less : (c : tie.After-name-at)
     → let s = less (less-told (c .before .before)) in rowWith (s .args .section) (c .name-at .result .now) (c .before .sum-of .result) ≡ next (s .pre)
@@ -94,7 +94,7 @@ abbrev more-told : tie.After-figures-at4 → tie.After-enum-told3
 more-told c = c .before .before .before
 
 sum-more : tie.Need-sum-of-requires-3
-sum-more c κs = (none-small _ (more (more-told c) .pre .first-span) (c .before .none-for2 .ensures), read-small _ _ (c .figures-at4 .ensures))
+sum-more c κs = (none-small _ (search needs) (c .before .none-for2 .ensures), read-small _ _ (c .figures-at4 .ensures))
 
 row-more : (c : tie.After-name-at3)
     → let s = more (more-told (c .before .before)) in rowWith (s .args .section) (c .name-at3 .result .now) (c .before .sum-of3 .result) ≡ next (s .pre)

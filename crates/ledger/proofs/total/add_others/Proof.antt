@@ -38,13 +38,13 @@ refused : tie.Need-returns Inv-loop μ-loop
 refused c =
     let p = stepped (c .before .before .before) in
     let inv = turn p .before .loop .inv in
-    (tt, (turn p .loop-test .taken, (refuses-next _ (inv .0) (inv .4) _ (p .one-more .ensures) (c .before .step2 .given .1), refl)))
+    (tt, (search needs, (refuses-next _ (inv .0) (inv .4) _ (p .one-more .ensures) (c .before .step2 .given .1), refl)))
 
 unread : tie.Need-returns-2 Inv-loop μ-loop
 unread c =
     let p = stepped (c .before .before) in
     let inv = turn p .before .loop .inv in
-    (tt, (turn p .loop-test .taken, (unread-next _ (inv .0) (inv .4), refl)))
+    (tt, (search needs, (unread-next _ (inv .0) (inv .4), refl)))
 
 again : tie.Need-loop-again Inv-loop μ-loop
 again c =
