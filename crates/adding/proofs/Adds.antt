@@ -1,30 +1,30 @@
 -- Two sheets that were read, of which 22 and 23 don't hold: what their merged rows come to is the sum, or its refusal.
 use mathlib.Core.Path.{_≡_, refl, sym, ap, _∙_}
-use mathlib.Core.Bool.{Bool, true, false, not, _||_, cond}
-use mathlib.Core.List.{List, [], _∷_, _++_}
-use mathlib.Core.Option.{some}
+use mathlib.Core.Bool.{true, false}
+use mathlib.Core.List.{List}
 use Prim.Native.Nat.{ℕ, zero, suc, _+_, _≤_, _<_}
 use native.Mathlib.Omega.{arith}
-use lib.Dec.{eqb, ltb}
+use lib.Dec.{eqb}
 use lib.ListN.{length}
 use Rattle.text.specs.Sizes.{maxTime}
 use Rattle.bill.specs.declared.section.Section.{Section}
 use Rattle.bill.specs.declared.section.Section.the-variants.{Cores, Processes}
 use Rattle.bill.specs.Rows.{Row}
-use Rattle.bill.specs.Text.{rowsText, sectionText, sheetText, title}
+use Rattle.bill.specs.Text.{rowsText, sectionText, sheetText}
 use Rattle.bill.specs.Reading.{Bill, billText}
 use Rattle.sorting.specs.Sets.{twice, sortedBy}
-use Rattle.shifts.specs.Sound.{names, tooMany, soundSheet}
-use Rattle.shifts.specs.Sum.{byName, noCore, noProcess, sum, clash, refusal, Text, Refusal, totalBy, addSound, addTexts}
+use Rattle.shifts.specs.Sound.{names, tooMany}
+use Rattle.shifts.specs.Sum.{byName, noCore, noProcess, sum, clash, refusal, Text, totalBy}
 use Rattle.shifts.proofs.Fine.{Fine, few-names, sound-is}
 use Rattle.shifts.proofs.SortedRows.{add-sorted}
 use Rattle.shifts.proofs.Sizes.{core-rows-most, process-rows-most}
 use Rattle.shifts.proofs.AddedRows.{count-add}
-use Rattle.adding.specs.declared.add.Sum.the-variants.{Added, Refused}
-use Rattle.adding.specs.declared.sheet.Form.{Form}
+use Rattle.adding.specs.declared.add.Sum.the-variants.{Refused}
+use Rattle.adding.specs.declared.sheet.Sheet.{Sheet}
 use Rattle.adding.specs.Adding.{summed, intoOutput, addInto}
-use Rattle.adding.specs.MergeCode.{rowsAt, sumRows, InOrder, Merging}
-use Rattle.adding.specs.AddCode.{countedText, madeText, ownRefusal, Paired}
+use Rattle.adding.specs.MergeCode.{sumRows, Merging}
+use Rattle.adding.specs.SheetCode.{rowsIn, placesOf, Booked}
+use Rattle.adding.specs.AddCode.{countedText, madeText, ownRefusal, Paired, sumsOf, roomOf}
 use Rattle.adding.proofs.Pairs.{comes-to}
 
 -- rows in order, added, are the rows added
@@ -50,12 +50,12 @@ refused-as : (n : ℕ) (b : Bill) (out : List ℕ) → (n ≡ 0 → ⊥) → sum
 refused-as zero b out h = absurd (h refl)
 refused-as (suc n) b out h = refl
 
-module _ {s : List ℕ} {f : Form} {sc sp t : List ℕ} {g : Form} {tc tp : List ℕ} (p : Paired s f sc sp t g tc tp) where
+module _ {s : List ℕ} {x : Sheet} {t : List ℕ} {y : Sheet} (p : Paired s x t y) where
   abbrev first : Bill
-  first = p .both .a
+  first = p .both .first .bill
 
   abbrev second : Bill
-  second = p .both .b
+  second = p .both .second .bill
 
   fine-first : Fine first
   fine-first = sound-is s first (p .both .first .sound) .1
@@ -63,59 +63,56 @@ module _ {s : List ℕ} {f : Form} {sc sp t : List ℕ} {g : Form} {tc tp : List
   fine-second : Fine second
   fine-second = sound-is t second (p .both .second .sound) .1
 
-  cores-merged : sumRows Cores (rowsAt s sc) (f .span) (rowsAt t tc) (g .span) ≡ sum first second .sheet .cores
+  sums-merged : (section : Section) → sumsOf section s x t y ≡ rowsIn section (sum first second)
   unfolding sum
-  cores-merged =
-      let u = p .both .first in
-      let v = p .both .second in
-      merged Cores (first .sheet .cores) (second .sheet .cores) (u .core-rows) (v .core-rows) (u .span) (v .span) (fine-first .cores-once) (fine-second .cores-once)
+  sums-merged section = by section
+    where
+      u : Booked s x
+      u = p .both .first
 
-  processes-merged : sumRows Processes (rowsAt s sp) (f .span) (rowsAt t tp) (g .span) ≡ sum first second .sheet .processes
-  unfolding sum
-  processes-merged =
-      let u = p .both .first in
-      let v = p .both .second in
-      merged Processes (first .sheet .processes) (second .sheet .processes) (u .process-rows) (v .process-rows) (u .span) (v .span) (fine-first .processes-once) (fine-second .processes-once)
+      v : Booked t y
+      v = p .both .second
+
+      by : (section : Section) → sumsOf section s x t y ≡ rowsIn section (sum first second)
+      by Cores = merged Cores (first .sheet .cores) (second .sheet .cores) (u .rows Cores) (v .rows Cores) (u .span) (v .span) (fine-first .cores-once) (fine-second .cores-once)
+      by Processes = merged Processes (first .sheet .processes) (second .sheet .processes) (u .rows Processes) (v .rows Processes) (u .span) (v .span) (fine-first .processes-once) (fine-second .processes-once)
 
   -- the spans may be added
-  first-short : f .span ≤ maxTime
+  first-short : x .form .span ≤ maxTime
   first-short = omega (arith, p .both .first .span, fine-first .short)
 
-  second-short : g .span ≤ maxTime
+  second-short : y .form .span ≤ maxTime
   second-short = omega (arith, p .both .second .span, fine-second .short)
 
-  pub spans-fit : f .span + g .span < 18446744073709551616
+  pub spans-fit : x .form .span + y .form .span < 18446744073709551616
   spans-fit = omega (arith, first-short, second-short)
 
   -- there is room for the rows
-  pub cores-merge : Merging Cores s sc (f .span) t tc (g .span) 16384
-  cores-merge = record {
-    first = p .both .first .cores-in-order;
-    second = p .both .second .cores-in-order;
-    first-span = omega (arith, first-short);
-    second-span = omega (arith, second-short);
-    fits = rw cores-merged (core-rows-most first second fine-first fine-second);
-  }
+  rows-room : (section : Section) → length (rowsText (rowsIn section (sum first second))) ≤ roomOf section
+  rows-room Cores = core-rows-most first second fine-first fine-second
+  rows-room Processes = process-rows-most first second fine-first fine-second
 
-  pub processes-merge : Merging Processes s sp (f .span) t tp (g .span) 44032
-  processes-merge = record {
-    first = p .both .first .processes-in-order;
-    second = p .both .second .processes-in-order;
+  pub sums-room : (section : Section) → length (rowsText (sumsOf section s x t y)) ≤ roomOf section
+  sums-room section = rw (sums-merged section) (rows-room section)
+
+  pub merging : (section : Section) {n : ℕ} → n ≡ roomOf section → Merging section s (placesOf section x) (x .form .span) t (placesOf section y) (y .form .span) n
+  merging section e = record {
+    first = p .both .first .in-order section;
+    second = p .both .second .in-order section;
     first-span = omega (arith, first-short);
     second-span = omega (arith, second-short);
-    fits = rw processes-merged (process-rows-most first second fine-first fine-second);
+    fits = rw e (sums-room section);
   }
 
   -- ---- what the merged rows come to
 
   -- k and m count the rows
-  module _ {k m : ℕ} (cores : k ≡ length (sumRows Cores (rowsAt s sc) (f .span) (rowsAt t tc) (g .span)))
-      (processes : m ≡ length (sumRows Processes (rowsAt s sp) (f .span) (rowsAt t tp) (g .span))) where
+  module _ {k m : ℕ} (cores : k ≡ length (sumsOf Cores s x t y)) (processes : m ≡ length (sumsOf Processes s x t y)) where
     k-is : k ≡ length (sum first second .sheet .cores)
-    k-is = cores ∙ ap length cores-merged
+    k-is = cores ∙ ap length (sums-merged Cores)
 
     m-is : m ≡ length (sum first second .sheet .processes)
-    m-is = processes ∙ ap length processes-merged
+    m-is = processes ∙ ap length (sums-merged Processes)
 
     pub few : (k ≤ 512) × (m ≤ 512)
     unfolding sum
@@ -128,28 +125,28 @@ module _ {s : List ℕ} {f : Form} {sc sp t : List ℕ} {g : Form} {tc tp : List
         let b = few-names _ _ (v .few) in
         (omega (arith, k-is), omega (arith, m-is))
 
-    scale-is : f .scale ≡ sum first second .scale
+    scale-is : x .form .scale ≡ sum first second .scale
     unfolding sum
     scale-is = p .both .first .scale
 
-    spans : f .span + g .span ≡ sum first second .sheet .span
+    spans : x .form .span + y .form .span ≡ sum first second .sheet .span
     unfolding sum
     spans = omega (arith, p .both .first .span, p .both .second .span)
 
-    own-is : ownRefusal k m (f .span + g .span) ≡ refusal first second
+    own-is : ownRefusal k m (x .form .span + y .form .span) ≡ refusal first second
     own-is = own-by first second k-is m-is spans (p .one-scale) (p .no-clash)
 
-    pub sum-refused : {n : ℕ} (out : List ℕ) → n ≡ ownRefusal k m (f .span + g .span) → (n ≡ 0 → ⊥) → summed (Refused n) out ≡ addInto s t out
+    pub sum-refused : {n : ℕ} (out : List ℕ) → n ≡ ownRefusal k m (x .form .span + y .form .span) → (n ≡ 0 → ⊥) → summed (Refused n) out ≡ addInto s t out
     unfolding addInto
     sum-refused {n} out e h =
         refused-as n (sum first second) out h ∙ ap (λ r. intoOutput (totalBy r (sum first second)) out) (e ∙ own-is) ∙ ap (λ r. intoOutput r out) (sym (comes-to (p .both)))
 
-    pub sum-made : {u v : List ℕ} (out : List ℕ) → ownRefusal k m (f .span + g .span) ≡ 0
-        → u ≡ rowsText (sumRows Cores (rowsAt s sc) (f .span) (rowsAt t tc) (g .span)) → v ≡ rowsText (sumRows Processes (rowsAt s sp) (f .span) (rowsAt t tp) (g .span))
-        → intoOutput (Text (madeText (f .scale) (f .span + g .span) k u m v)) out ≡ addInto s t out
+    pub sum-made : {u v : List ℕ} (out : List ℕ) → ownRefusal k m (x .form .span + y .form .span) ≡ 0
+        → u ≡ rowsText (sumsOf Cores s x t y) → v ≡ rowsText (sumsOf Processes s x t y)
+        → intoOutput (Text (madeText (x .form .scale) (x .form .span + y .form .span) k u m v)) out ≡ addInto s t out
     unfolding addInto
     sum-made out z e1 e2 =
         ap (λ r. intoOutput (Text r) out)
-        (made-is (sum first second) scale-is spans k-is (e1 ∙ ap rowsText cores-merged) m-is (e2 ∙ ap rowsText processes-merged))
+        (made-is (sum first second) scale-is spans k-is (e1 ∙ ap rowsText (sums-merged Cores)) m-is (e2 ∙ ap rowsText (sums-merged Processes)))
         ∙ ap (λ r. intoOutput (totalBy r (sum first second)) out) (sym z ∙ own-is)
         ∙ ap (λ r. intoOutput r out) (sym (comes-to (p .both)))

@@ -19,11 +19,11 @@ use Rattle.bill.specs.Text.{title}
 use Rattle.bill.specs.Reading.{fromProcesses, atEnd}
 use Rattle.shifts.specs.Sound.{soundSheet}
 use Rattle.paper.specs.declared.head.Head.the-variants.{Line, Other}
-use Rattle.adding.specs.declared.sheet.Form.{Form}
+use Rattle.adding.specs.declared.form.Form.{Form}
 use Rattle.paper.specs.Lines.{lineFrom}
 use Rattle.adding.specs.PlaceCode.{linesMost, fewLines, Placed, Lined}
 use Rattle.paper.specs.Heads.{headOf, countOf}
-use Rattle.adding.specs.SheetCode.{Begun, Formed, FormedAs}
+use Rattle.adding.specs.FormCode.{Begun, Formed, FormedAs}
 use Rattle.adding.proofs.SheetLines.{line-count, line-is, part-is, end-is}
 use Rattle.adding.proofs.SheetTests.{CountTold, count-told, Passing, not-passing}
 

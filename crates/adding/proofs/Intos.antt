@@ -1,5 +1,5 @@
 -- A sum's text and a lent output: one too short is 15, and else the text is written at its front.
-use mathlib.Core.Path.{_≡_, refl, sym}
+use mathlib.Core.Path.{_≡_}
 use mathlib.Core.List.{List}
 use Prim.Native.Nat.{ℕ, _≤_, _<_}
 use lib.ListN.{length}

@@ -6,6 +6,7 @@ use Prim.Native.Nat.{ℕ, zero, suc}
 use native.Mathlib.Omega.{arith}
 use lib.Dec.{eqb}
 use borrow.Author.Tests.{eq-eqb, ne-eqb}
+use Rattle.bill.specs.declared.section.Section.the-variants.{Cores, Processes}
 use Rattle.bill.specs.Rows.{Row}
 use Rattle.bill.specs.Reading.{Bill}
 use Rattle.sorting.specs.Sets.{meets, sorted, sortedBy}
@@ -14,11 +15,12 @@ use Rattle.shifts.specs.Sound.{names}
 use Rattle.shifts.specs.Sum.{byName, sum, clash, refusal, Refusal, totalBy, addTexts}
 use Rattle.shifts.proofs.SortedRows.{names-sorted}
 use Rattle.adding.specs.declared.add.Sum.the-variants.{Refused}
-use Rattle.adding.specs.declared.sheet.Form.{Form}
+use Rattle.adding.specs.declared.sheet.Sheet.{Sheet}
 use Rattle.adding.specs.Adding.{summed, intoOutput, addInto}
 use Rattle.paper.specs.Lines.{nameAt}
 use Rattle.adding.specs.MergeCode.{rowsAt}
-use Rattle.adding.specs.AddCode.{BothRead, Paired, Judged}
+use Rattle.adding.specs.SheetCode.{placesOf}
+use Rattle.adding.specs.AddCode.{BothRead, coresMet, Paired, Judged}
 
 -- the names of rows by their places
 names-at : (text places : List ℕ) → map (nameAt text) places ≡ names (rowsAt text places)
@@ -40,56 +42,55 @@ by-clash : (a b : Bill) → eqb (a .scale) (b .scale) ≡ true → clash a b ≡
 unfolding refusal
 by-clash a b e h = rw (e, h)
 
-module _ {s : List ℕ} {f : Form} {sc sp t : List ℕ} {g : Form} {tc tp : List ℕ} (p : BothRead s f sc sp t g tc tp) where
-  pub comes-to : addTexts s t ≡ totalBy (refusal (p .a) (p .b)) (sum (p .a) (p .b))
+module _ {s : List ℕ} {x : Sheet} {t : List ℕ} {y : Sheet} (p : BothRead s x t y) where
+  abbrev a : Bill
+  a = p .first .bill
+
+  abbrev b : Bill
+  b = p .second .bill
+
+  pub comes-to : addTexts s t ≡ totalBy (refusal a b) (sum a b)
   unfolding addTexts
   comes-to = rw (p .first .sound, p .second .sound)
 
-  -- the two meetings that the code asks for
-  abbrev cores-here : Bool
-  cores-here = meets (map (nameAt s) sc) (map (nameAt t) tp)
-
-  abbrev cores-there : Bool
-  cores-there = meets (map (nameAt t) tc) (map (nameAt s) sp)
-
-  clash-is : clash (p .a) (p .b) ≡ cores-here || cores-there
+  clash-is : clash a b ≡ coresMet s x t y || coresMet t y s x
   unfolding clash
   clash-is =
-      let u = p .first in
-      let v = p .second in
+      let u = p .first .rows in
+      let v = p .second .rows in
       sym (ap₂ _||_
-      (ap₂ meets (in-order s sc _ (u .core-rows)) (in-order t tp _ (v .process-rows)) ∙ meets-sorted _ _)
-      (ap₂ meets (in-order t tc _ (v .core-rows)) (in-order s sp _ (u .process-rows)) ∙ meets-sorted _ _))
+      (ap₂ meets (in-order s (placesOf Cores x) _ (u Cores)) (in-order t (placesOf Processes y) _ (v Processes)) ∙ meets-sorted _ _)
+      (ap₂ meets (in-order t (placesOf Cores y) _ (v Cores)) (in-order s (placesOf Processes x) _ (u Processes)) ∙ meets-sorted _ _))
 
-  pub scales-differ : (f .scale ≡ g .scale → ⊥) → addTexts s t ≡ Refusal 22
+  pub scales-differ : (x .form .scale ≡ y .form .scale → ⊥) → addTexts s t ≡ Refusal 22
   scales-differ h =
-      let e = ne-eqb (p .a .scale) (p .b .scale) (λ q. h (p .first .scale ∙ q ∙ sym (p .second .scale))) in
-      comes-to ∙ ap (λ n. totalBy n (sum (p .a) (p .b))) (by-scale (p .a) (p .b) e)
+      let e = ne-eqb (a .scale) (b .scale) (λ q. h (p .first .scale ∙ q ∙ sym (p .second .scale))) in
+      comes-to ∙ ap (λ n. totalBy n (sum a b)) (by-scale a b e)
 
-  module _ (e : f .scale ≡ g .scale) where
-    one-scale : eqb (p .a .scale) (p .b .scale) ≡ true
-    one-scale = eq-eqb (p .a .scale) (p .b .scale) (sym (p .first .scale) ∙ e ∙ p .second .scale)
+  module _ (e : x .form .scale ≡ y .form .scale) where
+    one-scale : eqb (a .scale) (b .scale) ≡ true
+    one-scale = eq-eqb (a .scale) (b .scale) (sym (p .first .scale) ∙ e ∙ p .second .scale)
 
-    names-clash : cores-here || cores-there ≡ true → addTexts s t ≡ Refusal 23
-    names-clash h = comes-to ∙ ap (λ n. totalBy n (sum (p .a) (p .b))) (by-clash (p .a) (p .b) one-scale (clash-is ∙ h))
+    names-clash : coresMet s x t y || coresMet t y s x ≡ true → addTexts s t ≡ Refusal 23
+    names-clash h = comes-to ∙ ap (λ n. totalBy n (sum a b)) (by-clash a b one-scale (clash-is ∙ h))
 
-    pub clash-here : {r : Bool} → r ≡ cores-here → r ≡ true → addTexts s t ≡ Refusal 23
+    pub clash-here : {r : Bool} → r ≡ coresMet s x t y → r ≡ true → addTexts s t ≡ Refusal 23
     clash-here q h = names-clash (rw (sym q ∙ h))
 
-    pub clash-there : {r : Bool} → r ≡ cores-there → r ≡ true → cores-here ≡ false → addTexts s t ≡ Refusal 23
+    pub clash-there : {r : Bool} → r ≡ coresMet t y s x → r ≡ true → coresMet s x t y ≡ false → addTexts s t ≡ Refusal 23
     clash-there q h k = names-clash (rw (k, sym q ∙ h))
 
-    pub paired : cores-here ≡ false → cores-there ≡ false → Paired s f sc sp t g tc tp
+    pub paired : coresMet s x t y ≡ false → coresMet t y s x ≡ false → Paired s x t y
     paired h k = record { both = p; one-scale = one-scale; no-clash = clash-is ∙ rw (h, k) }
 
 -- ---- what was judged of a pair
 
-module _ (s : List ℕ) (f : Form) (sc sp t : List ℕ) (g : Form) (tc tp : List ℕ) where
-  pub judged-refused : (n : ℕ) (out : List ℕ) → Judged s f sc sp t g tc tp n → (n ≡ 0 → ⊥) → summed (Refused n) out ≡ addInto s t out
+module _ (s : List ℕ) (x : Sheet) (t : List ℕ) (y : Sheet) where
+  pub judged-refused : (n : ℕ) (out : List ℕ) → Judged s x t y n → (n ≡ 0 → ⊥) → summed (Refused n) out ≡ addInto s t out
   unfolding addInto
   judged-refused zero out j h = absurd (h refl)
   judged-refused (suc n) out j h = ap (λ r. intoOutput r out) (sym j)
 
-  pub judged-paired : (n : ℕ) → Judged s f sc sp t g tc tp n → n ≡ 0 → Paired s f sc sp t g tc tp
+  pub judged-paired : (n : ℕ) → Judged s x t y n → n ≡ 0 → Paired s x t y
   judged-paired zero j e = j
   judged-paired (suc n) j e = absurd (omega arith)

@@ -5,8 +5,8 @@ use Prim.Native.Nat.{ℕ, _+_, _-_}
 use native.Mathlib.Omega.{arith}
 use lib.ListN.{length, take, drop, length-drop}
 use lib.Seq.{length-take-le}
-use Rattle.adding.specs.declared.sheet.Form.{Form}
-use Rattle.adding.specs.SheetCode.{corePlaces, processPlaces, Sized}
+use Rattle.adding.specs.declared.form.Form.{Form}
+use Rattle.adding.specs.FormCode.{corePlaces, processPlaces, Sized}
 
 abbrev pub coreCut : List ℕ → Form → List ℕ
 coreCut starts f = take (2 + f .cores - 2) (drop 2 starts)

@@ -28,8 +28,7 @@ use Rattle.paper.specs.declared.head.Head.the-variants.{Line}
 use Rattle.paper.specs.Lines.{lineFrom, nameAt}
 use Rattle.paper.specs.Heads.{headIf, headOf, countOf}
 use Rattle.paper.specs.Rows.{rowOf, coreOk}
-use Rattle.adding.specs.RowCode.{chargesMake}
-use Rattle.adding.specs.SheetCode.{sumsRight}
+use Rattle.adding.specs.RowCode.{chargesMake, sumsRight}
 use Rattle.paper.proofs.Numbers.{value-if}
 
 -- ---- the rows of a section, by the tests of the sheet and by those of each line

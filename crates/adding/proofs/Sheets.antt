@@ -6,7 +6,7 @@ use mathlib.Core.Option.{some}
 use Prim.Native.Nat.{ℕ, _+_, _-_, _^_}
 use native.Mathlib.Omega.{arith}
 use lib.Dec.{ltb}
-use lib.ListN.{length, getD, take, length-map}
+use lib.ListN.{length, getD, length-map}
 use borrow.Author.Tests.{eqb-true, le-ltb, le-leb, ltb-false}
 use Rattle.text.specs.Pieces.{pieces}
 use Rattle.text.specs.Sizes.{nameLimit, coreLimit}
@@ -23,12 +23,14 @@ use Rattle.shifts.specs.Sound.{names, firsts, notTotal, someRow, tooMany}
 use Rattle.shifts.specs.Sum.{byName}
 use Rattle.shifts.proofs.Fine.{Fine, is-sound}
 use Rattle.shifts.proofs.Small.{above, small}
-use Rattle.adding.specs.declared.sheet.Form.{Form}
+use Rattle.adding.specs.declared.form.Form.{Form}
+use Rattle.adding.specs.declared.sheet.Sheet.{Sheet}
 use Rattle.paper.specs.Lines.{lineFrom, rowAt, nameAt}
 use Rattle.paper.specs.Rows.{rowOf, coreOk}
-use Rattle.adding.specs.RowCode.{chargesMake}
+use Rattle.adding.specs.RowCode.{chargesMake, sumsRight}
 use Rattle.adding.specs.MergeCode.{width, allSmall, fineRow, rowsAt, InOrder}
-use Rattle.adding.specs.SheetCode.{corePlaces, processPlaces, Formed, Sized, sumsRight, Ordered, Booked}
+use Rattle.adding.specs.FormCode.{corePlaces, processPlaces, Formed, Sized}
+use Rattle.adding.specs.SheetCode.{Ordered, rowsIn, placesOf, Booked}
 use Rattle.adding.proofs.SectionPlaces.{core-count, process-count}
 use Rattle.adding.proofs.SheetTests.{HeadTold, head-told, CountTold, count-told, rows-tests, cores-tests, names-at}
 
@@ -161,21 +163,36 @@ module _ {text starts : List ℕ} {f : Form} (k : Formed text starts f) where
           charges = sums .charges;
         }
 
-    pub booked : length cores ≡ 64 → length processes ≡ 256 → Booked text cores processes f
+    -- ---- the sheet, with the places of its rows
+
+    abbrev sheet : Sheet
+    sheet = record { form = f; cores = cores; processes = processes }
+
+    core-order : placesOf Cores sheet ≡ sortedBy (nameAt text) (corePlaces starts f)
+    core-order = let n : f .cores - 0 ≡ length (corePlaces starts f) = omega (arith, core-count starts f formed-sized) in rw n (o .core-order)
+
+    process-order : placesOf Processes sheet ≡ sortedBy (nameAt text) (processPlaces starts f)
+    process-order = let n : f .processes - 0 ≡ length (processPlaces starts f) = omega (arith, process-count starts f formed-sized) in rw n (o .process-order)
+
+    sheet-rows : (section : Section) → rowsAt text (placesOf section sheet) ≡ sortedBy byName (rowsIn section (billFrom ls))
     unfolding billFrom
-    booked h g =
-        let small-ones = small (billFrom ls) fine in
-        let core-order = rw (core-count starts f formed-sized) at (o .core-order) in
-        let process-order = rw (process-count starts f formed-sized) at (o .process-order) in
-        record {
-          bill = billFrom ls;
-          sound = is-sound text (billFrom ls) reads fine;
-          scale = sym (head .scale-is);
-          span = sym (head .span-is);
-          cores-fit = omega (arith, first .few);
-          processes-fit = omega (arith, formed-sized .names);
-          core-rows = rw (← (k .core-lines)) (sorted-rows Cores text (corePlaces starts f) (take (f .cores) cores) core-order);
-          process-rows = rw (← (k .process-lines)) (sorted-rows Processes text (processPlaces starts f) (take (f .processes) processes) process-order);
-          cores-in-order = in-order Cores text (corePlaces starts f) (take (f .cores) cores) core-order (rw (k .core-lines) (fine-rows Cores (coreLines ls) (sums .core-rows) (small-ones .0)));
-          processes-in-order = in-order Processes text (processPlaces starts f) (take (f .processes) processes) process-order (rw (k .process-lines) (fine-rows Processes (processLines ls) (sums .process-rows) (small-ones .1)));
-        }
+    sheet-rows Cores = rw (← (k .core-lines)) (sorted-rows Cores text (corePlaces starts f) (placesOf Cores sheet) core-order)
+    sheet-rows Processes = rw (← (k .process-lines)) (sorted-rows Processes text (processPlaces starts f) (placesOf Processes sheet) process-order)
+
+    sheet-in-order : (section : Section) → InOrder section text (placesOf section sheet)
+    unfolding billFrom
+    sheet-in-order Cores = in-order Cores text (corePlaces starts f) (placesOf Cores sheet) core-order (rw (k .core-lines) (fine-rows Cores (coreLines ls) (sums .core-rows) (small (billFrom ls) fine .0)))
+    sheet-in-order Processes = in-order Processes text (processPlaces starts f) (placesOf Processes sheet) process-order (rw (k .process-lines) (fine-rows Processes (processLines ls) (sums .process-rows) (small (billFrom ls) fine .1)))
+
+    pub booked : length cores ≡ coreLimit → length processes ≡ nameLimit → Booked text sheet
+    unfolding billFrom
+    booked h g = record {
+      bill = billFrom ls;
+      sound = is-sound text (billFrom ls) reads fine;
+      scale = sym (head .scale-is);
+      span = sym (head .span-is);
+      cores-fit = omega (arith, first .few);
+      processes-fit = omega (arith, formed-sized .names);
+      rows = sheet-rows;
+      in-order = sheet-in-order;
+    }

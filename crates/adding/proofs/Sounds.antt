@@ -4,13 +4,10 @@ use mathlib.Core.Bool.{Bool, true, false}
 use mathlib.Core.List.{List}
 use Prim.Native.Nat.{ℕ}
 use Rattle.shifts.specs.Many.{isSound}
-use Rattle.adding.specs.declared.sheet.Form.{Form}
-use Rattle.adding.specs.SheetCode.{ReadAs, Read}
+use Rattle.adding.specs.declared.sheet.Sheet.{Sheet}
+use Rattle.adding.specs.SheetCode.{ReadAs}
 
-read-sound : (r : Bool) (text cores processes : List ℕ) (f : Form) → ReadAs r text cores processes f → r ≡ isSound text
+pub sound-told : (r : Bool) (text : List ℕ) (x : Sheet) → ReadAs r text x → r ≡ isSound text
 unfolding isSound
-read-sound true text cores processes f w = rw (w .sound)
-read-sound false text cores processes f w = rw w
-
-pub sound-told : (text cores processes : List ℕ) (f : Form) → Read text cores processes f → f .ok ≡ isSound text
-sound-told text cores processes f w = read-sound (f .ok) text cores processes f (w .told)
+sound-told true text x w = rw (w .sound)
+sound-told false text x w = rw w

@@ -1,22 +1,23 @@
 -- FOR THE CODE ALONE: two sheets that were read, and the text of their sum from its parts.
 use mathlib.Core.Path.{_≡_}
-use mathlib.Core.Bool.{true, false, _||_, cond}
-use mathlib.Core.List.{List, [], _∷_, _++_}
-use mathlib.Core.Option.{some}
+use mathlib.Core.Bool.{Bool, true, false, _||_, cond}
+use mathlib.Core.List.{List, _∷_, _++_, map}
 use Prim.Native.Nat.{ℕ, zero, suc, _+_}
 use lib.Dec.{eqb, ltb}
 use lib.ListN.{length}
 use Rattle.text.specs.Number.{digitsOf}
 use Rattle.text.specs.Sizes.{maxTime, nameLimit, coreLimit}
+use Rattle.bill.specs.declared.section.Section.{Section}
 use Rattle.bill.specs.declared.section.Section.the-variants.{Cores, Processes}
+use Rattle.bill.specs.Rows.{Row}
 use Rattle.bill.specs.Text.{title}
 use Rattle.bill.specs.Verdict.{acceptedText}
-use Rattle.bill.specs.Reading.{Bill}
-use Rattle.sorting.specs.Sets.{sortedBy}
-use Rattle.shifts.specs.Sound.{soundSheet}
-use Rattle.shifts.specs.Sum.{byName, clash, Refusal, addTexts}
-use Rattle.adding.specs.declared.sheet.Form.{Form}
-use Rattle.adding.specs.MergeCode.{rowsAt, InOrder}
+use Rattle.sorting.specs.Sets.{meets}
+use Rattle.shifts.specs.Sum.{clash, Refusal, addTexts}
+use Rattle.paper.specs.Lines.{nameAt}
+use Rattle.adding.specs.declared.sheet.Sheet.{Sheet}
+use Rattle.adding.specs.MergeCode.{rowsAt, sumRows}
+use Rattle.adding.specs.SheetCode.{placesOf, Booked}
 
 -- a section's text, with the lines of its rows as they stand
 unfoldable pub countedText : List ℕ → ℕ → List ℕ → List ℕ
@@ -38,30 +39,31 @@ madeLength scale span cores core-rows processes process-rows =
 unfoldable pub ownRefusal : ℕ → ℕ → ℕ → ℕ
 ownRefusal cores processes span = cond (ltb coreLimit cores || ltb nameLimit (cores + processes)) 24 (cond (ltb maxTime span) 25 0)
 
--- a sheet that was read, by the places of its rows
-pub record Sheeted (text : List ℕ) (f : Form) (cores processes : List ℕ) (b : Bill) : Type 0 where
-  pub sound : soundSheet text ≡ some b
-  pub scale : f .scale ≡ b .scale
-  pub span : f .span ≡ b .sheet .span
-  pub core-rows : rowsAt text cores ≡ sortedBy byName (b .sheet .cores)
-  pub process-rows : rowsAt text processes ≡ sortedBy byName (b .sheet .processes)
-  pub cores-in-order : InOrder Cores text cores
-  pub processes-in-order : InOrder Processes text processes
+-- two sheets that were read
+pub record BothRead (s : List ℕ) (x : Sheet) (t : List ℕ) (y : Sheet) : Type 0 where
+  pub first : Booked s x
+  pub second : Booked t y
 
--- two of them
-pub record BothRead (s : List ℕ) (f : Form) (s-cores s-processes : List ℕ) (t : List ℕ) (g : Form) (t-cores t-processes : List ℕ) : Type 0 where
-  pub a : Bill
-  pub b : Bill
-  pub first : Sheeted s f s-cores s-processes a
-  pub second : Sheeted t g t-cores t-processes b
+-- whether a core of the first is a process of the second
+abbrev pub coresMet : List ℕ → Sheet → List ℕ → Sheet → Bool
+coresMet s x t y = meets (map (nameAt s) (placesOf Cores x)) (map (nameAt t) (placesOf Processes y))
 
 -- .. of which 22 and 23 don't hold
-pub record Paired (s : List ℕ) (f : Form) (s-cores s-processes : List ℕ) (t : List ℕ) (g : Form) (t-cores t-processes : List ℕ) : Type 0 where
-  pub both : BothRead s f s-cores s-processes t g t-cores t-processes
-  pub one-scale : eqb (both .a .scale) (both .b .scale) ≡ true
-  pub no-clash : clash (both .a) (both .b) ≡ false
+pub record Paired (s : List ℕ) (x : Sheet) (t : List ℕ) (y : Sheet) : Type 0 where
+  pub both : BothRead s x t y
+  pub one-scale : eqb (both .first .bill .scale) (both .second .bill .scale) ≡ true
+  pub no-clash : clash (both .first .bill) (both .second .bill) ≡ false
 
 -- .. or the one that does
-abbrev pub Judged : List ℕ → Form → List ℕ → List ℕ → List ℕ → Form → List ℕ → List ℕ → ℕ → Type 0
-Judged s f sc sp t g tc tp zero = Paired s f sc sp t g tc tp
-Judged s f sc sp t g tc tp (suc n) = addTexts s t ≡ Refusal (suc n)
+abbrev pub Judged : List ℕ → Sheet → List ℕ → Sheet → ℕ → Type 0
+Judged s x t y zero = Paired s x t y
+Judged s x t y (suc n) = addTexts s t ≡ Refusal (suc n)
+
+-- the rows of a section of their sum
+abbrev pub sumsOf : Section → List ℕ → Sheet → List ℕ → Sheet → List Row
+sumsOf section s x t y = sumRows section (rowsAt s (placesOf section x)) (x .form .span) (rowsAt t (placesOf section y)) (y .form .span)
+
+-- the room that its rows have
+abbrev pub roomOf : Section → ℕ
+roomOf Cores = 16384
+roomOf Processes = 44032

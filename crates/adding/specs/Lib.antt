@@ -4,5 +4,6 @@ pub mod PlaceCode
 pub mod RowCode
 pub mod SortCode
 pub mod MergeCode
+pub mod FormCode
 pub mod SheetCode
 pub mod AddCode

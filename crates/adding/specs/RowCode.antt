@@ -15,3 +15,7 @@ allHeld span ls = numberIf (all (coreOk span) ls) (firsts (map rowFrom ls))
 
 unfoldable pub chargesMake : ℕ → List (List ℕ) → Bool
 chargesMake held ls = all (rowOf 1) ls && eqb (firsts (map rowFrom ls)) held
+
+-- each row is one of its section, each core's figures make the span, and the charges all held ticks
+unfoldable pub sumsRight : ℕ → List (List ℕ) → List (List ℕ) → Bool
+sumsRight span cs ps = all (coreOk span) cs && chargesMake (firsts (map rowFrom cs)) ps

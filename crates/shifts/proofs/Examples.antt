@@ -21,6 +21,7 @@ use Rattle.sorting.specs.Order.{order}
 use Rattle.sorting.specs.Sets.{insertBy, gatherBy}
 use Rattle.shifts.specs.Sound.{names, tooMany, shapeTests, sumTests, malformed, unsound, soundSheet}
 use Rattle.shifts.specs.Sum.{figuresOf, rowsOf, addRows, sum, clash, refusal, Total, Text, Refusal, addTexts}
+use Rattle.shifts.proofs.Nothing.{nothing}
 
 -- a text by its lines, each with its end
 abbrev text : List String → List ℕ
@@ -54,9 +55,6 @@ with k l = text (set early k l)
 -- no cores and no processes
 abbrev bare : String → List ℕ
 bare head = text (head ∷ "cores 0" ∷ "processes 0" ∷ [])
-
-abbrev nothing : List ℕ
-nothing = bare "verdict 0 line 0 scale ns span 0"
 
 -- cores alone, and processes alone
 abbrev cores : List String → List ℕ

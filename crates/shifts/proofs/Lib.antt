@@ -1,4 +1,5 @@
 -- The laws of bills of several shifts. What the definitions compute comes first, so that a wrong one shows there.
+pub mod Nothing
 pub mod Examples
 pub mod Rows
 pub mod SortedRows

@@ -5,7 +5,7 @@ use Rattle.adding.proofs.sound.sound.Statement.{statement}
 use Rattle.adding.proofs.sound.sound.Tie as tie
 
 told : tie.Need-returns
-told c = sound-told _ _ _ _ (c .before .before .read-sheet .ensures)
+told c = sound-told _ _ _ (c .read-sheet .ensures)
 
 pub sound-spec : {M : Type 1} → statement M
-sound-spec = tie.close (tie.spec (λ c. search needs) (λ c. search needs) (λ c κs. search needs) told)
+sound-spec = tie.close (tie.spec (λ c κs. search needs) told)

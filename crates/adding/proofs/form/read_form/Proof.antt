@@ -1,4 +1,4 @@
--- `adding::sheet::read_form` meets its contract.
+-- `adding::form::read_form` meets its contract.
 use mathlib.Core.Path.{_≡_, sym, ap, _∙_}
 use native.Mathlib.Omega.{arith}
 use borrow.Author.Needs.{needs}
@@ -6,8 +6,8 @@ use lib.ListN.{getD}
 use Rattle.paper.specs.Lines.{lineFrom}
 use Rattle.paper.specs.Heads.{headOf}
 use Rattle.adding.proofs.FormTests.{unformed, too-few, no-head, begun}
-use Rattle.adding.proofs.sheet.read_form.Statement.{statement}
-use Rattle.adding.proofs.sheet.read_form.Tie as tie
+use Rattle.adding.proofs.form.read_form.Statement.{statement}
+use Rattle.adding.proofs.form.read_form.Tie as tie
 
 -- ---- landmarks: the lines are counted, and the first is read
 

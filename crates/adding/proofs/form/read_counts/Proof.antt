@@ -1,4 +1,4 @@
--- `adding::sheet::read_counts` meets its contract: the lines are counted off as the titles tell.
+-- `adding::form::read_counts` meets its contract: the lines are counted off as the titles tell.
 use mathlib.Core.Path.{_≡_, refl, sym, ap, _∙_}
 use Prim.Native.Nat.{_+_, _-_, _≤_}
 use native.Mathlib.Omega.{arith}
@@ -10,8 +10,8 @@ use Rattle.bill.specs.Text.{title}
 use Rattle.paper.specs.Lines.{lineFrom}
 use Rattle.paper.specs.Heads.{countOf}
 use Rattle.adding.proofs.FormTests.{unformed, no-cores, cores-told, cores-cut-off, no-processes, processes-told, counts-told}
-use Rattle.adding.proofs.sheet.read_counts.Statement.{statement}
-use Rattle.adding.proofs.sheet.read_counts.Tie as tie
+use Rattle.adding.proofs.form.read_counts.Statement.{statement}
+use Rattle.adding.proofs.form.read_counts.Tie as tie
 
 -- ---- landmarks: the first count is read and told, all its rows have lines, and the second count is read and told
 
