@@ -1,14 +1,14 @@
 -- Two sheets that were read: 22 and 23, and that the sum or its refusal is what their bills come to.
 use mathlib.Core.Path.{_≡_, refl, sym, ap, ap₂, _∙_}
 use mathlib.Core.Bool.{Bool, true, false, _||_}
-use mathlib.Core.List.{List, [], _∷_, map}
+use mathlib.Core.List.{List, map, map-map}
 use Prim.Native.Nat.{ℕ, zero, suc}
 use native.Mathlib.Omega.{arith}
 use lib.Dec.{eqb}
 use borrow.Author.Tests.{eq-eqb, ne-eqb}
 use Rattle.bill.specs.declared.section.Section.the-variants.{Cores, Processes}
 use Rattle.bill.specs.Rows.{Row}
-use Rattle.bill.specs.Reading.{Bill}
+use Rattle.bill.specs.Reading.{Bill, rowFrom}
 use Rattle.sorting.specs.Sets.{meets, sorted, sortedBy}
 use Rattle.sorting.proofs.Meets.{meets-sorted}
 use Rattle.shifts.specs.Sound.{names}
@@ -17,20 +17,15 @@ use Rattle.shifts.proofs.SortedRows.{names-sorted}
 use Rattle.adding.specs.declared.add.Sum.the-variants.{Refused}
 use Rattle.adding.specs.declared.sheet.Sheet.{Sheet}
 use Rattle.adding.specs.Adding.{summed, intoOutput, addInto}
-use Rattle.paper.specs.Lines.{nameAt}
+use Rattle.paper.specs.Lines.{lineFrom, nameAt}
 use Rattle.adding.specs.MergeCode.{rowsAt}
 use Rattle.adding.specs.SheetCode.{placesOf}
 use Rattle.adding.specs.AddCode.{BothRead, coresMet, Paired, Judged}
+use Rattle.adding.proofs.SheetTests.{names-at}
 
--- the names of rows by their places
-names-at : (text places : List ℕ) → map (nameAt text) places ≡ names (rowsAt text places)
-unfolding names
-names-at text [] = refl
-names-at text (p ∷ ps) = ap (λ l. nameAt text p ∷ l) (names-at text ps)
-
--- .. are those of the section, in order
+-- the names of rows by their places are those of the section, in order
 in-order : (text places : List ℕ) (rs : List Row) → rowsAt text places ≡ sortedBy byName rs → map (nameAt text) places ≡ sorted (names rs)
-in-order text places rs e = names-at text places ∙ ap names e ∙ names-sorted rs
+in-order text places rs e = sym (names-at text places) ∙ ap names (map-map rowFrom (lineFrom text) places ∙ e) ∙ names-sorted rs
 
 -- ---- the first two refusals of a pair
 

@@ -1,7 +1,7 @@
 -- A text whose lines tell a form, whose sums are right and whose names stand once, is a sheet that may be added.
 use mathlib.Core.Path.{_≡_, refl, sym, ap, _∙_}
 use mathlib.Core.Bool.{true, false}
-use mathlib.Core.List.{List, [], _∷_, map}
+use mathlib.Core.List.{List, [], _∷_, map, map-map}
 use mathlib.Core.Option.{some}
 use Prim.Native.Nat.{ℕ, _+_, _-_, _^_}
 use native.Mathlib.Omega.{arith}
@@ -71,13 +71,9 @@ fine-rows section (l ∷ ls) r e =
 
 -- ---- a section in the order of its names
 
-rows-at : (text ps : List ℕ) → rowsAt text ps ≡ map rowFrom (map (lineFrom text) ps)
-rows-at text [] = refl
-rows-at text (p ∷ ps) = ap (λ l. rowAt text p ∷ l) (rows-at text ps)
-
 module _ (section : Section) (text ps places : List ℕ) (e : places ≡ sortedBy (nameAt text) ps) where
   sorted-rows : rowsAt text places ≡ sortedBy byName (map rowFrom (map (lineFrom text) ps))
-  sorted-rows = ap (rowsAt text) e ∙ rename-sorted (rowAt text) byName ps ∙ ap (sortedBy byName) (rows-at text ps)
+  sorted-rows = ap (rowsAt text) e ∙ rename-sorted (rowAt text) byName ps ∙ ap (sortedBy byName) (sym (map-map rowFrom (lineFrom text) ps))
 
   in-order : all (fineRow section) (map (lineFrom text) ps) ≡ true → InOrder section text places
   in-order h = record {
