@@ -32,4 +32,5 @@ pub mod pair_sample;
 pub mod pairs;
 pub mod sample;
 pub mod spread;
+pub mod tools;
 pub mod ways;

@@ -1,14 +1,10 @@
 //! The sample of pairs of sheets that is kept in the repository.
 
-use std::path::Path;
+mod kept;
 
+use kept::kept;
 use second_reader::pair_sample::{fixed_pairs, MOST_BYTES};
 use second_reader::pairs::{answers_to_pairs, read_pairs, write_pairs};
-
-fn kept(name: &str) -> Vec<u8> {
-    let path = Path::new(env!("CARGO_MANIFEST_DIR")).join("sample").join(name);
-    std::fs::read(&path).expect("the sample is kept in the folder `sample`")
-}
 
 #[test]
 fn the_kept_pairs_are_those_that_are_written() {

@@ -1,15 +1,11 @@
 //! The sample that is kept in the repository.
 
-use std::path::Path;
+mod kept;
 
+use kept::kept;
 use second_reader::container::{answers_text, read_container, write_container};
 use second_reader::printing::{number_of, run_on};
 use second_reader::sample::fixed_sample;
-
-fn kept(name: &str) -> Vec<u8> {
-    let path = Path::new(env!("CARGO_MANIFEST_DIR")).join("sample").join(name);
-    std::fs::read(&path).expect("the sample is kept in the folder `sample`")
-}
 
 #[test]
 fn the_kept_sample_is_the_one_that_is_written() {

@@ -7,23 +7,16 @@
 
 use std::fs::{self, File};
 use std::io::Write;
-use std::path::{Path, PathBuf};
 use std::process::{Child, Command, ExitCode, Output, Stdio};
 
 use second_reader::making::make_trace;
 use second_reader::making::random::Random;
 use second_reader::printing::{number_of, run_on, Run};
+use second_reader::tools::{difference, differs, make_folder, read_task, write_file, Task};
 use second_reader::ways::{all_ways, least_of, ways_of};
 
 /// Each number comes once in 67 traces: 300 times in 20,000.
 const SHARE: u64 = 67;
-
-struct Task {
-    program: PathBuf,
-    count: u64,
-    seed: u64,
-    folder: PathBuf,
-}
 
 /// What the comparison has found so far.
 #[derive(Default)]
@@ -37,7 +30,7 @@ struct Findings {
 
 fn main() -> ExitCode {
     let arguments: Vec<String> = std::env::args().skip(1).collect();
-    let result = read_task(&arguments).and_then(|task| Ok((compare(&task)?, task)));
+    let result = read_task(&arguments, "PROGRAM COUNT SEED [FOLDER]").and_then(|task| Ok((compare(&task)?, task)));
     match result {
         Ok((findings, task)) if report(&findings, &task) => ExitCode::SUCCESS,
         Ok(_) => ExitCode::from(1),
@@ -48,22 +41,8 @@ fn main() -> ExitCode {
     }
 }
 
-fn read_task(arguments: &[String]) -> Result<Task, String> {
-    let (program, count, seed, folder) = match arguments {
-        [program, count, seed] => (program, count, seed, "disagreements"),
-        [program, count, seed, folder] => (program, count, seed, folder.as_str()),
-        _ => return Err("arguments: PROGRAM COUNT SEED [FOLDER]".to_string()),
-    };
-    Ok(Task {
-        program: PathBuf::from(program),
-        count: count.parse().map_err(|_| "the count is no number")?,
-        seed: seed.parse().map_err(|_| "the seed is no number")?,
-        folder: PathBuf::from(folder),
-    })
-}
-
 fn compare(task: &Task) -> Result<Findings, String> {
-    fs::create_dir_all(&task.folder).map_err(|error| format!("{}: {error}", task.folder.display()))?;
+    make_folder(&task.folder)?;
     let mut findings = Findings { ways: vec![0; all_ways().len()], ..Findings::default() };
     for index in 0..task.count {
         let trace = make_trace(task.seed, index).bytes;
@@ -75,7 +54,7 @@ fn compare(task: &Task) -> Result<Findings, String> {
             *count += u64::from(gone);
         }
         let got = run_program(task, index, &trace)?;
-        if got.stdout != wanted.printed.as_bytes() || got.status.code() != Some(i32::from(wanted.status)) {
+        if differs(&wanted, &got) {
             findings.disagreements += 1;
             keep(task, index, &trace, &wanted, &got)?;
         }
@@ -135,33 +114,12 @@ fn write_in_pieces(index: u64, trace: &[u8], input: &mut impl Write) {
 }
 
 fn keep(task: &Task, index: u64, trace: &[u8], wanted: &Run, got: &Output) -> Result<(), String> {
-    let name = format!("disagreement_{}_{index}", task.seed);
-    let path = task.folder.join(name + ".btf");
-    let write = |ending: &str, bytes: &[u8]| {
-        let path = path.with_extension(ending);
-        fs::write(&path, bytes).map_err(|error| format!("{}: {error}", path.display()))
-    };
-    write("btf", trace)?;
-    write("wanted", wanted.printed.as_bytes())?;
-    write("got", &got.stdout)?;
-    println!(
-        "trace {index}: wanted `{}` and status {}, got `{}` and {}; kept in {}",
-        first_line(wanted.printed.as_bytes()),
-        wanted.status,
-        first_line(&got.stdout),
-        got.status,
-        shown(&path)
-    );
+    let path = task.folder.join(format!("disagreement_{}_{index}.btf", task.seed));
+    write_file(&path, trace)?;
+    write_file(&path.with_extension("wanted"), wanted.printed.as_bytes())?;
+    write_file(&path.with_extension("got"), &got.stdout)?;
+    println!("trace {index}: {}; kept in {}", difference(wanted, got), path.display());
     Ok(())
-}
-
-fn first_line(printed: &[u8]) -> String {
-    let line = printed.split(|&byte| byte == b'\n').next().unwrap_or_default();
-    String::from_utf8_lossy(line).into_owned()
-}
-
-fn shown(path: &Path) -> String {
-    path.display().to_string()
 }
 
 /// Prints the figures; true if the two agree and each number and each way came

@@ -15,21 +15,19 @@ use second_reader::adding::run_on_sheets;
 use second_reader::making::sheets::{make_sheets, MadeSheets};
 use second_reader::printing::Run;
 use second_reader::spread::Spread;
+use second_reader::tools::{difference, differs, make_folder, read_task, write_file, Task};
 
 /// Disagreements of which the files are kept; all are told.
 const KEPT: u64 = 20;
 
-struct Task {
-    /// None where the spread alone is asked for.
-    program: Option<PathBuf>,
-    count: u64,
-    seed: u64,
-    folder: PathBuf,
-}
+/// In the place of a program: only what was made is counted.
+const SPREAD: &str = "--spread";
+
+const USAGE: &str = "PROGRAM COUNT SEED [FOLDER], or --spread COUNT SEED";
 
 fn main() -> ExitCode {
     let arguments: Vec<String> = std::env::args().skip(1).collect();
-    match read_task(&arguments).and_then(|task| compare(&task)) {
+    match read_task(&arguments, USAGE).and_then(|task| compare(&task)) {
         Ok(true) => ExitCode::SUCCESS,
         Ok(false) => ExitCode::from(1),
         Err(cause) => {
@@ -37,20 +35,6 @@ fn main() -> ExitCode {
             ExitCode::from(2)
         }
     }
-}
-
-fn read_task(arguments: &[String]) -> Result<Task, String> {
-    let (program, count, seed, folder) = match arguments {
-        [program, count, seed] => (program, count, seed, "disagreements"),
-        [program, count, seed, folder] => (program, count, seed, folder.as_str()),
-        _ => return Err("arguments: PROGRAM COUNT SEED [FOLDER], or --spread COUNT SEED".to_string()),
-    };
-    Ok(Task {
-        program: (program != "--spread").then(|| PathBuf::from(program)),
-        count: count.parse().map_err(|_| "the count is no number")?,
-        seed: seed.parse().map_err(|_| "the seed is no number")?,
-        folder: PathBuf::from(folder),
-    })
 }
 
 /// True if the two agree, and each number, cause and way came often enough.
@@ -62,9 +46,11 @@ fn compare(task: &Task) -> Result<bool, String> {
         let made = make_sheets(task.seed, index);
         let wanted = run_on_sheets(&made.sheets);
         spread.count(&made, &wanted);
-        let Some(program) = &task.program else { continue };
-        let got = run_program(program, &temporary.path, &made)?;
-        if got.stdout != wanted.printed.as_bytes() || got.status.code() != Some(i32::from(wanted.status)) {
+        if task.program == Path::new(SPREAD) {
+            continue;
+        }
+        let got = run_program(&task.program, &temporary.path, &made)?;
+        if differs(&wanted, &got) {
             disagreements += 1;
             tell(index, &wanted, &got);
             if disagreements <= KEPT {
@@ -97,10 +83,6 @@ impl Drop for TemporaryFolder {
     }
 }
 
-fn make_folder(path: &Path) -> Result<(), String> {
-    fs::create_dir_all(path).map_err(|error| format!("{}: {error}", path.display()))
-}
-
 fn run_program(program: &Path, folder: &Path, made: &MadeSheets) -> Result<Output, String> {
     let files = write_sheets(folder, "sheet", made)?;
     Command::new(program)
@@ -121,10 +103,6 @@ fn write_sheets(folder: &Path, name: &str, made: &MadeSheets) -> Result<Vec<Path
     files.collect()
 }
 
-fn write_file(path: &Path, bytes: &[u8]) -> Result<(), String> {
-    fs::write(path, bytes).map_err(|error| format!("{}: {error}", path.display()))
-}
-
 fn keep(task: &Task, index: u64, made: &MadeSheets, wanted: &Run, got: &Output) -> Result<(), String> {
     make_folder(&task.folder)?;
     let name = format!("disagreement_{}_{index}", task.seed);
@@ -136,22 +114,11 @@ fn keep(task: &Task, index: u64, made: &MadeSheets, wanted: &Run, got: &Output) 
 }
 
 fn tell(index: u64, wanted: &Run, got: &Output) {
-    println!(
-        "case {index}: wanted {} and status {}, got {} and {}",
-        first_line(wanted.printed.as_bytes()),
-        wanted.status,
-        first_line(&got.stdout),
-        got.status,
-    );
+    println!("case {index}: {}", difference(wanted, got));
     let texts = (wanted.printed.as_bytes(), got.stdout.as_slice());
     if let Some(line) = first_difference(texts.0, texts.1).filter(|line| *line > 1) {
         println!("    line {line} is the first that differs");
     }
-}
-
-fn first_line(printed: &[u8]) -> String {
-    let line = printed.split(|&byte| byte == b'\n').next().unwrap_or_default();
-    format!("`{}`", String::from_utf8_lossy(line))
 }
 
 /// The first line that differs, counted from 1.
