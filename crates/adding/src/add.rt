@@ -10,7 +10,7 @@ use crate::whole::put_bill;
 use text::size::MAX_TIME;
 
 // How many bytes of the output the sum takes; or a refusal, 21 to 25 or 15, and then nothing was written.
-#[derive(Drop)]
+#[derive(Clone, Copy)]
 pub enum Sum {
     Added(usize),
     Refused(u32),

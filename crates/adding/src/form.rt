@@ -15,7 +15,7 @@ const CORES: u64 = CORE_LIMIT as u64;
 const NAMES: u64 = NAME_LIMIT as u64;
 
 // Scale, span, and how many cores and processes there are; or that the sheet may not be added.
-#[derive(Drop)]
+#[derive(Clone, Copy)]
 pub(crate) struct Form {
     pub ok: bool,
     pub scale: u32,

@@ -13,7 +13,7 @@ use paper::line::name_at;
 use sorting::order::{Order, compare};
 
 // How many rows there are, and where the output goes on behind them.
-#[derive(Drop)]
+#[derive(Clone, Copy)]
 pub(crate) struct Merged {
     pub count: usize,
     pub next: usize,

@@ -20,7 +20,7 @@ pub(crate) const CORES_MOST: usize = CORE_LIMIT as usize;
 pub(crate) const NAMES_MOST: usize = NAME_LIMIT as usize;
 
 // The form, and the places in the first entries.
-#[derive(Drop)]
+#[derive(Clone, Copy)]
 pub(crate) struct Sheet {
     pub form: Form,
     pub cores: [u32; CORES_MOST],

@@ -5,7 +5,7 @@ ghost use Rattle.bill.specs.Text.{title};
 
 use text::put::put_bytes;
 
-#[derive(Drop)]
+#[derive(Clone, Copy)]
 pub enum Section {
     Cores,
     Processes,

@@ -8,14 +8,14 @@ use text::bytes::{find, starts};
 use text::number::{Number, read_number};
 
 // What stands at an index: a trace, with where its header ends and its length; or nothing that can be told.
-#[derive(Drop)]
+#[derive(Clone, Copy)]
 enum Entry {
     Trace(usize, usize),
     Untold,
 }
 
 // How a container ends: after so many traces; or broken after so many, with the index from which no trace can be told.
-#[derive(Drop)]
+#[derive(Clone, Copy)]
 pub enum Ended {
     Whole(usize),
     Broken(usize, usize),

@@ -19,7 +19,7 @@ use tables::size::sized;
 use words::code::action_code;
 
 // What becomes of an event line: it is refused, or taken with what was looked up and the state that its semaphore or instance enters.
-#[derive(Drop)]
+#[derive(Clone, Copy)]
 pub enum Plan {
     Refuse(u32),
     Take(LookedUp, u32),

@@ -5,7 +5,7 @@ ghost use Rattle.fields.specs.Part.{IsField, IsBetween, commas_of};
 use text::bytes::find;
 
 // The places of a line's first eight commas; where there are fewer, places past its end.
-#[derive(Drop)]
+#[derive(Clone, Copy)]
 pub struct Commas {
     pub c1: usize,
     pub c2: usize,

@@ -7,7 +7,7 @@ use text::number::{Number, digits, read_number};
 use words::kind::Kind;
 
 // The count that a note means, 0 for a note that is no count; or that the note has not the form its type asks.
-#[derive(Drop)]
+#[derive(Clone, Copy)]
 pub enum Note {
     Means(u32),
     Wrong,

@@ -9,7 +9,7 @@ use ranges::range::table_answer;
 use run::chunk::{Turn, take_chunk, take_last};
 
 // What one read came to: how many bytes, never 0; the end of input; or an error.
-#[derive(Drop)]
+#[derive(Clone, Copy)]
 enum Got {
     Bytes(usize),
     End,
@@ -17,7 +17,7 @@ enum Got {
 }
 
 // What a read and its turn came to: n bytes, with so many carried over; n bytes, of which a line was refused; the end of input; an error.
-#[derive(Drop)]
+#[derive(Clone, Copy)]
 enum Step {
     More(usize, usize),
     Stop(usize),
@@ -26,7 +26,7 @@ enum Step {
 }
 
 // What all reads came to: how many bytes they gave together; that one failed; or a refusal of what was lent, 15 or 16, and nothing was read.
-#[derive(Drop)]
+#[derive(Clone, Copy)]
 pub enum Input {
     Read(u64),
     Failed,

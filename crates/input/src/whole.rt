@@ -9,7 +9,7 @@ use tables::size::sized;
 
 // How many bytes of the output the text takes, and how many were read; that a read failed; or a refusal of what was lent, 15, and nothing was
 // read and nothing changed.
-#[derive(Drop)]
+#[derive(Clone, Copy)]
 pub enum Answer {
     Text(usize, u64),
     Unread,

@@ -11,7 +11,7 @@ use ranges::range::table_answer;
 use tables::entry::*;
 
 // The answer to the lines of a chunk, and how many bytes they took.
-#[derive(Drop)]
+#[derive(Clone, Copy)]
 pub struct Fed {
     pub answer: u32,
     pub used: usize,

@@ -3,7 +3,7 @@ ghost use Rattle.std.specs.Prelude.{◌<◌, length};
 ghost use Rattle.ledger.specs.Files.{OneFill, FileRead};
 
 // What one read came to: how many bytes, never 0; the end of the file; or an error.
-#[derive(Drop)]
+#[derive(Clone, Copy)]
 enum Got {
     Bytes(usize),
     End,
@@ -11,7 +11,7 @@ enum Got {
 }
 
 // How many bytes of the buffer a file takes, the whole of it where they are fewer than the buffer has; or that it could not be opened or read.
-#[derive(Drop)]
+#[derive(Clone, Copy)]
 pub(crate) enum File {
     Read(usize),
     Unread,

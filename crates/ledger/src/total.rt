@@ -11,7 +11,7 @@ use adding::sound::sound;
 use text::put::put_bytes;
 
 // What one more sheet came to: the new total's bytes; a refusal; or that the sheet could not be read.
-#[derive(Drop)]
+#[derive(Clone, Copy)]
 enum Step {
     Held(usize),
     Refused(u32),
@@ -20,7 +20,7 @@ enum Step {
 
 // How many bytes of the output the sum takes; the number of a refusal and which sheet is refused, counted from 1; which sheet could not be read;
 // that there are fewer than two sheets; or that the output is too short. Only a sum is written.
-#[derive(Drop)]
+#[derive(Clone, Copy)]
 pub enum Answer {
     Text(usize),
     Refused(u32, usize),

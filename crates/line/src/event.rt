@@ -17,7 +17,7 @@ use words::kind::Kind;
 use words::pair::{Pair, named};
 
 // What an event line says, but for its source, target and note, which are the parts 2, 5 and 8 of the line itself.
-#[derive(Drop)]
+#[derive(Clone, Copy)]
 pub struct Event {
     pub time: u64,
     pub source_instance: u32,
@@ -27,7 +27,7 @@ pub struct Event {
 }
 
 // The time and the two instances of an event line, or that one of them is no number of its size.
-#[derive(Drop)]
+#[derive(Clone, Copy)]
 pub(crate) enum Numbers {
     TimeAndInstances(u64, u32, u32),
     Wrong,

@@ -17,7 +17,7 @@ use words::scale::Scale;
 pub const LINE_MOST: usize = 1023;
 
 // What a line is. An event line's count is what the note of a semaphore's line means, and 0 on any other.
-#[derive(Drop)]
+#[derive(Clone, Copy)]
 pub enum Reading {
     Version,
     Comment,
@@ -29,14 +29,14 @@ pub enum Reading {
 }
 
 // What a line is, and where its commas stand: so whoever asks for its parts need not look for them again.
-#[derive(Drop)]
+#[derive(Clone, Copy)]
 pub struct Split {
     pub reading: Reading,
     pub commas: Commas,
 }
 
 // The next line of a chunk: it ends just before the first index, and what stands after its end begins at the second. `Over` where no whole line is left.
-#[derive(Drop)]
+#[derive(Clone, Copy)]
 pub enum NextRead {
     Read(usize, usize, Split),
     Over,

@@ -16,7 +16,7 @@ use words::kind::{Kind, kind_length, put_kind};
 use words::writing::{put_word, word_length};
 
 // The length of the line that was written, or the number of the refusal.
-#[derive(Drop)]
+#[derive(Clone, Copy)]
 pub enum Written {
     Done(usize),
     NotWritten(u8),

@@ -10,7 +10,7 @@ use crate::row::row_is;
 use index::hash::home_of;
 use tables::entry::*;
 
-#[derive(Drop)]
+#[derive(Clone, Copy)]
 pub enum Found {
     At(usize),
     Nothing,

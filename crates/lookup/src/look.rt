@@ -9,7 +9,7 @@ use steps::numbers::NO_CORE;
 use tables::entry::NAME_ROWS;
 
 // What the event does to its core, and the rows of its core, its target and its instance.
-#[derive(Drop)]
+#[derive(Clone, Copy)]
 pub struct LookedUp {
     pub class: u32,
     pub source: Found,

@@ -5,7 +5,7 @@ ghost use Rattle.marks.specs.Marks.{lowest_off, first_mark, rest_marks};
 use std::num::wrapping_sub_u64;
 
 // The first 64 answers and the 64 after them.
-#[derive(Drop)]
+#[derive(Clone, Copy)]
 pub struct Marks {
     pub low: u64,
     pub high: u64,

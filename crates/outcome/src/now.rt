@@ -14,7 +14,7 @@ use bill::verdict::Verdict;
 use ranges::range::table_answer;
 
 // The verdict, and how many bytes of the output the sheet takes. 15 and 16 take the verdict's place, and then nothing was written.
-#[derive(Drop)]
+#[derive(Clone, Copy)]
 pub struct Outcome {
     pub verdict: Verdict,
     pub length: usize,

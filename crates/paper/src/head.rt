@@ -11,7 +11,7 @@ use text::size::MAX_TIME;
 use words::scale::{ScaleFound, scale_of};
 
 // The time scale's number and the span that a verdict's line tells; or that it is no line of an accepted trace.
-#[derive(Drop)]
+#[derive(Clone, Copy)]
 pub enum Head {
     Line(u32, u64),
     Other,

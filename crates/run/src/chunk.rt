@@ -11,7 +11,7 @@ use line::reading::LINE_MOST;
 const CARRIED_MOST: usize = LINE_MOST + 1;
 
 // Whether to read on, with how many bytes carried over.
-#[derive(Drop)]
+#[derive(Clone, Copy)]
 pub enum Turn {
     More(usize),
     Stop,

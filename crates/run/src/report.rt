@@ -7,7 +7,7 @@ use outcome::now::{Outcome, SHEET_MOST, outcome_now};
 use text::put::{put_bytes, room};
 
 // The length of the text that was written, or the number of the refusal.
-#[derive(Drop)]
+#[derive(Clone, Copy)]
 pub enum Printed {
     Done(usize),
     NotPrinted(u32),

@@ -9,7 +9,7 @@ use text::name::all_plain;
 use walk::lines::Next;
 use walk::reader::line_from;
 
-#[derive(Drop)]
+#[derive(Clone, Copy)]
 pub enum Ahead {
     // The line ends just before the first index, and what stands after its end begins at the second; whether its bytes are all plain, and its commas.
     Line(usize, usize, bool, Commas),

@@ -7,7 +7,7 @@ use crate::numbers::*;
 use words::code::*;
 
 // What an event does to an entity: it is in the state from now on, 0 for none yet, or the chart does not allow it.
-#[derive(Drop)]
+#[derive(Clone, Copy)]
 pub enum Move {
     To(u32),
     Off,

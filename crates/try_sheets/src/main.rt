@@ -10,7 +10,7 @@ use text::bytes::find;
 use text::number::{Number, read_number};
 
 // A number, and where it goes on behind it.
-#[derive(Drop)]
+#[derive(Clone, Copy)]
 struct Told {
     number: usize,
     next: usize,

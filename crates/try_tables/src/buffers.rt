@@ -14,7 +14,7 @@ pub(crate) const NUMS_ROOM: usize = NUMS_SIZE + 1;
 pub(crate) const TICKS_ROOM: usize = TICKS_SIZE + 1;
 
 // The buffers, and how many entries of each are lent.
-#[derive(Drop)]
+#[derive(Clone, Copy)]
 pub(crate) struct Buffers {
     pub(crate) names: [u8; NAMES_ROOM],
     pub(crate) nums: [u32; NUMS_ROOM],

@@ -4,7 +4,7 @@ use text::bytes::find;
 use text::number::{Number, read_number};
 
 // The numbers of a step, after its word.
-#[derive(Drop)]
+#[derive(Clone, Copy)]
 pub(crate) struct Numbers {
     pub(crate) first: u64,
     pub(crate) second: u64,

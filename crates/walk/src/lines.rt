@@ -4,7 +4,7 @@ ghost use Rattle.walk.specs.Lines.{line_text, line_between, start_from};
 
 use text::bytes::find;
 
-#[derive(Drop)]
+#[derive(Clone, Copy)]
 pub enum Next {
     // The line ends just before the first index, and what stands after its end begins at the second.
     Line(usize, usize),

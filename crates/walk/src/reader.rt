@@ -6,7 +6,7 @@ ghost use Rattle.walk.specs.Lines.{next_from, start_from};
 
 use crate::lines::{Next, line_between, next_start};
 
-#[derive(Drop)]
+#[derive(Clone, Copy)]
 pub struct Reader<'a> {
     pub chunk: &'a [u8],
     pub at: usize,

@@ -1,5 +1,5 @@
 // The 38 events of 000's sections 2.3.1 to 2.3.7, and what bytes may name of them.
-#[derive(Drop)]
+#[derive(Clone, Copy)]
 pub enum Action {
     Trigger,
     Activate,
@@ -41,7 +41,7 @@ pub enum Action {
     Waiting,
 }
 
-#[derive(Drop)]
+#[derive(Clone, Copy)]
 pub enum ActionFound {
     ThisAction(Action),
     NoAction,

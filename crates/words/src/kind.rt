@@ -9,7 +9,7 @@ ghost use Rattle.words.specs.Starts.{kind_start};
 use crate::writing::put_part;
 use text::bytes::same;
 
-#[derive(Drop)]
+#[derive(Clone, Copy)]
 pub enum Kind {
     Stimulus,
     Task,
@@ -21,7 +21,7 @@ pub enum Kind {
     Semaphore,
 }
 
-#[derive(Drop)]
+#[derive(Clone, Copy)]
 pub enum KindFound {
     ThisKind(Kind),
     NoKind,

@@ -6,7 +6,7 @@ use crate::action::{Action, ActionFound};
 use crate::kind::{Kind, KindFound, kind_of};
 use crate::reading::action_of;
 
-#[derive(Drop)]
+#[derive(Clone, Copy)]
 pub enum Pair {
     Known(Kind, Action),
     Unknown,

@@ -6,7 +6,7 @@ ghost use Rattle.words.specs.Scale.{scale_of};
 
 use text::bytes::same;
 
-#[derive(Drop)]
+#[derive(Clone, Copy)]
 pub enum Scale {
     Picoseconds,
     Nanoseconds,
@@ -15,7 +15,7 @@ pub enum Scale {
     Seconds,
 }
 
-#[derive(Drop)]
+#[derive(Clone, Copy)]
 pub enum ScaleFound {
     ThisScale(Scale),
     NoScale,
