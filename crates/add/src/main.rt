@@ -1,5 +1,7 @@
 // Adds the sheets that its arguments name and prints the text of the sum, or the one line `refused N`. What is printed is decided in `ledger`; here
 // are only the memory that is lent, the line of a refusal, and the writing, which nobody can prove.
+#![tactic(auto)]
+
 ghost use Rattle.std.specs.Prelude.{◌≡◌, ◌≤◌, length};
 ghost use Rattle.text.specs.Put.{put, after};
 ghost use Rattle.ledger.specs.Totals.{IsRefusal};

@@ -1,4 +1,6 @@
 // Printed sheets added. In come two texts; out goes the text of their sum at the front of a lent output, or a refusal, and then nothing is written.
+#![tactic(auto)]
+
 pub mod add;
 pub mod apart;
 pub mod form;

@@ -1,5 +1,7 @@
 // Every example of document 01, every settled reading, every slip and the limits, in one container: what is printed of each is held to
 // the file stdout.
+#![tactic(auto)]
+
 use bundle::container::say_all;
 use libc::STDIN_FILENO;
 

@@ -1,4 +1,6 @@
 // One line of a Best Trace Format 2.2.0 trace, read and written.
+#![tactic(auto)]
+
 pub mod event;
 pub mod parameter;
 pub mod reading;

@@ -1,4 +1,6 @@
 // The listings of document 000 as traces, in one container: what is printed of each is held to the file stdout.
+#![tactic(auto)]
+
 use bundle::container::say_all;
 use libc::STDIN_FILENO;
 

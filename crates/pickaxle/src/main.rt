@@ -1,5 +1,7 @@
 // Reads a trace from standard input and prints its verdict and, where it is accepted, its sheet. What is printed is decided in `input`; here
 // are only the memory that is lent and the writing, which nobody can prove.
+#![tactic(auto)]
+
 ghost use Rattle.input.specs.Whole.{IsText};
 
 use input::reads::BUFFER_SIZE;

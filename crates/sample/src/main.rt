@@ -1,4 +1,6 @@
 // The fixed sample of the second reader, in one container: what is printed of each trace is held to the second reader's answers.
+#![tactic(auto)]
+
 use bundle::container::say_all;
 use libc::STDIN_FILENO;
 

@@ -1,2 +1,4 @@
 // Names in the order of their bytes.
+#![tactic(auto)]
+
 pub mod order;

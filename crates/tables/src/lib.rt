@@ -1,5 +1,7 @@
 // The judge's whole state in three lent tables: names in bytes, numbers and states in u32, times and tick sums in u64. Here is where each entry lies; in come tables
 // as they are, and out goes whether they have their sizes, or they are made fresh.
+#![tactic(auto)]
+
 pub mod entry;
 pub mod fresh;
 pub mod size;

@@ -1,6 +1,8 @@
 // Reads lines from standard input and prints for each its answer and what it is: for an event line what `write` makes of it, its
 // source, target and note, and its count. Lines end at byte 10 here, whatever else they hold. After them come a few lines and
 // records that standard input can't hold or that no line gives.
+#![tactic(auto)]
+
 ghost use Rattle.std.specs.Prelude.{◌≤◌, length};
 
 use libc::{STDIN_FILENO, STDOUT_FILENO};

@@ -1,5 +1,7 @@
 // Pairs of sheets from one input, added: for each pair a header with the lengths of the two, and then the bytes of both. What is printed of each is the
 // text of the sum, or the line `refused N`; it is held to the second reader's answers.
+#![tactic(auto)]
+
 ghost use Rattle.std.specs.Prelude.{◌≤◌, ◌<◌, length};
 ghost use Rattle.try_sheets.specs.Steps.{Step};
 

@@ -13,6 +13,8 @@
 //   names I V N     stores V in N entries of names from entry I on; likewise nums and ticks
 //
 // A slash stands for byte 10, but not in a remark; a number that is missing is 1.
+#![tactic(auto)]
+
 mod buffers;
 mod call;
 mod compare;

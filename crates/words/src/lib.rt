@@ -1,4 +1,6 @@
 // The words of 000: types, events and time scales, read and written.
+#![tactic(auto)]
+
 pub mod action;
 pub mod class;
 pub mod code;

@@ -1,0 +1,14 @@
+-- `adding::merge::put_sums` meets its contract. The invariant: what is left of the sum, put where the output goes on, completes it.
+use Prim.Native.Nat.{◌+◌, ◌-◌}
+use native.Mathlib.Omega.{arith}
+use borrow.Author.Rules.{rules}
+use lib.ListN.{length}
+use Rattle.adding.proofs.Steps.{step}
+use Rattle.adding.proofs.Walks.{Walk, walk_start, walk_next, walk_step, left_fits, all_counted, all_put}
+use Rattle.adding.proofs.merge.put_sums.Given as goal
+
+abbrev pub invariant-loop-i : goal.invariant-loop-i
+invariant-loop-i l = Walk l.section l.s l.left l.x l.t l.right l.y l.initial.out l.out l.i l.j l.count l.at
+
+abbrev pub decreases-loop-i : goal.decreases-loop-i
+decreases-loop-i l = (length l.left + length l.right) - (l.i + l.j)

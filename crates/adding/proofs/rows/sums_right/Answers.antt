@@ -1,0 +1,10 @@
+-- `adding::rows::sums_right` meets its contract.
+use borrow.Author.Rules.{rules}
+use Rattle.adding.proofs.SumTests.{sums_wrong, sums_made}
+use Rattle.adding.proofs.rows.sums_right.Goals as goal
+
+pub returns-in_default : goal.returns-in_default
+returns-in_default c = sums_wrong _ _ _ _ c.all_held-held.ensures c.in_default.is
+
+pub returns : goal.returns
+returns c = sums_made _ _ _ _ c.all_held-held.ensures _ c.in-Value.is c.charges_make.ensures

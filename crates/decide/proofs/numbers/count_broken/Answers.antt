@@ -1,0 +1,38 @@
+-- `decide::numbers::count_broken` meets its contract: at each exit the tests passed say what the definition's tests say.
+use borrow.Author.Rules.{rules}
+use borrow.Author.Tests.{eq-eqb, ne_eqb, not-true, not-false}
+use Rattle.rules.specs.Words.{semaphore}
+use Rattle.decide.specs.PlanCode.{count_broken_in}
+use Rattle.decide.proofs.numbers.count_broken.Goals as goal
+
+pub returns-then-kind-ne-SEMAPHORE : goal.returns-then-kind-ne-SEMAPHORE
+unfolding count_broken_in
+returns-then-kind-ne-SEMAPHORE c = rw (ne_eqb _ semaphore c.if-kind-ne-SEMAPHORE.true)
+
+pub returns-then-not-count_fits : goal.returns-then-not-count_fits
+unfolding count_broken_in
+returns-then-not-count_fits c = rw (eq-eqb _ semaphore c.if-kind-ne-SEMAPHORE.false, ← c.count_fits.ensures, not-true c.count_fits.result c.if-not-count_fits.true-raw)
+
+pub returns-then-not-numbered_in : goal.returns-then-not-numbered_in
+unfolding count_broken_in
+returns-then-not-numbered_in c =
+    rw (
+      eq-eqb _ semaphore c.if-kind-ne-SEMAPHORE.false,
+      ← c.count_fits.ensures,
+      not-false c.count_fits.result c.if-not-count_fits.false-raw,
+      ← c.numbered_in.ensures,
+      not-true c.numbered_in.result c.if-not-numbered_in.true-raw,
+    )
+
+pub returns : goal.returns
+unfolding count_broken_in
+returns c =
+    rw (
+      eq-eqb _ semaphore c.if-kind-ne-SEMAPHORE.false,
+      ← c.count_fits.ensures,
+      not-false c.count_fits.result c.if-not-count_fits.false-raw,
+      ← c.numbered_in.ensures,
+      not-false c.numbered_in.result c.if-not-numbered_in.false-raw,
+      c.count_follows.ensures,
+      c.number_in.ensures,
+    )

@@ -1,0 +1,28 @@
+-- `decide::numbers::never_activated` meets its contract: at each exit the tests passed say what the definition's tests say.
+use mathlib.Core.Path.{◌≡◌, sym, ap, ◌∙◌}
+use mathlib.Core.Bool.{true, not}
+use lib.Dec.{eqb}
+use borrow.Author.Rules.{rules}
+use borrow.Author.Tests.{eq-eqb, ne_eqb}
+use Rattle.rules.specs.History.{has_instances, activates}
+use Rattle.tables.proofs.Chains.{pass, stop, passed, failed}
+use Rattle.decide.specs.Known.{state_in}
+use Rattle.decide.specs.PlanCode.{never_activated_in}
+use Rattle.decide.proofs.numbers.never_activated.Goals as goal
+
+-- ---- the exits
+pub returns-then-state_in-ne0 : goal.returns-then-state_in-ne0
+unfolding never_activated_in
+returns-then-state_in-ne0 c = stop _ (ne_eqb _ 0 (λ q. c.if-state_in-ne0.true (c.state_in.ensures ∙ q)))
+
+pub returns-then-not-with_instances : goal.returns-then-not-with_instances
+unfolding never_activated_in
+returns-then-not-with_instances c = pass ((let fact : let a = c.args in eqb (state_in a.nums.now a.s a.kind) 0 ≡ true = eq-eqb _ 0 (sym c.state_in.ensures ∙ c.if-state_in-ne0.false) in fact)) (stop _ (failed c.with_instances.ensures c.if-not-with_instances.true-raw))
+
+pub returns-then-numbers_instance : goal.returns-then-numbers_instance
+unfolding never_activated_in
+returns-then-numbers_instance c = pass ((let fact : let a = c.args in eqb (state_in a.nums.now a.s a.kind) 0 ≡ true = eq-eqb _ 0 (sym c.state_in.ensures ∙ c.if-state_in-ne0.false) in fact)) (pass ((let fact : has_instances c.args.kind ≡ true = passed c.with_instances.ensures c.if-not-with_instances.false-raw in fact)) (stop _ (ap not (sym c.numbers_instance.ensures ∙ c.if-numbers_instance.true))))
+
+pub returns : goal.returns
+unfolding never_activated_in
+returns c = pass ((let fact : let a = c.args in eqb (state_in a.nums.now a.s a.kind) 0 ≡ true = eq-eqb _ 0 (sym c.state_in.ensures ∙ c.if-state_in-ne0.false) in fact)) (pass ((let fact : has_instances c.args.kind ≡ true = passed c.with_instances.ensures c.if-not-with_instances.false-raw in fact)) (pass ((let fact : let a = c.args in not (activates a.kind a.word) ≡ true = ap not (sym c.numbers_instance.ensures ∙ c.if-numbers_instance.false) in fact)) c.reaches_first.ensures))

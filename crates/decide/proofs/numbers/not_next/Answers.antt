@@ -1,0 +1,15 @@
+-- `decide::numbers::not_next` meets its contract: only an event that numbers its instance has a number that is not the next.
+use mathlib.Core.Bool.{not}
+use mathlib.Core.Path.{ap}
+use borrow.Author.Rules.{rules}
+use Rattle.tables.proofs.Chains.{pass, stop, passed, failed}
+use Rattle.decide.specs.PlanCode.{not_next_in}
+use Rattle.decide.proofs.numbers.not_next.Goals as goal
+
+pub returns-then-not-numbers_instance : goal.returns-then-not-numbers_instance
+unfolding not_next_in
+returns-then-not-numbers_instance c = stop _ (failed c.numbers_instance.ensures c.if-not-numbers_instance.true-raw)
+
+pub returns : goal.returns
+unfolding not_next_in
+returns c = pass (passed c.numbers_instance.ensures c.if-not-numbers_instance.false-raw) (ap not c.is_next.ensures)

@@ -1,0 +1,13 @@
+-- `decide::numbers::reaches_first` meets its contract: without a number none is reached, and else the first one is compared.
+use borrow.Author.Rules.{rules}
+use Rattle.tables.proofs.Chains.{pass, stop, passed, failed}
+use Rattle.decide.specs.PlanCode.{reaches_first}
+use Rattle.decide.proofs.numbers.reaches_first.Goals as goal
+
+pub returns-then-not-numbered_in : goal.returns-then-not-numbered_in
+unfolding reaches_first
+returns-then-not-numbered_in c = stop _ (failed c.numbered_in.ensures c.if-not-numbered_in.true-raw)
+
+pub returns : goal.returns
+unfolding reaches_first
+returns c = pass (passed c.numbered_in.ensures c.if-not-numbered_in.false-raw) (rw c.first_number_in.ensures)

@@ -1,0 +1,50 @@
+use mathlib.Core.Path.{◌≡◌, refl, sym}
+use Prim.Native.Nat.{◌-◌, ◌≤◌}
+use native.Mathlib.Omega.{arith}
+use borrow.Author.Rules.{rules}
+use lib.ListN.{length}
+use Rattle.fields.specs.Part.{field_of, field_at, part_from, start_at}
+use Rattle.text.proofs.Finds.{find_ge, find_le}
+use Rattle.fields.proofs.Parts.{From, field_turn, field_stop, field_found, at_turn, at_stop, at_found}
+use Rattle.fields.proofs.part.field.Goals as goal
+
+pub returns-then-k-eq0 : goal.returns-then-k-eq0
+unfolding field_of field_at
+returns-then-k-eq0 c = record { block = refl; place = rw c.if-k-eq0.true; bytes = rw c.if-k-eq0.true }
+
+pub loop-j-init : goal.loop-j-init
+loop-j-init c = (omega arith, omega arith, omega arith, refl, refl)
+
+pub returns-then-line-c : goal.returns-then-line-c
+returns-then-line-c c =
+    let l = c.loop-j in
+    record {
+      block = refl;
+      place = rw (at_stop _ _ l.j _ _ c.find-c.ensures l.invariant.0 l.invariant.4 c.if-line-c.true c.loop-j-test.true);
+      bytes = sym (field_stop _ _ l.j _ _ c.find-c.ensures l.invariant.0 l.invariant.3 c.if-line-c.true c.loop-j-test.true);
+    }
+
+pub loop-j-preserved : goal.loop-j-preserved
+loop-j-preserved c =
+    let l = c.loop-j in
+    let next = field_turn _ _ _ _ c.find-c.ensures l.invariant.0 l.invariant.3 c.if-line-c.false in
+    (omega arith, omega arith, omega arith, next, at_turn _ _ _ _ c.find-c.ensures l.invariant.0 l.invariant.4)
+
+pub slice_bounds-result-count-2 : goal.slice_bounds-result-count-2
+slice_bounds-result-count-2 c = ((let fact : (c.loop-j.a ≤ c.find-b.result) × (c.find-b.result ≤ length c.args.line.now) = let line = c.args.line.now in (rw c.find-b.ensures (find_ge 44 line c.loop-j.a), rw c.find-b.ensures (find_le 44 line c.loop-j.a (length line) (omega arith) c.loop-j.invariant.2)) in fact)).0
+
+pub slice_bounds-result-start-2 : goal.slice_bounds-result-start-2
+slice_bounds-result-start-2 c = let h = (let fact : (c.loop-j.a ≤ c.find-b.result) × (c.find-b.result ≤ length c.args.line.now) = let line = c.args.line.now in (rw c.find-b.ensures (find_ge 44 line c.loop-j.a), rw c.find-b.ensures (find_le 44 line c.loop-j.a (length line) (omega arith) c.loop-j.invariant.2)) in fact) in search rules
+
+pub slice_bounds-result-end-2 : goal.slice_bounds-result-end-2
+slice_bounds-result-end-2 c = let h = (let fact : (c.loop-j.a ≤ c.find-b.result) × (c.find-b.result ≤ length c.args.line.now) = let line = c.args.line.now in (rw c.find-b.ensures (find_ge 44 line c.loop-j.a), rw c.find-b.ensures (find_le 44 line c.loop-j.a (length line) (omega arith) c.loop-j.invariant.2)) in fact) in search rules
+
+pub returns : goal.returns
+unfolding part_from
+returns c =
+    let l = c.loop-j in
+    record {
+      block = refl;
+      place = rw (at_found _ _ l.j _ l.invariant.0 l.invariant.4 l.invariant.2 l.invariant.1 c.loop-j-test.false);
+      bytes = sym (field_found _ _ l.j _ _ c.find-b.ensures l.invariant.0 l.invariant.3 l.invariant.1 c.loop-j-test.false);
+    }

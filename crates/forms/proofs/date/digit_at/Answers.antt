@@ -1,0 +1,16 @@
+-- `forms::date::digit_at` meets its contract: a byte is below 256, and one below `0` leaves no digit.
+use native.Mathlib.Omega.{arith}
+use borrow.Author.Rules.{rules}
+use Rattle.forms.specs.Date.{digit_at}
+use Rattle.forms.proofs.date.digit_at.Goals as goal
+
+pub returns-then-s-i-lt48 : goal.returns-then-s-i-lt48
+unfolding digit_at
+returns-then-s-i-lt48 c = (omega arith, omega arith)
+
+pub overflow_cast-result : goal.overflow_cast-result
+overflow_cast-result c = omega (arith, c.type_inv.s c.args.i)
+
+pub returns : goal.returns
+unfolding digit_at
+returns c = (omega arith, omega (arith, c.type_inv.s c.args.i))

@@ -1,0 +1,25 @@
+-- `line::event::read_fields` meets its contract: the names, then the numbers, then type and event, then what a known pair says.
+use mathlib.Core.Path.{◌≡◌, sym, ◌∙◌}
+use mathlib.Core.Bool.{true}
+use borrow.Author.Rules.{rules}
+use borrow.Author.Tests.{not-true, not-false}
+use Rattle.line.specs.Event.{has_names, fields_reading}
+use Rattle.line.proofs.event.read_fields.Goals as goal
+
+pub returns-then-not-names : goal.returns-then-not-names
+unfolding fields_reading
+returns-then-not-names c = rw (← c.names.ensures, not-true c.names.result c.if-not-names.true-raw)
+
+pub returns-in_default : goal.returns-in_default
+unfolding fields_reading
+returns-in_default c = rw ((let fact : let a = c.args in has_names a.source.now a.target.now a.note.now a.noted ≡ true = sym c.names.ensures ∙ not-false _ c.if-not-names.false-raw in fact), ← c.read_numbers-n.ensures, c.in_default.is)
+
+pub returns-in_default-p : goal.returns-in_default-p
+unfolding fields_reading
+returns-in_default-p c = rw ((let fact : let a = c.args in has_names a.source.now a.target.now a.note.now a.noted ≡ true = sym c.names.ensures ∙ not-false _ c.if-not-names.false-raw in fact), ← c.read_numbers-n.ensures, c.in-TimeAndInstances.is, ← c.named-p.ensures, c.in_default-p.is)
+
+pub returns : goal.returns
+unfolding fields_reading
+returns c =
+    rw ((let fact : let a = c.args in has_names a.source.now a.target.now a.note.now a.noted ≡ true = sym c.names.ensures ∙ not-false _ c.if-not-names.false-raw in fact), ← c.read_numbers-n.ensures, c.in-TimeAndInstances.is, ← c.named-p.ensures, c.in-Known.is)
+    c.read_known.ensures

@@ -1,0 +1,19 @@
+-- `line::event::read_known` meets its contract: the note's form, then the rules.
+use mathlib.Core.Path.{◌≡◌, sym, ◌∙◌}
+use borrow.Author.Rules.{rules}
+use Rattle.forms.specs.declared.note.Note.TheVariants.{Means}
+use Rattle.forms.specs.Note.{note_of}
+use Rattle.line.specs.Event.{known_reading}
+use Rattle.line.proofs.event.read_known.Goals as goal
+
+pub returns-in_default : goal.returns-in_default
+unfolding known_reading
+returns-in_default c = rw (← c.note_of-n.ensures, c.in_default.is)
+
+pub returns-then-rule_broken : goal.returns-then-rule_broken
+unfolding known_reading
+returns-then-rule_broken c = rw ((let fact : let a = c.args in note_of a.kind a.note.now ≡ Means c.in-Means.count = sym c.note_of-n.ensures ∙ c.in-Means.is in fact), ← c.rule_broken.ensures, c.if-rule_broken.true)
+
+pub returns : goal.returns
+unfolding known_reading
+returns c = rw ((let fact : let a = c.args in note_of a.kind a.note.now ≡ Means c.in-Means.count = sym c.note_of-n.ensures ∙ c.in-Means.is in fact), ← c.rule_broken.ensures, c.if-rule_broken.false)

@@ -1,0 +1,13 @@
+-- `line::parameter::creator` meets its contract: the tests made are the definition's.
+use borrow.Author.Rules.{rules}
+use borrow.Author.Tests.{not-true, not-false}
+use Rattle.line.specs.Parameter.{is_creator}
+use Rattle.line.proofs.parameter.creator.Goals as goal
+
+pub returns-then-not-starts : goal.returns-then-not-starts
+unfolding is_creator
+returns-then-not-starts c = rw (← c.starts.ensures, not-true c.starts.result c.if-not-starts.true-raw)
+
+pub returns : goal.returns
+unfolding is_creator
+returns c = rw (← c.starts.ensures, not-false c.starts.result c.if-not-starts.false-raw)

@@ -1,0 +1,45 @@
+-- `lookup::find::find_instance` meets its contract. No row past those that there is room for is the instance; the marks of the newest sixteen tell
+-- its last row, or that it is below them.
+use mathlib.Core.Path.{sym, ◌∙◌}
+use Prim.Native.Nat.{◌-◌, ◌*◌, ◌/◌}
+use native.Mathlib.Omega.{arith}
+use borrow.Author.Rules.{rules}
+use borrow.Author.Tests.{ne_eqb}
+use lib.Pow.{pow_pos}
+use Rattle.tables.specs.Entry.{instances_index}
+use Rattle.lookup.specs.Find.{find_instance}
+use Rattle.lookup.proofs.Found.{last_end}
+use Rattle.lookup.proofs.Gathered.{weight_of, front_marked, last_marked, last_unmarked, instance_below}
+use Rattle.lookup.proofs.find.find_instance.Goals as goal
+
+pub returns-then-nums-ne-NUMS_SIZE : goal.returns-then-nums-ne-NUMS_SIZE
+unfolding find_instance
+returns-then-nums-ne-NUMS_SIZE c = rw (ne_eqb _ _ c.if-nums-ne-NUMS_SIZE.true)
+
+pub overflow_cast-nums : goal.overflow_cast-nums
+overflow_cast-nums c = omega (arith, c.type_inv.nums instances_index)
+
+pub returns-then-n-eq0 : goal.returns-then-n-eq0
+returns-then-n-eq0 c = sym (instance_below _ _ _ c.rows-n.result c.if-nums-ne-NUMS_SIZE.false c.rows-n.ensures ∙ last_end _ _ (omega arith))
+
+pub nonzero_rem-m : goal.nonzero_rem-m
+nonzero_rem-m c =
+    let n = c.rows-n.result in
+    let k = n - (n - 1) / 16 * 16 in
+    rw (weight_of k (omega arith)) (pow_pos k)
+
+pub returns-then-m-ne0 : goal.returns-then-m-ne0
+returns-then-m-ne0 c =
+    let n = c.rows-n.result in
+    let at = (n - 1) / 16 * 16 in
+    let marks = front_marked _ (n - at) at c.sixteen.result (omega arith) c.sixteen.ensures in
+    sym (instance_below _ _ _ n c.if-nums-ne-NUMS_SIZE.false c.rows-n.ensures
+    ∙ last_marked _ (n - at) at n _ (omega arith) marks (omega arith) c.if-m-ne0.true ∙ sym c.last_of.ensures)
+
+pub returns : goal.returns
+returns c =
+    let n = c.rows-n.result in
+    let at = (n - 1) / 16 * 16 in
+    let marks = front_marked _ (n - at) at c.sixteen.result (omega arith) c.sixteen.ensures in
+    sym (instance_below _ _ _ n c.if-nums-ne-NUMS_SIZE.false c.rows-n.ensures
+    ∙ last_unmarked _ (n - at) at n _ (omega arith) marks c.if-m-ne0.false ∙ sym c.find_below.ensures)

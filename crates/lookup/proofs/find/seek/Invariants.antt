@@ -1,0 +1,17 @@
+-- `lookup::find::seek` meets its contract. The invariant: what is found is what is found from the distance `d` on.
+use mathlib.Core.Path.{◌≡◌, sym, ◌∙◌}
+use Prim.Native.Nat.{◌-◌}
+use native.Mathlib.Omega.{arith}
+use borrow.Author.Rules.{rules}
+use Rattle.tables.specs.Entry.{place_rows}
+use Rattle.index.specs.Index.{place, sought}
+use Rattle.index.proofs.Right.{place_lt}
+use Rattle.lookup.specs.Find.{ends_at, row_met}
+use Rattle.lookup.proofs.Seeks.{met_from, seek_begin, seek_free, seek_hit, seek_miss, seek_end}
+use Rattle.lookup.proofs.find.seek.Given as goal
+
+abbrev pub invariant-loop-d : goal.invariant-loop-d
+invariant-loop-d l = row_met l.index l.home (sought l.index l.home (ends_at l.names l.nums l.name)) ≡ met_from l.names l.nums l.name l.index l.home l.d
+
+abbrev pub decreases-loop-d : goal.decreases-loop-d
+decreases-loop-d l = place_rows - l.d

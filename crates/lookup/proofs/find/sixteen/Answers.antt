@@ -1,0 +1,28 @@
+use mathlib.Core.Path.{◌≡◌, refl}
+use Prim.Native.Nat.{◌+◌, ◌-◌, ◌^◌, ◌≤◌}
+use native.Mathlib.Omega.{arith}
+use borrow.Author.Rules.{rules}
+use lib.Pow.{pow_mono}
+use Rattle.marks.specs.Marks.{marks_from}
+use Rattle.marks.proofs.Lasts.{marks_lt}
+use Rattle.lookup.specs.Find.{instance_is}
+use Rattle.lookup.proofs.Gathered.{weight_next, row_marked}
+use Rattle.lookup.proofs.find.sixteen.Goals as goal
+
+pub loop-k-init : goal.loop-k-init
+unfolding marks_from
+loop-k-init c = (search rules, refl, refl)
+
+pub overflow_add-w : goal.overflow_add-w
+overflow_add-w c = let k = c.loop-k.k in omega (arith, pow_mono {i = k} {j = 16} (search rules))
+
+pub loop-k-preserved : goal.loop-k-preserved
+loop-k-preserved c =
+    let a = c.args in (
+      search rules,
+      row_marked a.nums.now a.owner a.number a.at c.loop-k.k _ _ _ (search rules) c.loop-k.invariant.1 c.loop-k.invariant.2 c.weight-m.ensures,
+      weight_next c.loop-k.k c.loop-k.w c.loop-k.invariant.2,
+    )
+
+pub returns : goal.returns
+returns c = let k : c.loop-k.k ≡ 16 = omega arith in rw k at c.loop-k.invariant.1

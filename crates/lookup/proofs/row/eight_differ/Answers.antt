@@ -1,0 +1,27 @@
+use mathlib.Core.Path.{◌≡◌}
+use mathlib.Core.Bool.{true, false}
+use Prim.Native.Nat.{◌+◌, ◌-◌, ◌≤◌}
+use native.Mathlib.Omega.{arith}
+use borrow.Author.Rules.{rules}
+use lib.ListN.{length, drop}
+use Rattle.text.specs.Bytes.{same_bytes}
+use Rattle.lookup.proofs.Compared.{eight_start, eight_other, eight_turn}
+use Rattle.lookup.proofs.row.eight_differ.Goals as goal
+
+pub loop-k-init : goal.loop-k-init
+loop-k-init c = (search rules, λ e. let z : false ≡ true = e in cc, λ e. eight_start c.args.row.now c.args.name.now c.args.at)
+
+pub loop-k-preserved : goal.loop-k-preserved
+loop-k-preserved c =
+    let a = c.args in
+    let i = a.at + c.loop-k.k in (
+      search rules,
+      eight_other a.row.now a.name.now i c.loop-k.differ c.loop-k.invariant.1,
+      eight_turn a.row.now a.name.now a.at c.loop-k.k c.loop-k.differ (omega arith) c.requires.1 c.loop-k.invariant.2,
+    )
+
+pub returns : goal.returns
+returns c =
+    let l = c.loop-k in
+    let k : l.k ≡ 8 = omega arith in
+    (l.invariant.1, rw k at l.invariant.2)

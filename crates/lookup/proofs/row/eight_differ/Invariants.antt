@@ -1,0 +1,17 @@
+-- `lookup::row::eight_differ` meets its contract. The invariant: where two bytes differed, the row is not the name; where none did yet, both are the same
+-- from `at` on if they are from at + k on.
+use mathlib.Core.Path.{◌≡◌}
+use mathlib.Core.Bool.{true, false}
+use Prim.Native.Nat.{◌+◌, ◌-◌, ◌≤◌}
+use native.Mathlib.Omega.{arith}
+use borrow.Author.Rules.{rules}
+use lib.ListN.{length, drop}
+use Rattle.text.specs.Bytes.{same_bytes}
+use Rattle.lookup.proofs.Compared.{eight_start, eight_other, eight_turn}
+use Rattle.lookup.proofs.row.eight_differ.Given as goal
+
+abbrev pub invariant-loop-k : goal.invariant-loop-k
+invariant-loop-k l = (l.k ≤ 8) × (l.differ ≡ true → same_bytes l.row l.name ≡ false) × (l.differ ≡ false → drop (l.at + l.k) l.row ≡ drop (l.at + l.k) l.name → drop l.at l.row ≡ drop l.at l.name)
+
+abbrev pub decreases-loop-k : goal.decreases-loop-k
+decreases-loop-k l = 8 - l.k

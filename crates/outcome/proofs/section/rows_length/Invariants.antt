@@ -1,0 +1,16 @@
+-- `outcome::section::rows_length` meets its contract. The invariant: the sum is the length of the lines of the first i rows. It does not wrap, since
+-- each line is short.
+use Rattle.std.proofs.Common.{◌≡◌, ◌-◌, ◌≤◌, length, sym, refl, ◌∙◌, ⊎_elim, arith, rules}
+use Rattle.bill.specs.Text.{rows_text}
+use Rattle.tables.specs.Entry.{name_rows, nums_size, names_index, name_count}
+use Rattle.ranges.proofs.Valid.{valid}
+use Rattle.sheet.specs.Sheet.{rows_to, rows_in}
+use Rattle.sheet.proofs.Rows.{length_in, row_out}
+use Rattle.sheet.proofs.Short.{row_short, rows_short}
+use Rattle.outcome.proofs.section.rows_length.Given as goal
+
+abbrev pub invariant-loop-i : goal.invariant-loop-i
+invariant-loop-i l = (l.i ≤ l.n) × (l.n ≤ name_rows) × (length l.nums ≡ nums_size) × (l.sum ≡ length (rows_text (rows_to l.section l.names l.nums l.ticks l.i)))
+
+abbrev pub decreases-loop-i : goal.decreases-loop-i
+decreases-loop-i l = l.n - l.i

@@ -1,0 +1,21 @@
+use mathlib.Core.Path.{◌≡◌}
+use mathlib.Core.Logic.{⊎_elim}
+use Prim.Native.Nat.{◌+◌, ◌-◌, ◌≤◌}
+use native.Mathlib.Omega.{arith}
+use lib.ListN.{drop}
+use borrow.Author.Rules.{rules}
+use Rattle.tables.specs.Entry.{place_rows}
+use Rattle.index.specs.Taken.{taken_places}
+use Rattle.index.proofs.Tally.{turn_taken, turn_free, taken_end}
+use Rattle.ranges.proofs.placed.taken_places.Goals as goal
+
+pub loop-p-preserved : goal.loop-p-preserved
+loop-p-preserved c =
+    let index = c.args.index.now in
+    ⊎_elim
+    (λ w. (search rules, (search rules, omega (arith, turn_taken index c.loop-p.p (omega arith) w.0.taken))))
+    (λ w. (search rules, (search rules, omega (arith, turn_free index c.loop-p.p (omega arith) w.0.left))))
+    c.if-index-p-ne0.branch
+
+pub returns : goal.returns
+returns c = omega (arith, taken_end c.args.index.now c.loop-p.p (omega arith))

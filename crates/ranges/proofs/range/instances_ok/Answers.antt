@@ -1,0 +1,22 @@
+use mathlib.Core.Path.{◌≡◌, sym}
+use mathlib.Core.Bool.{true}
+use Prim.Native.Nat.{ℕ, ◌-◌, ◌≤◌, ◌<◌}
+use native.Mathlib.Omega.{arith}
+use borrow.Author.Count.{below_none, below_more}
+use borrow.Author.Rules.{rules}
+use Rattle.tables.proofs.Chains.{passed, failed}
+use Rattle.ranges.specs.Range.{instance_ok}
+use Rattle.ranges.proofs.UpTo.{up_all, up_not}
+use Rattle.ranges.proofs.range.instances_ok.Goals as goal
+
+pub loop-j-init : goal.loop-j-init
+loop-j-init c = (search rules, below_none _)
+
+pub returns-then-not-instance_ok : goal.returns-then-not-instance_ok
+returns-then-not-instance_ok c = sym (up_not _ _ _ c.loop-j-test.true (failed c.instance_ok.ensures c.if-not-instance_ok.true-raw))
+
+pub loop-j-preserved : goal.loop-j-preserved
+loop-j-preserved c = (search rules, below_more _ _ c.loop-j.invariant.1 (passed c.instance_ok.ensures c.if-not-instance_ok.false-raw))
+
+pub returns : goal.returns
+returns c = sym (up_all _ _ (λ k h. c.loop-j.invariant.1 k (omega arith)))

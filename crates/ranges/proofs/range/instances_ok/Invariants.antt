@@ -1,0 +1,17 @@
+-- `ranges::range::instances_ok` meets its contract. The invariant: every row before `j` passes.
+use mathlib.Core.Path.{◌≡◌, sym}
+use mathlib.Core.Bool.{true}
+use Prim.Native.Nat.{ℕ, ◌-◌, ◌≤◌, ◌<◌}
+use native.Mathlib.Omega.{arith}
+use borrow.Author.Count.{below_none, below_more}
+use borrow.Author.Rules.{rules}
+use Rattle.tables.proofs.Chains.{passed, failed}
+use Rattle.ranges.specs.Range.{instance_ok}
+use Rattle.ranges.proofs.UpTo.{up_all, up_not}
+use Rattle.ranges.proofs.range.instances_ok.Given as goal
+
+abbrev pub invariant-loop-j : goal.invariant-loop-j
+invariant-loop-j l = (l.j ≤ l.n) × ((k : ℕ) → k < l.j → instance_ok l.nums k ≡ true)
+
+abbrev pub decreases-loop-j : goal.decreases-loop-j
+decreases-loop-j l = l.n - l.j

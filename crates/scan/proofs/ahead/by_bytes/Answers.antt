@@ -1,0 +1,23 @@
+-- `scan::ahead::by_bytes` meets its contract: what the bytes of the line found tell.
+use Rattle.std.proofs.Common.{◌≤◌, length, sym, ◌∙◌, arith, rules}
+use Rattle.fields.specs.Part.{part_from}
+use Rattle.scan.specs.Ahead.{ahead_of}
+use Rattle.scan.proofs.Nexts.{line_inside}
+use Rattle.scan.proofs.ahead.by_bytes.Goals as goal
+
+pub returns-in_default : goal.returns-in_default
+unfolding ahead_of
+returns-in_default c = rw (sym c.next_at-next.ensures ∙ c.in_default.is)
+
+pub slice_bounds-line-count : goal.slice_bounds-line-count
+slice_bounds-line-count c = omega (arith, (let fact : let a = c.args in (a.at ≤ c.in-Line.end) × (c.in-Line.end ≤ length a.s.now) = line_inside _ _ _ _ _ (sym c.next_at-next.ensures ∙ c.in-Line.is) in fact))
+
+pub slice_bounds-line-start : goal.slice_bounds-line-start
+slice_bounds-line-start c = omega (arith, (let fact : let a = c.args in (a.at ≤ c.in-Line.end) × (c.in-Line.end ≤ length a.s.now) = line_inside _ _ _ _ _ (sym c.next_at-next.ensures ∙ c.in-Line.is) in fact))
+
+pub slice_bounds-line-end : goal.slice_bounds-line-end
+slice_bounds-line-end c = omega (arith, (let fact : let a = c.args in (a.at ≤ c.in-Line.end) × (c.in-Line.end ≤ length a.s.now) = line_inside _ _ _ _ _ (sym c.next_at-next.ensures ∙ c.in-Line.is) in fact))
+
+pub returns : goal.returns
+unfolding ahead_of part_from
+returns c = rw (sym c.next_at-next.ensures ∙ c.in-Line.is, c.all_plain.ensures, c.split.ensures)

@@ -1,0 +1,22 @@
+use mathlib.Core.Path.{◌≡◌, refl, sym, ◌∙◌}
+use mathlib.Core.Bool.{cond}
+use mathlib.Core.List.{[]}
+use Prim.Native.Nat.{◌+◌, ◌-◌, ◌≤◌}
+use native.Mathlib.Omega.{arith}
+use borrow.Author.Rules.{rules}
+use lib.ListN.{length, get_or, drop}
+use Rattle.steps.specs.Rows.{entered_in}
+use Rattle.steps.proofs.Rows.{row_turn, row_end}
+use Rattle.steps.proofs.chart.entered.Goals as goal
+
+pub loop-at-init : goal.loop-at-init
+loop-at-init c = (search rules, refl)
+
+pub returns-then-row_serves : goal.returns-then-row_serves
+returns-then-row_serves c = sym ((let fact : let a = c.args in entered_in a.rows.now a.word a.state ≡ cond c.row_serves.result (get_or (get_or a.rows.now c.loop-at.at []) 2 0) (entered_in (drop (c.loop-at.at + 1) a.rows.now) a.word a.state) = c.loop-at.invariant.1 ∙ row_turn _ c.loop-at.at _ _ c.loop-at-test.true ∙ rw c.row_serves.ensures in fact) ∙ rw c.if-row_serves.true)
+
+pub loop-at-preserved : goal.loop-at-preserved
+loop-at-preserved c = (omega arith, (let fact : let a = c.args in entered_in a.rows.now a.word a.state ≡ cond c.row_serves.result (get_or (get_or a.rows.now c.loop-at.at []) 2 0) (entered_in (drop (c.loop-at.at + 1) a.rows.now) a.word a.state) = c.loop-at.invariant.1 ∙ row_turn _ c.loop-at.at _ _ c.loop-at-test.true ∙ rw c.row_serves.ensures in fact) ∙ rw c.if-row_serves.false)
+
+pub returns : goal.returns
+returns c = sym (c.loop-at.invariant.1 ∙ row_end _ c.loop-at.at _ _ c.loop-at-test.false)

@@ -1,0 +1,26 @@
+-- `steps::kind::core_class` meets its contract: an event of another type does nothing to a core, and one of T or I what its class says.
+use mathlib.Core.Path.{◌≡◌, sym, ◌∙◌}
+use borrow.Author.Tests.{not-true, not-false, eq-eqb, ne_eqb}
+use Rattle.words.specs.Class.{polling}
+use Rattle.rules.specs.Core.{core_class}
+use Rattle.steps.proofs.CoreClasses.{by_class, class_off, class_says}
+use Rattle.steps.proofs.kind.core_class.Goals as goal
+
+pub returns-then-not-is_process : goal.returns-then-not-is_process
+returns-then-not-is_process c = let p = c.is_process in class_off _ _ (sym p.ensures ∙ not-true p.result c.if-not-is_process.true-raw)
+
+pub returns-then-class : goal.returns-then-class
+unfolding by_class
+returns-then-class c = rw (← (let fact : by_class c.class_at-class.result ≡ core_class c.args.kind c.args.word = let p = c.is_process in class_says _ _ _ (sym p.ensures ∙ not-false p.result c.if-not-is_process.false-raw) c.class_at-class.ensures in fact), c.if-class.true)
+
+pub returns-then-class-2 : goal.returns-then-class-2
+unfolding by_class
+returns-then-class-2 c = rw (← (let fact : by_class c.class_at-class.result ≡ core_class c.args.kind c.args.word = let p = c.is_process in class_says _ _ _ (sym p.ensures ∙ not-false p.result c.if-not-is_process.false-raw) c.class_at-class.ensures in fact), c.if-class.false, c.if-class-2.true)
+
+pub returns-then-class-eq-POLLING : goal.returns-then-class-eq-POLLING
+unfolding by_class
+returns-then-class-eq-POLLING c = rw (← (let fact : by_class c.class_at-class.result ≡ core_class c.args.kind c.args.word = let p = c.is_process in class_says _ _ _ (sym p.ensures ∙ not-false p.result c.if-not-is_process.false-raw) c.class_at-class.ensures in fact), c.if-class.false, c.if-class-2.false, eq-eqb _ polling c.if-class-eq-POLLING.true)
+
+pub returns-else-class-eq-POLLING : goal.returns-else-class-eq-POLLING
+unfolding by_class
+returns-else-class-eq-POLLING c = rw (← (let fact : by_class c.class_at-class.result ≡ core_class c.args.kind c.args.word = let p = c.is_process in class_says _ _ _ (sym p.ensures ∙ not-false p.result c.if-not-is_process.false-raw) c.class_at-class.ensures in fact), c.if-class.false, c.if-class-2.false, ne_eqb _ polling c.if-class-eq-POLLING.false)

@@ -1,0 +1,13 @@
+-- `store::entries::store_standing` meets its contract: one store where the row is one of a name.
+use Rattle.std.proofs.Common.{rules, le-ltb, lt-ltb}
+use Rattle.tables.specs.Entry.{name_rows}
+use Rattle.store.specs.Store.{store_standing}
+use Rattle.store.proofs.entries.store_standing.Goals as goal
+
+pub returns-then-i-ge-NAME_ROWS : goal.returns-then-i-ge-NAME_ROWS
+unfolding store_standing
+returns-then-i-ge-NAME_ROWS c = rw (le-ltb _ name_rows c.if-i-ge-NAME_ROWS.true)
+
+pub returns : goal.returns
+unfolding store_standing
+returns c = rw (lt-ltb _ name_rows c.if-i-ge-NAME_ROWS.false)

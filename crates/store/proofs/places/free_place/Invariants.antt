@@ -1,0 +1,13 @@
+-- `store::places::free_place` meets its contract. The invariant: the first free place is the first one from the distance `d` on.
+use Rattle.std.proofs.Common.{◌≡◌, ◌-◌, sym, ◌∙◌, arith, rules}
+use Rattle.tables.specs.Entry.{place_rows}
+use Rattle.index.specs.Index.{free}
+use Rattle.index.proofs.Right.{place_lt}
+use Rattle.store.proofs.PlaceStores.{free_from, free_begin, free_here, free_on, free_none}
+use Rattle.store.proofs.places.free_place.Given as goal
+
+abbrev pub invariant-loop-d : goal.invariant-loop-d
+invariant-loop-d l = free l.index l.home ≡ free_from l.index l.home l.d
+
+abbrev pub decreases-loop-d : goal.decreases-loop-d
+decreases-loop-d l = place_rows - l.d

@@ -1,0 +1,10 @@
+-- `text::bytes::same` meets its contract. The invariant: from `i` on the slices are the same.
+use Rattle.std.proofs.Common.{◌≡◌, ◌≤◌, length, drop, sym, rules}
+use Rattle.text.proofs.Words.{other_length, other_byte, back_start, back_turn, back_end}
+use Rattle.text.proofs.bytes.same.Given as goal
+
+abbrev pub invariant-loop-i : goal.invariant-loop-i
+invariant-loop-i l = (l.i ≤ length l.s) × (length l.s ≡ length l.t) × (drop l.i l.s ≡ drop l.i l.t)
+
+abbrev pub decreases-loop-i : goal.decreases-loop-i
+decreases-loop-i l = l.i

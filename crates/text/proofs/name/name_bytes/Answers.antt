@@ -1,0 +1,23 @@
+use Rattle.std.proofs.Common.{◌≡◌, ◌-◌, ◌≤◌, true, length, take, sym, refl, ◌∙◌, arith, rules}
+use borrow.Author.Tests.{not-true, not-false}
+use Rattle.text.specs.Name.{all_name_bytes}
+use Rattle.text.proofs.Names.{eight_more, eight_odd, eight_last}
+use Rattle.text.proofs.name.name_bytes.Goals as goal
+
+pub returns-then-n-lt8 : goal.returns-then-n-lt8
+returns-then-n-lt8 c = c.few_named.ensures
+
+pub loop-i-init : goal.loop-i-init
+unfolding all_name_bytes
+loop-i-init c = (search rules, refl)
+
+pub returns-then-not-eight_named : goal.returns-then-not-eight_named
+returns-then-not-eight_named c = sym (eight_odd _ c.loop-i.i c.loop-i.invariant.1 (sym c.eight_named.ensures ∙ not-true _ c.if-not-eight_named.true-raw))
+
+pub loop-i-preserved : goal.loop-i-preserved
+loop-i-preserved c = (search rules, eight_more _ c.loop-i.i c.loop-i.invariant.1 (sym c.eight_named.ensures ∙ not-false _ c.if-not-eight_named.false-raw))
+
+pub returns : goal.returns
+returns c =
+    let s = c.args.s.now in
+    c.eight_named-2.ensures ∙ sym (eight_last s c.loop-i.i (length s - 8) c.loop-i.invariant.1 c.loop-i-test.false (omega arith))

@@ -1,0 +1,23 @@
+-- `text::put::put_number` meets its contract: where there is no room nothing is put, and otherwise the digits written are.
+use Rattle.std.proofs.Common.{◌+◌, length, sym, arith, rules}
+use Rattle.text.proofs.Writes.{put_full, put_done, no_room, has_room}
+use Rattle.text.proofs.put.put_number.Goals as goal
+
+pub returns-then-not-room : goal.returns-then-not-room
+returns-then-not-room c =
+    let a = c.args in
+    sym (put_full _ _ _ (omega (arith, no_room _ (a.at + c.digit_count-n.result) (length a.out.now) c.room.ensures c.if-not-room.true-raw)))
+
+pub overflow_add-end : goal.overflow_add-end
+overflow_add-end c =
+    let a = c.args in
+    omega (arith, has_room _ (a.at + c.digit_count-n.result) (length a.out.now) c.room.ensures c.if-not-room.false-raw)
+
+pub store_digits-requires : goal.store_digits-requires
+store_digits-requires c =
+    let a = c.args in
+    let h = has_room _ (a.at + c.digit_count-n.result) (length a.out.now) c.room.ensures c.if-not-room.false-raw in
+    (omega arith, omega arith)
+
+pub returns : goal.returns
+returns c = put_done _ _ _ _ _ c.digit_count-n.ensures (has_room _ _ _ c.room.ensures c.if-not-room.false-raw) c.store_digits.ensures

@@ -1,0 +1,12 @@
+-- `try_tables::fill::fill_names` is safe and ends: the n entries from the first on are within the buffer.
+use Prim.Native.Nat.{◌+◌, ◌-◌, ◌≤◌}
+use borrow.Author.Rules.{rules}
+use Rattle.text.proofs.Writes.{has_room}
+use Rattle.tables.specs.Entry.{names_size}
+use Rattle.try_tables.proofs.fill.fill_names.Given as goal
+
+abbrev pub invariant-loop-i : goal.invariant-loop-i
+invariant-loop-i l = l.from + l.n ≤ names_size + 1
+
+abbrev pub decreases-loop-i : goal.decreases-loop-i
+decreases-loop-i l = l.n - l.i

@@ -1,0 +1,18 @@
+-- `words::reading::semaphore_request` meets its contract: each word's answer is put into the one before it.
+use mathlib.Core.Path.{refl}
+use borrow.Author.Rules.{rules}
+use Rattle.words.specs.Action.{word_of}
+use Rattle.words.proofs.Chains.{step}
+use Rattle.words.proofs.reading.semaphore_request.Goals as goal
+
+pub returns : goal.returns
+unfolding word_of
+returns c =
+    step _ _ c.action_named.ensures (
+    step _ _ c.action_named-a-6.ensures (
+    step _ _ c.action_named-a-5.ensures (
+    step _ _ c.action_named-a-4.ensures (
+    step _ _ c.action_named-a-3.ensures (
+    step _ _ c.action_named-a-2.ensures (
+    step _ _ c.action_named-a.ensures (
+    refl)))))))
