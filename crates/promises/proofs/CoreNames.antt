@@ -1,6 +1,6 @@
 -- A name as a core: it is unknown as one exactly if it is none; what the history says of a core that is idle or held, and of the instance that holds it; and
 -- what a core becomes by an event on it.
-use mathlib.Core.Path.{◌≡◌, refl, subst}
+use mathlib.Core.Path.{◌≡◌, refl, sym, subst}
 use mathlib.Core.Bool.{Bool, true, false, ◌&&◌}
 use mathlib.Core.Option.{some}
 use mathlib.Core.List.{List, [], ◌∷◌}
@@ -71,4 +71,4 @@ holder_named h a c x q = named_kind h x.name x.kind (holder_kind h a c x q) _ re
 -- ---- an event on a core
 
 pub becomes_own : (n : List ℕ) (e : Event) (h : List Event) → on n e ≡ true → core_at n (e ∷ h) ≡ becomes (gives e.word) (instance_of e)
-becomes_own n e h o = let p = both (on_core e) (same_bytes n e.source) o in rw (same_eq n e.source p.1) (core_own e h p.0)
+becomes_own n e h o = let p = both (on_core e) (same_bytes n e.source) o in subst (λ (m : List ℕ). core_at m (e ∷ h) ≡ becomes (gives e.word) (instance_of e)) (sym (same_eq n e.source p.1)) (core_own e h p.0)

@@ -27,7 +27,7 @@ use Rattle.promises.specs.Taken.{looked_up_in}
 use Rattle.promises.proofs.KindTests.{instances_tracked}
 use Rattle.promises.proofs.Listed.{instance_kind, instance_named, one_instance, AllMet}
 use Rattle.promises.proofs.Grown.{row_stays}
-use Rattle.promises.proofs.Lookups.{target_row}
+use Rattle.promises.proofs.Lookups.{target_row_lem}
 use Rattle.promises.proofs.Moves.{SameRow, HasRow}
 use Rattle.promises.proofs.RowsAfter.{RowsAfter, rows_after}
 
@@ -51,7 +51,7 @@ module _ (h : List Event) (a : Accepted h) (met : AllMet h) (t : Tables) (s : Sh
   own_shown : has_instances e.kind ≡ true → (q : ℕ) → HasRow after.nums q (target_row t.nums (looked_up_in h t e)) e.target_instance state → InstanceShown (e ∷ h) after.nums q own
   own_shown i q w = record {
     below = w.below;
-    owner = w.owner ∙ target_row h t s e f.kinds (instances_tracked e.kind i);
+    owner = w.owner ∙ target_row_lem h t s e f.kinds (instances_tracked e.kind i);
     number = w.number ∙ sym (own_number e i);
     state = ap opened w.state ∙ l;
   }

@@ -209,9 +209,9 @@ module _ (h : List Event) (t : Tables) (s : Shown h t) (e : Event) (k : second_k
       (sought_row (same_bytes e.source) (names h) (name_count t.nums) (row_of (e ∷ h) e.source) (row_stays h e k e.source)
       (λ q. source_row_new h e k (rw (o, q)) ∙ sym s.singles.names_counted))
 
-  pub target_row : is_tracked e.kind ≡ true → target_row t.nums (looked_up_in h t e) ≡ row_of (e ∷ h) e.target
+  pub target_row_lem : is_tracked e.kind ≡ true → target_row t.nums (looked_up_in h t e) ≡ row_of (e ∷ h) e.target
   unfolding target_row looked_up_in
-  target_row i =
+  target_row_lem i =
       rw (new_core_lem h t e, i)
       (sought_row (same_bytes e.target) (names h) (name_count t.nums + one_if (new_source h e)) (row_of (e ∷ h) e.target) (row_stays h e k e.target)
       (λ q. target_row_new h e k (rw (i, q)) ∙ ap (λ (n : ℕ). n + one_if (new_source h e)) (sym s.singles.names_counted)))

@@ -26,7 +26,7 @@ use Rattle.promises.proofs.Origins.{NameFrom, name_from}
 use Rattle.promises.proofs.Origins.NameFrom.{before, as_source, as_target}
 use Rattle.promises.proofs.Listed.{AllMet, name_size}
 use Rattle.promises.proofs.Grown.{row_stays, source_row_new}
-use Rattle.promises.proofs.Lookups.{new_core_lem, new_name_lem, target_row}
+use Rattle.promises.proofs.Lookups.{new_core_lem, new_name_lem, target_row_lem}
 use Rattle.promises.proofs.NameEntries.{name_kept, name_of_core, name_of_target}
 use Rattle.promises.proofs.Rows.{row_bound, at_new_core, at_new_target}
 use Rattle.promises.proofs.Ages.{not_new}
@@ -73,7 +73,7 @@ module _ (h : List Event) (a : Accepted h) (m : AllMet h) (t : Tables) (s : Show
             (rw (← at) inside))
         by_origin (as_target u p) =
             let at : row ≡ target_row t.nums (looked_up_in h t e) =
-            ap (row_of (e ∷ h)) p ∙ sym (target_row h t s e f.kinds (both (is_tracked e.kind) _ u).0) in
+            ap (row_of (e ∷ h)) p ∙ sym (target_row_lem h t s e f.kinds (both (is_tracked e.kind) _ u).0) in
             rw (at, p)
             (name_of_target t.names t.nums s.sized.names_sized s.sized.nums_sized (looked_up_in h t e) state e source_size target_size
             (new_name_lem h t e ∙ ap one_if u)

@@ -32,7 +32,7 @@ use Rattle.promises.proofs.Places.{place_bound, one_row}
 use Rattle.promises.proofs.KindTests.{core_tracked, instances_tracked, semaphore_tracked}
 use Rattle.promises.proofs.Origins.{new_source, new_target, source_named, target_named}
 use Rattle.promises.proofs.Grown.{source_row_new}
-use Rattle.promises.proofs.Lookups.{new_core_lem, new_name_lem, core_row_lem, target_row}
+use Rattle.promises.proofs.Lookups.{new_core_lem, new_name_lem, core_row_lem, target_row_lem}
 use Rattle.promises.proofs.Columns.{is_new_core, is_new_target}
 use Rattle.promises.proofs.Entries.{or_none, kind_taken, standing_taken, number_taken, numbered_taken, first_taken}
 
@@ -57,7 +57,7 @@ module _ (h : List Event) (t : Tables) (s : Shown h t) (e : Event) (f : Passed h
   row_bound n q = omega (arith, place_bound (same_bytes n) (names (e ∷ h)) q, (room_parts h e f.room).0)
 
   pub target_bound : is_tracked e.kind ≡ true → target_row t.nums (looked_up_in h t e) < name_rows
-  target_bound k = rw (target_row h t s e f.kinds k) (row_bound e.target (target_named h e k))
+  target_bound k = rw (target_row_lem h t s e f.kinds k) (row_bound e.target (target_named h e k))
 
   -- an event on a core is a process's, and its target has a row
   holder_bound : eqb (core_class e.kind e.word) no_core ≡ false → target_row t.nums (looked_up_in h t e) < name_rows
@@ -68,7 +68,7 @@ module _ (h : List Event) (t : Tables) (s : Shown h t) (e : Event) (f : Passed h
         b && eqb (row_of (e ∷ h) n) (target_row t.nums (looked_up_in h t e)) ≡ b && same_bytes n e.target
     at_target b k =
         where_true b _ _
-        (λ u. ap (eqb (row_of (e ∷ h) n)) (target_row h t s e f.kinds (k u))
+        (λ u. ap (eqb (row_of (e ∷ h) n)) (target_row_lem h t s e f.kinds (k u))
         ∙ one_row same_bytes same_eq same_refl n e.target (names (e ∷ h)) q (target_named h e (k u)))
 
     at_core : not (eqb (core_class e.kind e.word) no_core) && eqb (row_of (e ∷ h) n) (core_row t.nums (looked_up_in h t e)) ≡ on n e
@@ -129,7 +129,7 @@ module _ (h : List Event) (t : Tables) (s : Shown h t) (e : Event) (f : Passed h
     standing_at_lem =
         standing_taken t.nums s.sized.nums_sized (looked_up_in h t e) state e (holder_bound h t s e f) row bound
         ∙ rw (at_core h t s e f n q, at_target h t s e f n q (eqb e.kind semaphore) (semaphore_tracked e.kind), new_or_old 0 0 (standing_at t.nums row))
-        (first_choice (on n e) _ _ _ (λ o. let c = (both (on_core e) _ o).0 in rw (class_gives e c, target_row h t s e f.kinds (core_tracked e c))))
+        (first_choice (on n e) _ _ _ (λ o. let c = (both (on_core e) _ o).0 in rw (class_gives e c, target_row_lem h t s e f.kinds (core_tracked e c))))
 
     given_or_old : (u v old : ℕ) →
         cond (eqb e.kind semaphore && eqb row (target_row t.nums (looked_up_in h t e))) u

@@ -35,7 +35,7 @@ use Rattle.promises.specs.Taken.{looked_up_in, InstanceFound}
 use Rattle.promises.proofs.KindTests.{instances_tracked, no_semaphore}
 use Rattle.promises.proofs.Origins.{target_named}
 use Rattle.promises.proofs.Listed.{instance_kind, AllMet}
-use Rattle.promises.proofs.Lookups.{looked_up_instance, target_row}
+use Rattle.promises.proofs.Lookups.{looked_up_instance, target_row_lem}
 use Rattle.promises.proofs.Entries.{counted, counted_size, from_entries, from_counted, rows_before, count_before}
 use Rattle.promises.proofs.Rows.{target_bound}
 use Rattle.promises.proofs.Names.{each_name_next}
@@ -99,7 +99,7 @@ module _ (h : List Event) (a : Accepted h) (met : AllMet h) (t : Tables) (s : Sh
     first_after : cond (eqb (numbered_at one owner) 0) none (some (first_number_at one owner)) ≡ first_number e.kind e.target (e ∷ h)
     first_after =
         let k = instances_tracked e.kind i in
-        let p = target_row h t s e f.kinds k in
+        let p = target_row_lem h t s e f.kinds k in
         let r = each_name_next h a met t s e f m state l e.target (target_named h e k) in
         let kind : kind_at after.nums (row_of (e ∷ h) e.target) ≡ e.kind = cc (r.kind, target_kind h e k) in
         ap₂ {C = Option ℕ} (λ (u v : ℕ). cond (eqb u 0) none (some v))

@@ -20,8 +20,8 @@ use Rattle.rules.specs.Trace.{verdict_on}
 use Rattle.rules.proofs.Traces.{taken_sound}
 use Rattle.promises.specs.Shifts.{history_of, bill_of, both_of, core_figures, process_figures}
 use Rattle.promises.proofs.SheetNames.{listed}
-use Rattle.promises.proofs.Unlisted.{no_core, no_process_lem}
-use Rattle.promises.proofs.SheetRows.{core_rows, process_rows, core_names, process_names}
+use Rattle.promises.proofs.Unlisted.{no_core_lem, no_process_lem}
+use Rattle.promises.proofs.SheetRows.{core_rows_lem, process_rows_lem, core_names, process_names}
 use Rattle.promises.proofs.PrintedBills.{printed_sound}
 
 -- ---- one trace: the figures of a name in its bill are demand 3's, listed or not
@@ -32,7 +32,7 @@ module _ (ls : List (List ℕ)) where
 
   -- a name that is no core there has nothing but the span, as unknown: what a sheet without it is taken to say
   pub missing_core : (n : Name) → has n (cores h) ≡ false → core_figures h n ≡ 0 ∷ 0 ∷ span h ∷ []
-  missing_core n q = no_core n h (taken_sound ls).kept.accepted (sym (listed h (eqb core) n) ∙ q)
+  missing_core n q = no_core_lem n h (taken_sound ls).kept.accepted (sym (listed h (eqb core) n) ∙ q)
 
   -- one that is no process has no charge
   pub missing_process : (n : Name) → has n (processes h) ≡ false → charge n h ≡ 0
@@ -41,12 +41,12 @@ module _ (ls : List (List ℕ)) where
   core_figures_lem : (n : Name) → figures_of (no_core (bill_of ls)) (bill_of ls).sheet.cores n ≡ core_figures h n
   unfolding sheet
   core_figures_lem n =
-      rw (core_rows h (cores h)) (figures_rows (no_core (bill_of ls)) (core_figures h) (cores h) n (λ q. sym (missing_core n q)))
+      rw (core_rows_lem h (cores h)) (figures_rows (no_core (bill_of ls)) (core_figures h) (cores h) n (λ q. sym (missing_core n q)))
 
   process_figures_lem : (n : Name) → figures_of no_process (bill_of ls).sheet.processes n ≡ process_figures h n
   unfolding sheet
   process_figures_lem n =
-      rw (process_rows h (processes h)) (figures_rows no_process (process_figures h) (processes h) n (λ q. ap (λ (m : ℕ). m ∷ []) (sym (missing_process n q))))
+      rw (process_rows_lem h (processes h)) (figures_rows no_process (process_figures h) (processes h) n (λ q. ap (λ (m : ℕ). m ∷ []) (sym (missing_process n q))))
 
 -- ---- two
 

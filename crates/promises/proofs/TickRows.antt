@@ -34,7 +34,7 @@ use Rattle.promises.proofs.KindTests.{core_tracked}
 use Rattle.promises.proofs.Origins.{NameFrom, new_target, name_stays, source_named, target_named, name_from}
 use Rattle.promises.proofs.Origins.NameFrom.{before, as_source, as_target}
 use Rattle.promises.proofs.Grown.{row_stays}
-use Rattle.promises.proofs.Lookups.{new_core_lem, new_name_lem, core_row_lem, target_row}
+use Rattle.promises.proofs.Lookups.{new_core_lem, new_name_lem, core_row_lem, target_row_lem}
 use Rattle.promises.proofs.Rows.{row_bound, target_bound}
 use Rattle.promises.proofs.TickStores.{Sums, sums, sums_at, core_settled, target_settled}
 use Rattle.promises.proofs.TickEntries.{unknown_before, Rows, last_taken, core_new, core_settled_lem, target_settled_lem, row_kept}
@@ -84,7 +84,7 @@ module _ (h : List Event) (t : Tables) (s : Shown h t) (e : Event) (f : Passed h
     apart = λ q p. let o = classed q in
         let w = core_tracked e o in
         let same = place_one same_bytes same_eq same_refl e.source e.target (names (e ∷ h)) (source_named h e o) (target_named h e w)
-        (sym (core_row_lem h t s e f.kinds o) ∙ p ∙ target_row h t s e f.kinds w) in
+        (sym (core_row_lem h t s e f.kinds o) ∙ p ∙ target_row_lem h t s e f.kinds w) in
         clash (same_bytes e.source e.target) (eq_same e.source e.target same) (two_names h e f.kinds o);
     new_name_lem = λ q. target_bound h t s e f (tracked_new q (new_target h e) refl);
   }
@@ -118,7 +118,7 @@ module _ (h : List Event) (t : Tables) (s : Shown h t) (e : Event) (f : Passed h
       not_source c r = apart e.source (source_named h e c) (rw c at o) (sym (core_row_lem h t s e f.kinds c) ∙ r)
 
       not_target : is_tracked e.kind ≡ true → target_row t.nums (looked_up_in h t e) ≡ row_of (e ∷ h) n → ⊥
-      not_target c r = apart e.target (target_named h e c) (rw c at w) (sym (target_row h t s e f.kinds c) ∙ r)
+      not_target c r = apart e.target (target_named h e c) (rw c at w) (sym (target_row_lem h t s e f.kinds c) ∙ r)
 
   -- ---- the event's core
 
@@ -148,7 +148,7 @@ module _ (h : List Event) (t : Tables) (s : Shown h t) (e : Event) (f : Passed h
       by_test : (b : Bool) → any (same_bytes e.target) (names h) ≡ b →
           cond (eqb (new_name (looked_up_in h t e) e.kind) 1) (sums 0 0 0 0) (sums_at t.ticks (target_row t.nums (looked_up_in h t e)))
           ≡ cond b (sums_at t.ticks (row_of h e.target)) (sums 0 0 0 0)
-      by_test true q = rw (new_name_lem h t e, w, q) (ap (sums_at t.ticks) (target_row h t s e f.kinds w ∙ row_stays h e f.kinds e.target q))
+      by_test true q = rw (new_name_lem h t e, w, q) (ap (sums_at t.ticks) (target_row_lem h t s e f.kinds w ∙ row_stays h e f.kinds e.target q))
       by_test false q = rw (new_name_lem h t e, w, q)
 
   source_had : on_core e ≡ true →
@@ -166,7 +166,7 @@ module _ (h : List Event) (t : Tables) (s : Shown h t) (e : Event) (f : Passed h
       ≡ target_settled (core_class e.kind e.word) (since_settled h e t.ticks) (ticks_before h t.ticks e.target)
   unfolding looked_up_in
   target_next w =
-      let r = target_row h t s e f.kinds w in
+      let r = target_row_lem h t s e f.kinds w in
       ap (sums_at (ticks_after h t e)) (sym r)
       ∙ target_settled_lem t.ticks t.nums s.sized.ticks_sized (looked_up_in h t e) e.kind e.time rows (target_bound h t s e f w)
       ∙ settled_with (core_class e.kind e.word) (λ q. source_had (giving_on_core e q)) (target_had w)

@@ -143,7 +143,7 @@ module _ (h : List Event) (e : Event) where
             e.target_instance ≤ x.number → (o : Option ℕ) → first_word x h ≡ o → unseen o ≡ false → ⊥
         by_instance t n x j m l none w u = clash true refl u
         by_instance t n x j m l (some c) w u =
-            begun_numbered h x c w (b x e.target_instance c (rw (← j, ← m) (first_own_number n t)) l (first_stays x c w)) (rw (j, m) at n)
+            begun_numbered h x c w (b x e.target_instance c (subst (λ (k : ℕ). first_number k x.name (e ∷ h) ≡ some e.target_instance) j (subst (λ (s : List ℕ). first_number e.kind s (e ∷ h) ≡ some e.target_instance) m (first_own_number n t))) l (first_stays x c w)) (rw (j, m) at n)
 
         by_last : activates e.kind e.word ≡ true → (o : Option ℕ) → last_number e.kind e.target h ≡ o → unseen o ≡ true →
             (x : Instance) × (is_from e.kind e.target e.target_instance x ≡ true) × (any (same_instance x) (instances h) ≡ true) → ⊥

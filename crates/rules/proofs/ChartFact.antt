@@ -54,7 +54,7 @@ module _ (t : List Step) where
   may_leave : (r : Step) (m : ℕ) (o : Option ℕ) → leaves r m ≡ true → In m o → allowed_by (some r) o ≡ true
   unfolding In
   may_leave r m none l i = refl
-  may_leave r m (some k) l i = rw i l
+  may_leave r m (some k) l i = subst (λ (n : ℕ). allowed_by (some r) (some n) ≡ true) (sym i) l
 
   run_follows : {s m : ℕ} {ws : List ℕ} → Run t s ws m → follows t ws ≡ true
   run_follows begin = refl

@@ -70,8 +70,8 @@ used_kind [] c n k q = absurd (clash false q refl)
 used_kind (e ∷ h) c n k q = by_test (uses n k e) refl q (used_kind h c.1 n k)
   where
     by_use : Use n k e → kind_of n (e ∷ h) ≡ some k
-    by_use (as_target t i w) = rw (i, w) (target_kind h e t)
-    by_use (as_core o i w) = rw (i, w) (source_kind h e c.0 o)
+    by_use (as_target t i w) = subst (λ (m : List ℕ). kind_of m (e ∷ h) ≡ some k) (sym w) (rw i (target_kind h e t))
+    by_use (as_core o i w) = subst (λ (m : List ℕ). kind_of m (e ∷ h) ≡ some k) (sym w) (rw i (source_kind h e c.0 o))
 
     by_test : (b : Bool) → uses n k e ≡ b → b || any (uses n k) h ≡ true → (any (uses n k) h ≡ true → kind_of n h ≡ some k) → kind_of n (e ∷ h) ≡ some k
     by_test true u q f = by_use (use_of n k e u)

@@ -1,5 +1,5 @@
 -- A name keeps its kind: what 9 leaves. What is tracked of cores and of the instances that hold them, and that each tracked name is listed once.
-use mathlib.Core.Path.{◌≡◌, refl, sym, ap}
+use mathlib.Core.Path.{◌≡◌, refl, sym, ap, subst}
 use mathlib.Core.Bool.{Bool, true, false, ◌&&◌}
 use mathlib.Core.Option.{Option, none, some}
 use mathlib.Core.List.{List, [], ◌∷◌}
@@ -112,8 +112,8 @@ tracked_more c h e f idle t = kind_stays h e f c core t
 tracked_more c h e f (held x) t = (kind_stays h e f c core t.0, kind_stays h e f x.name x.kind t.1, t.2)
 
 tracked_new : (c : List ℕ) (h : List Event) (e : Event) → second_kind (look h e) e ≡ false → (b : Bool) → on_core e ≡ true → c ≡ e.source → Tracked c (e ∷ h) (becomes b (instance_of e))
-tracked_new c h e f true o q = rw q (source_kind h e f o)
-tracked_new c h e f false o q = (rw q (source_kind h e f o), target_kind h e (process_tracked e.kind (on_process e o)), on_process e o)
+tracked_new c h e f true o q = subst (λ (n : List ℕ). kind_of n (e ∷ h) ≡ some core) (sym q) (source_kind h e f o)
+tracked_new c h e f false o q = (subst (λ (n : List ℕ). kind_of n (e ∷ h) ≡ some core) (sym q) (source_kind h e f o), target_kind h e (process_tracked e.kind (on_process e o)), on_process e o)
 
 pub tracked : (c : List ℕ) (h : List Event) → Accepted h → Tracked c h (core_at c h)
 tracked c [] a = tt

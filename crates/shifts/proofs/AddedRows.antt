@@ -1,8 +1,8 @@
 -- The rows of a sum of two sections: how many there are, and that each passes what each row of the two passes.
-use mathlib.Core.Path.{◌≡◌, refl, sym, ap₂, ◌∙◌}
+use mathlib.Core.Path.{◌≡◌, refl, sym, ap, ap₂, ◌∙◌}
 use mathlib.Core.Bool.{Bool, true, false, cond}
 use mathlib.Core.List.{List, [], ◌∷◌, ◌++◌}
-use Prim.Native.Nat.{ℕ, ◌+◌, ◌≤◌}
+use Prim.Native.Nat.{ℕ, suc, ◌+◌, ◌≤◌}
 use native.Mathlib.Omega.{arith}
 use lib.Dec.{ltb}
 use lib.ListN.{length, length-map}
@@ -56,12 +56,16 @@ named_both f [] [] e h = refl
 named_both f [] (q ∷ qs) e h = rw (and_l (is_name q.name) (all_named qs) h) (named_both f [] qs e (and_r (is_name q.name) (all_named qs) h))
 named_both f (r ∷ rs) qs e h = rw (and_l (is_name r.name) (all_named rs) e) (named_both f rs qs (and_r (is_name r.name) (all_named rs) e) h)
 
+length_names : (rs : List Row) → length (names rs) ≡ length rs
+length_names [] = refl
+length_names (r ∷ rs) = ap suc (length_names rs)
+
 -- ---- the sum
 
 module _ (x y : List ℕ) (rs qs : List Row) where
   pub count_add : length (add_rows x y rs qs) ≤ length rs + length qs
-  unfolding add_rows
-  count_add = simp length-map (simp length-map at (sorted_most_two itself (names rs) (names qs)))
+  count_add =
+      omega (arith, length_names (add_rows x y rs qs), ap length (names_add x y rs qs), sorted_most_two itself (names rs) (names qs), length_names rs, length_names qs)
 
   pub rising_add : rising (names (add_rows x y rs qs)) ≡ true
   rising_add = rw (names_add x y rs qs) (rising_sorted (names rs ++ names qs))

@@ -1,6 +1,6 @@
 -- Bills that may be added, all together: `Fit bs` names each test that they pass. All pass exactly if the two parts do, and the sums of the two may be added
 -- (`both_fit`, `parts_fit`).
-use mathlib.Core.Path.{◌≡◌, refl, sym, ap, ap₂, ◌∙◌}
+use mathlib.Core.Path.{◌≡◌, refl, sym, ap, ap₂, subst, ◌∙◌}
 use mathlib.Core.Bool.{false, not, ◌||◌}
 use mathlib.Core.Logic.{◌↔◌}
 use mathlib.Core.List.{List, [], ◌∷◌, ◌++◌}
@@ -112,7 +112,7 @@ module _ (x : Bill) (xs : List Bill) (y : Bill) (ys : List Bill) (a b : Bill) (f
 
   pub both_fit : Fit (x ∷ xs) → Fit (y ∷ ys) → Addable a b → Fit (x ∷ xs ++ y ∷ ys)
   both_fit u v k = record {
-    scales = scales_all ∙ rw (u.scales, sym f.scale ∙ k.scales ∙ g.scale) v.scales;
+    scales = scales_all ∙ rw u.scales (subst (λ (n : ℕ). others_than n (y ∷ ys) ≡ false) (sym (sym f.scale ∙ k.scales ∙ g.scale)) v.scales);
     apart = apart_all ∙ rw (mixed_all (x ∷ xs) a f ∙ u.apart, k.apart, mixed_all (y ∷ ys) b g ∙ v.apart);
     few = few_all ∙ k.few;
     short = omega (arith, k.short, span_all);

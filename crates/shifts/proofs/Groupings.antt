@@ -162,10 +162,14 @@ added_exactly t us = rw (left_grouped t us, ← (sheets_left (Sheet t) us)) (sum
 two_sheets : (t u : List ℕ) → comes_to (Sum (Sheet t) (Sheet u)) ≡ add_texts t u
 two_sheets t u = add_sheet (alone t) u ∙ add_alone t u
 
+next_totals : (x : Total) (u : List ℕ) → add_next x u ≡ add_totals x (Text u)
+next_totals (Text t) u = refl
+next_totals (Refusal n) u = refl
+
 -- here the first is tested last, so the number of a refusal may be another
 sheet_added : (t : List ℕ) (y : Total) → bytes_of (add_totals (alone t) y) ≡ bytes_of (add_totals (Text t) y)
 unfolding alone
-sheet_added t (Text u) = ap bytes_of (add_alone t u)
+sheet_added t (Text u) = ap bytes_of (sym (next_totals (alone t) u) ∙ add_alone t u)
 sheet_added t (Refusal n) = by_test (is_sound t)
   where
     by_test : (c : Bool) → bytes_of (add_totals (text_if c t) (Refusal n)) ≡ none
@@ -174,5 +178,5 @@ sheet_added t (Refusal n) = by_test (is_sound t)
 
 pub texts_grouped : (t u v : List ℕ) → bytes_of (add_totals (add_texts t u) (Text v)) ≡ bytes_of (add_totals (Text t) (add_texts u v))
 texts_grouped t u v =
-    rw (← (add_sheet (add_texts t u) v), ← (two_sheets t u), ← (two_sheets u v))
+    rw (← (next_totals (add_texts t u) v), ← (add_sheet (add_texts t u) v), ← (two_sheets t u), ← (two_sheets u v))
     (grouped (Sum (Sheet t) (Sheet u)) (Sheet v) ∙ sym (grouped (Sheet t) (Sum (Sheet u) (Sheet v))) ∙ sheet_added t (comes_to (Sum (Sheet u) (Sheet v))))
