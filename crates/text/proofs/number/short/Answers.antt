@@ -12,21 +12,21 @@ pub returns-then-d-gt9 : goal.returns-then-d-gt9
 returns-then-d-gt9 c =
     let l = c.loop-i in
     let a = c.args in
-    sym (l.inv.2 ∙ tested_turn _ l.v _ l.i (omega arith) ∙ tested_other a.max l.v _ _ (drop (l.i + 1) a.s.now) c.wrapping_sub_u8-d.type-inv c.wrapping_sub_u8-d.ensures c.if-d-gt9.true)
+    sym (l.invariant.2 ∙ tested_turn _ l.v _ l.i (omega arith) ∙ tested_other a.max l.v _ _ (drop (l.i + 1) a.s.now) c.wrapping_sub_u8-d.type-inv c.wrapping_sub_u8-d.ensures c.if-d-gt9.true)
 
 pub overflow_mul-v : goal.overflow_mul-v
-overflow_mul-v c = omega (arith, (let fact : c.loop-i.v < 10 ^ 16 = let l = c.loop-i in below_17 l.v l.i l.inv.1 (omega arith) in fact))
+overflow_mul-v c = omega (arith, (let fact : c.loop-i.v < 10 ^ 16 = let l = c.loop-i in below_17 l.v l.i l.invariant.1 (omega arith) in fact))
 
 pub overflow_add-v : goal.overflow_add-v
-overflow_add-v c = omega (arith, (let fact : c.loop-i.v < 10 ^ 16 = let l = c.loop-i in below_17 l.v l.i l.inv.1 (omega arith) in fact))
+overflow_add-v c = omega (arith, (let fact : c.loop-i.v < 10 ^ 16 = let l = c.loop-i in below_17 l.v l.i l.invariant.1 (omega arith) in fact))
 
 pub loop-i-preserved : goal.loop-i-preserved
 loop-i-preserved c =
     let l = c.loop-i in
     let a = c.args in (
       search rules,
-      below_more l.v l.i c.wrapping_sub_u8-d.result l.inv.1 (omega arith),
-      l.inv.2 ∙ tested_turn _ l.v _ l.i (omega arith) ∙ tested_digit a.max l.v _ _ (drop (l.i + 1) a.s.now) c.wrapping_sub_u8-d.type-inv c.wrapping_sub_u8-d.ensures c.if-d-gt9.false,
+      below_more l.v l.i c.wrapping_sub_u8-d.result l.invariant.1 (omega arith),
+      l.invariant.2 ∙ tested_turn _ l.v _ l.i (omega arith) ∙ tested_digit a.max l.v _ _ (drop (l.i + 1) a.s.now) c.wrapping_sub_u8-d.type-inv c.wrapping_sub_u8-d.ensures c.if-d-gt9.false,
     )
 
 pub returns-then-max-v : goal.returns-then-max-v
