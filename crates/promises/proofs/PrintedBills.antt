@@ -31,7 +31,7 @@ use Rattle.promises.proofs.Events.{all_met}
 use Rattle.promises.proofs.Limits.{scale_small}
 use Rattle.promises.proofs.Demand3.{charges_balanced}
 use Rattle.promises.proofs.SheetNames.{of_kind, listed_once, listed_apart, listed_most, listed_named}
-use Rattle.promises.proofs.SheetRows.{core_rows_lem, process_rows_lem, core_names, process_names, rows_named, first_figures}
+use Rattle.promises.proofs.SheetRows.{core_rows_lem, process_rows_lem, rows_count, core_names, process_names, rows_named, first_figures}
 
 module _ (ls : List (List ℕ)) (accepted : (verdict_on [] ls).0 ≡ 0) where
   abbrev h : List Event
@@ -61,8 +61,8 @@ module _ (ls : List (List ℕ)) (accepted : (verdict_on [] ls).0 ≡ 0) where
       rw (
         core_rows_lem h (cores h),
         process_rows_lem h (processes h),
-        length-map,
-        length-map,
+        rows_count (core_figures h) (cores h),
+        rows_count (process_figures h) (processes h),
         le-ltb core_limit (length (cores h)) room.cores_fit,
         le-ltb name_limit (length (cores h) + length (processes h)) (omega (arith, listed_most h, room.names_fit)),
       )

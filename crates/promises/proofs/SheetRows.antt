@@ -2,8 +2,8 @@
 use mathlib.Core.Path.{◌≡◌, refl, ap}
 use mathlib.Core.Bool.{true, or-true}
 use mathlib.Core.List.{List, [], ◌∷◌}
-use Prim.Native.Nat.{ℕ, ◌+◌}
-use lib.ListN.{get_or}
+use Prim.Native.Nat.{ℕ, suc, ◌+◌}
+use lib.ListN.{get_or, length}
 use Rattle.text.specs.Name.{is_name}
 use Rattle.text.specs.Lists.{sum_over}
 use Rattle.bill.specs.Rows.{Row, all_named}
@@ -25,6 +25,10 @@ core_rows_lem h (c ∷ cs) = rw (core_rows_lem h cs)
 pub process_rows_lem : (h : List Event) (ps : List Name) → process_rows ps h ≡ rows_of (process_figures h) ps
 process_rows_lem h [] = refl
 process_rows_lem h (p ∷ ps) = rw (process_rows_lem h ps)
+
+pub rows_count : (f : Name → List ℕ) (ns : List Name) → length (rows_of f ns) ≡ length ns
+rows_count f [] = refl
+rows_count f (n ∷ ns) = ap suc (rows_count f ns)
 
 pub core_names : (h : List Event) (cs : List Name) → names (core_rows cs h) ≡ cs
 core_names h cs = rw (core_rows_lem h cs) (names_rows (core_figures h) cs)

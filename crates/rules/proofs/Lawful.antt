@@ -189,16 +189,35 @@ no_rule : (h : List Event) → Never (λ k e. false) h
 no_rule [] = tt
 no_rule (e ∷ h) = (refl, no_rule h)
 
+-- the rules from a number on, as the tests of an event have them
+abbrev from_14 : ℕ → Known → Event → Bool
+from_14 n k e = cond (eqb 14 n) (count_broken k e) false
+
+abbrev from_13 : ℕ → Known → Event → Bool
+from_13 n k e = cond (eqb 13 n) (core_broken k e) (from_14 n k e)
+
+abbrev from_12 : ℕ → Known → Event → Bool
+from_12 n k e = cond (eqb 12 n) (not_next k e) (from_13 n k e)
+
+abbrev from_11 : ℕ → Known → Event → Bool
+from_11 n k e = cond (eqb 11 n) (not_allowed k e) (from_12 n k e)
+
+abbrev from_10 : ℕ → Known → Event → Bool
+from_10 n k e = cond (eqb 10 n) (no_room k e) (from_11 n k e)
+
+abbrev from_9 : ℕ → Known → Event → Bool
+from_9 n k e = cond (eqb 9 n) (second_kind k e) (from_10 n k e)
+
 order_kept : (h : List Event) → Orderly h → Accepted h
 unfolding event_tests
 order_kept h o = (accepted_exactly h).1 (λ n.
-    either_never (eqb 8 n) time_falls _ h ((time_kept h).1 o.time)
-    (either_never (eqb 9 n) second_kind _ h kinds
-    (either_never (eqb 10 n) no_room _ h ((all_along h kinds lives.0 lives.1).1 o.room)
-    (either_never (eqb 11 n) not_allowed _ h lives.0
-    (either_never (eqb 12 n) not_next _ h lives.1
-    (either_never (eqb 13 n) core_broken _ h ((core_runs h).1 o.on_cores)
-    (either_never (eqb 14 n) count_broken _ h ((counts_kept h).1 (o.counted, o.fixed_counts)) (no_rule h))))))))
+    either_never (eqb 8 n) time_falls (from_9 n) h ((time_kept h).1 o.time)
+    (either_never (eqb 9 n) second_kind (from_10 n) h kinds
+    (either_never (eqb 10 n) no_room (from_11 n) h ((all_along h kinds lives.0 lives.1).1 o.room)
+    (either_never (eqb 11 n) not_allowed (from_12 n) h lives.0
+    (either_never (eqb 12 n) not_next (from_13 n) h lives.1
+    (either_never (eqb 13 n) core_broken (from_14 n) h ((core_runs h).1 o.on_cores)
+    (either_never (eqb 14 n) count_broken (λ k e. false) h ((counts_kept h).1 (o.counted, o.fixed_counts)) (no_rule h))))))))
   where
     kinds : Never second_kind h
     kinds = (one_kind h).1 o.kinds
