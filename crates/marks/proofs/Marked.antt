@@ -1,5 +1,5 @@
 -- The laws of answers in numbers: what the code makes of them, and when two questions have the same answers.
-use Rattle.std.proofs.Common.{◌≡◌, ℕ, zero, suc, ◌+◌, ◌-◌, ◌*◌, ◌/◌, ◌%◌, ◌^◌, ◌<◌, ◌≤◌, Bool, true, false, cond, eqb, leb, ◌⊎◌, sym, refl, subst, ◌∙◌, inl, inr, add-zero, eq-zero-or-pos, arith, ne_eqb, le-leb, leb-false, leb-true}
+use Rattle.std.proofs.Common.{◌≡◌, ℕ, zero, suc, ◌+◌, ◌-◌, ◌*◌, ◌/◌, ◌%◌, ◌^◌, ◌<◌, ◌≤◌, Bool, true, false, cond, eqb, leb, ◌⊎◌, sym, refl, subst, ◌∙◌, inl, inr, eq-zero-or-pos, arith, ne_eqb, le-leb, leb-false, leb-true}
 use native.Mathlib.Nat.{zero-min, min-zero}
 use lib.Dec.{leb-suc-suc, leb-suc-zero}
 use lib.Bits.{bit_and, and_zero_l, and_step, and_self}
@@ -99,7 +99,7 @@ module _ (f : ℕ → Bool) where
   off_here : (b : Bool) (i n k : ℕ) → lowest_off (marks_from f (suc i) n) ≡ marks_from (from_on (suc (suc i + k)) f) (suc i) n
       → 2 * cond b (marks_from f (suc i) n) (lowest_off (marks_from f (suc i) n)) ≡ marks_from (from_on (suc (i + cond b 0 (suc k))) f) i (suc n)
   unfolding marks_from from_on
-  off_here true i n k e = rw (add-zero i, lt-leb (suc i) i (omega arith), all_stay (suc i) (suc i) n (omega arith)) (omega arith)
+  off_here true i n k e = rw (lt-leb (suc (i + 0)) i (omega arith), all_stay (suc (i + 0)) (suc i) n (omega arith)) (omega arith)
   off_here false i n k e = let q : i + suc k ≡ suc i + k = omega arith in subst (λ (m : ℕ). 2 * lowest_off (marks_from f (suc i) n) ≡ marks_from (from_on (suc m) f) i (suc n)) (sym q) (rw (lt-leb (suc (suc i + k)) i (omega arith), e) (omega arith))
 
   lowest_off_lem : (i n : ℕ) → lowest_off (marks_from f i n) ≡ marks_from (from_on (suc (i + before f i n)) f) i n

@@ -1,7 +1,6 @@
 -- `marks::two::lowest_off` meets its contract.
-use Rattle.std.proofs.Common.{rules}
 use Rattle.marks.proofs.Marked.{off_wrapped}
 use Rattle.marks.proofs.two.lowest_off.Goals as goal
 
 pub returns : goal.returns
-returns c = off_wrapped _ _ c.wrapping_sub_u64.type-inv c.wrapping_sub_u64.ensures
+returns c = off_wrapped _ _ c.wrapping_sub_u64.type_inv c.wrapping_sub_u64.ensures.value

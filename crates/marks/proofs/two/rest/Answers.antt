@@ -1,5 +1,5 @@
 -- `marks::two::rest` meets its contract.
-use Rattle.std.proofs.Common.{rules, eq-eqb, ne_eqb}
+use Rattle.std.proofs.Common.{eq-eqb, ne_eqb}
 use Rattle.marks.specs.Marks.{rest_marks}
 use Rattle.marks.proofs.two.rest.Goals as goal
 

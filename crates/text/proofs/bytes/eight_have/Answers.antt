@@ -1,5 +1,4 @@
-use Rattle.std.proofs.Common.{◌≡◌, ◌+◌, ◌-◌, ◌≤◌, false, arith, rules}
-use Rattle.text.specs.Bytes.{find_from}
+use Rattle.std.proofs.Common.{◌≡◌, arith, rules}
 use Rattle.text.proofs.Finds.{gather_start, gather_turn}
 use Rattle.text.proofs.bytes.eight_have.Goals as goal
 

@@ -1,5 +1,5 @@
-use Rattle.std.proofs.Common.{◌≡◌, ◌+◌, ◌-◌, length, drop, arith, rules}
-use Rattle.text.specs.Bytes.{to_byte, find_from}
+use Rattle.std.proofs.Common.{arith}
+use Rattle.text.specs.Bytes.{find_from}
 use Rattle.text.proofs.Finds.{byte_here, byte_later, byte_end}
 use Rattle.text.proofs.bytes.find.Goals as goal
 

@@ -1,8 +1,7 @@
 -- `text::bytes::find` meets its contract. What `skip` passes over has no byte b. The invariant: the index looked for is `i` and the count of
 -- what is left from `i`.
-use Rattle.std.proofs.Common.{◌≡◌, ◌+◌, ◌-◌, length, drop, arith, rules}
+use Rattle.std.proofs.Common.{◌≡◌, ◌+◌, ◌-◌, length, drop}
 use Rattle.text.specs.Bytes.{to_byte, find_from}
-use Rattle.text.proofs.Finds.{byte_here, byte_later, byte_end}
 use Rattle.text.proofs.bytes.find.Given as goal
 
 abbrev pub invariant-loop-i : goal.invariant-loop-i

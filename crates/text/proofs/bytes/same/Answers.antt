@@ -1,4 +1,4 @@
-use Rattle.std.proofs.Common.{◌≡◌, ◌≤◌, length, drop, sym, rules}
+use Rattle.std.proofs.Common.{sym, rules}
 use Rattle.text.proofs.Words.{other_length, other_byte, back_start, back_turn, back_end}
 use Rattle.text.proofs.bytes.same.Goals as goal
 

@@ -1,6 +1,5 @@
 -- `text::bytes::same` meets its contract. The invariant: from `i` on the slices are the same.
-use Rattle.std.proofs.Common.{◌≡◌, ◌≤◌, length, drop, sym, rules}
-use Rattle.text.proofs.Words.{other_length, other_byte, back_start, back_turn, back_end}
+use Rattle.std.proofs.Common.{◌≡◌, ◌≤◌, length, drop}
 use Rattle.text.proofs.bytes.same.Given as goal
 
 abbrev pub invariant-loop-i : goal.invariant-loop-i

@@ -1,5 +1,4 @@
-use Rattle.std.proofs.Common.{◌≡◌, ◌-◌, length, refl, ◌∙◌, rules}
-use Rattle.text.specs.Bytes.{find_from}
+use Rattle.std.proofs.Common.{refl, ◌∙◌, rules}
 use Rattle.text.proofs.bytes.skip.Goals as goal
 
 pub loop-i-init : goal.loop-i-init

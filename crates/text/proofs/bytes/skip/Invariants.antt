@@ -1,5 +1,5 @@
 -- `text::bytes::skip` meets its contract. The invariant: the place found from `start` on is the one found from `i` on.
-use Rattle.std.proofs.Common.{◌≡◌, ◌-◌, length, refl, ◌∙◌, rules}
+use Rattle.std.proofs.Common.{◌≡◌, ◌-◌, length}
 use Rattle.text.specs.Bytes.{find_from}
 use Rattle.text.proofs.bytes.skip.Given as goal
 

@@ -1,5 +1,5 @@
 -- `text::bytes::starts` meets its contract: a slice that is too short begins with no such bytes, and otherwise its front is compared.
-use Rattle.std.proofs.Common.{sym, ◌∙◌, rules}
+use Rattle.std.proofs.Common.{sym, ◌∙◌}
 use Rattle.text.proofs.Words.{starts_short, starts_front}
 use Rattle.text.proofs.bytes.starts.Goals as goal
 

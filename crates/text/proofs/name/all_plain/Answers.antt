@@ -1,5 +1,4 @@
-use Rattle.std.proofs.Common.{◌≡◌, ◌-◌, ◌≤◌, ◌&&◌, eqb, length, drop, sym, refl, arith, rules}
-use Rattle.text.specs.Name.{all_plain}
+use Rattle.std.proofs.Common.{sym, refl, arith, rules}
 use Rattle.text.proofs.Plain.{plain_turn, plain_end}
 use Rattle.text.proofs.name.all_plain.Goals as goal
 

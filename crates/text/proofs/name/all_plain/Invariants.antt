@@ -1,7 +1,6 @@
 -- `text::name::all_plain` meets its contract. The invariant: all bytes are plain where nothing odd was seen and what is left from `i` is plain.
-use Rattle.std.proofs.Common.{◌≡◌, ◌-◌, ◌≤◌, ◌&&◌, eqb, length, drop, sym, refl, arith, rules}
+use Rattle.std.proofs.Common.{◌≡◌, ◌-◌, ◌≤◌, ◌&&◌, eqb, length, drop}
 use Rattle.text.specs.Name.{all_plain}
-use Rattle.text.proofs.Plain.{plain_turn, plain_end}
 use Rattle.text.proofs.name.all_plain.Given as goal
 
 abbrev pub invariant-loop-i : goal.invariant-loop-i

@@ -1,4 +1,4 @@
-use Rattle.std.proofs.Common.{◌≡◌, ◌-◌, ◌≤◌, take, drop, refl, arith, length-drop, get_or-drop, rules}
+use Rattle.std.proofs.Common.{◌≡◌, drop, refl, arith, length-drop, get_or-drop, rules}
 use Rattle.text.specs.Name.{all_name_bytes}
 use Rattle.text.proofs.Names.{names_more}
 use Rattle.text.proofs.name.eight_named.Goals as goal

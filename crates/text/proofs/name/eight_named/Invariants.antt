@@ -1,7 +1,6 @@
 -- `text::name::eight_named` meets its contract. The invariant: the answer so far is whether the first k bytes from `at` on may stand in a name.
-use Rattle.std.proofs.Common.{◌≡◌, ◌-◌, ◌≤◌, take, drop, refl, arith, length-drop, get_or-drop, rules}
+use Rattle.std.proofs.Common.{◌≡◌, ◌-◌, ◌≤◌, take, drop}
 use Rattle.text.specs.Name.{all_name_bytes}
-use Rattle.text.proofs.Names.{names_more}
 use Rattle.text.proofs.name.eight_named.Given as goal
 
 abbrev pub invariant-loop-k : goal.invariant-loop-k

@@ -1,4 +1,4 @@
-use Rattle.std.proofs.Common.{◌≡◌, ◌-◌, ◌≤◌, length, take, refl, take_all, rules}
+use Rattle.std.proofs.Common.{refl, take_all, rules}
 use Rattle.text.specs.Name.{all_name_bytes}
 use Rattle.text.proofs.Names.{names_more}
 use Rattle.text.proofs.name.few_named.Goals as goal

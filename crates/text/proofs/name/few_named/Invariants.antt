@@ -1,7 +1,6 @@
 -- `text::name::few_named` meets its contract. The invariant: the answer so far is whether every byte before `i` may stand in a name.
-use Rattle.std.proofs.Common.{◌≡◌, ◌-◌, ◌≤◌, length, take, refl, take_all, rules}
+use Rattle.std.proofs.Common.{◌≡◌, ◌-◌, ◌≤◌, length, take}
 use Rattle.text.specs.Name.{all_name_bytes}
-use Rattle.text.proofs.Names.{names_more}
 use Rattle.text.proofs.name.few_named.Given as goal
 
 abbrev pub invariant-loop-i : goal.invariant-loop-i

@@ -1,5 +1,5 @@
 -- `text::name::name` meets its contract: at each exit the tests passed say what the definition's tests say.
-use Rattle.std.proofs.Common.{length, arith, rules, le-leb}
+use Rattle.std.proofs.Common.{length, arith, le-leb}
 use borrow.Author.Tests.{lt-leb}
 use Rattle.text.specs.Name.{name_most, is_name}
 use Rattle.text.proofs.name.name.Goals as goal

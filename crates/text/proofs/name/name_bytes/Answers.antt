@@ -1,4 +1,4 @@
-use Rattle.std.proofs.Common.{◌≡◌, ◌-◌, ◌≤◌, true, length, take, sym, refl, ◌∙◌, arith, rules}
+use Rattle.std.proofs.Common.{◌-◌, length, sym, refl, ◌∙◌, arith, rules}
 use borrow.Author.Tests.{not-true, not-false}
 use Rattle.text.specs.Name.{all_name_bytes}
 use Rattle.text.proofs.Names.{eight_more, eight_odd, eight_last}

@@ -1,8 +1,6 @@
 -- `text::name::name_bytes` meets its contract. The invariant: every byte before `i` may stand in a name.
-use Rattle.std.proofs.Common.{◌≡◌, ◌-◌, ◌≤◌, true, length, take, sym, refl, ◌∙◌, arith, rules}
-use borrow.Author.Tests.{not-true, not-false}
+use Rattle.std.proofs.Common.{◌≡◌, ◌-◌, ◌≤◌, true, length, take}
 use Rattle.text.specs.Name.{all_name_bytes}
-use Rattle.text.proofs.Names.{eight_more, eight_odd, eight_last}
 use Rattle.text.proofs.name.name_bytes.Given as goal
 
 abbrev pub invariant-loop-i : goal.invariant-loop-i

@@ -1,6 +1,5 @@
-use Rattle.std.proofs.Common.{◌≡◌, ◌-◌, ◌≤◌, length, drop, sym, ◌∙◌, arith, le-leb}
+use Rattle.std.proofs.Common.{sym, ◌∙◌, arith, le-leb}
 use borrow.Author.Tests.{lt-leb}
-use Rattle.text.specs.Number.{all_digits, are_digits}
 use Rattle.text.proofs.Numbers.{none_digits, some_digits, digits_turn, digits_end}
 use Rattle.text.proofs.number.digits.Goals as goal
 

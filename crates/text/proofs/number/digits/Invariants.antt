@@ -1,8 +1,6 @@
 -- `text::number::digits` meets its contract. The invariant: the slice is digits where every byte from `i` on is one.
-use Rattle.std.proofs.Common.{◌≡◌, ◌-◌, ◌≤◌, length, drop, sym, ◌∙◌, arith, le-leb}
-use borrow.Author.Tests.{lt-leb}
+use Rattle.std.proofs.Common.{◌≡◌, ◌-◌, ◌≤◌, length, drop}
 use Rattle.text.specs.Number.{all_digits, are_digits}
-use Rattle.text.proofs.Numbers.{none_digits, some_digits, digits_turn, digits_end}
 use Rattle.text.proofs.number.digits.Given as goal
 
 abbrev pub invariant-loop-i : goal.invariant-loop-i

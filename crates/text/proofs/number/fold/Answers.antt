@@ -1,4 +1,4 @@
-use Rattle.std.proofs.Common.{◌≡◌, ◌+◌, ◌-◌, ◌≤◌, length, drop, sym, ◌∙◌, drop_of_length-le, rules}
+use Rattle.std.proofs.Common.{◌≡◌, ◌+◌, drop, sym, ◌∙◌, drop_of_length-le, rules}
 use Rattle.text.specs.declared.number.Number.TheVariants.{Value}
 use Rattle.text.specs.Number.{folded}
 use Rattle.text.proofs.Numbers.{fold_turn, folded_bad}

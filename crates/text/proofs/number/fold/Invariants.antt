@@ -1,8 +1,7 @@
 -- `text::number::fold` meets its contract. The invariant: the number is that of `v` and the bytes left from `i`.
-use Rattle.std.proofs.Common.{◌≡◌, ◌+◌, ◌-◌, ◌≤◌, length, drop, sym, ◌∙◌, drop_of_length-le, rules}
+use Rattle.std.proofs.Common.{◌≡◌, ◌-◌, ◌≤◌, length, drop}
 use Rattle.text.specs.declared.number.Number.TheVariants.{Value}
 use Rattle.text.specs.Number.{folded}
-use Rattle.text.proofs.Numbers.{fold_turn, folded_bad}
 use Rattle.text.proofs.number.fold.Given as goal
 
 abbrev pub invariant-loop-i : goal.invariant-loop-i

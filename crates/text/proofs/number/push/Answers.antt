@@ -1,5 +1,5 @@
 -- `text::number::push` meets its contract: at each exit the tests passed say what the definition's tests say.
-use Rattle.std.proofs.Common.{◌+◌, ◌-◌, ◌*◌, ◌<◌, ◌≤◌, arith, rules, le-leb}
+use Rattle.std.proofs.Common.{◌+◌, ◌-◌, ◌*◌, ◌<◌, ◌≤◌, arith, le-leb}
 use borrow.Author.Tests.{lt-leb}
 use Rattle.text.proofs.number.push.Goals as goal
 

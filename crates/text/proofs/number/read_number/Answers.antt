@@ -1,5 +1,5 @@
 -- `text::number::read_number` meets its contract: the four exits are the cases of a number's first digits.
-use Rattle.std.proofs.Common.{sym, ◌∙◌, rules}
+use Rattle.std.proofs.Common.{sym, ◌∙◌}
 use Rattle.text.proofs.Numbers.{empty_bad, alone, leading_zero, no_leading_zero}
 use Rattle.text.proofs.number.read_number.Goals as goal
 

@@ -1,8 +1,6 @@
-use Rattle.std.proofs.Common.{◌≡◌, ◌+◌, ◌-◌, ◌^◌, ◌<◌, ◌≤◌, length, drop, sym, ◌∙◌, arith, rules, le-leb}
+use Rattle.std.proofs.Common.{◌+◌, ◌^◌, ◌<◌, ◌≤◌, drop, sym, ◌∙◌, arith, rules, le-leb}
 use borrow.Author.Tests.{lt-leb}
-use Rattle.text.specs.declared.number.Number.TheVariants.{Value}
-use Rattle.text.specs.Number.{folded}
-use Rattle.text.proofs.Numbers.{fold_is, tested, tested_turn, tested_end, tested_digit, tested_other, below_more, below_17}
+use Rattle.text.proofs.Numbers.{fold_is, tested_turn, tested_end, tested_digit, tested_other, below_more, below_17}
 use Rattle.text.proofs.number.short.Goals as goal
 
 pub loop-i-init : goal.loop-i-init
@@ -12,7 +10,7 @@ pub returns-then-d-gt9 : goal.returns-then-d-gt9
 returns-then-d-gt9 c =
     let l = c.loop-i in
     let a = c.args in
-    sym (l.invariant.2 ∙ tested_turn _ l.v _ l.i (omega arith) ∙ tested_other a.max l.v _ _ (drop (l.i + 1) a.s.now) c.wrapping_sub_u8-d.type-inv c.wrapping_sub_u8-d.ensures c.if-d-gt9.true)
+    sym (l.invariant.2 ∙ tested_turn _ l.v _ l.i (omega arith) ∙ tested_other a.max l.v _ _ (drop (l.i + 1) a.s.now) c.wrapping_sub_u8-d.type_inv c.wrapping_sub_u8-d.ensures.value c.if-d-gt9.true)
 
 pub overflow_mul-v : goal.overflow_mul-v
 overflow_mul-v c = omega (arith, (let fact : c.loop-i.v < 10 ^ 16 = let l = c.loop-i in below_17 l.v l.i l.invariant.1 (omega arith) in fact))
@@ -26,7 +24,7 @@ loop-i-preserved c =
     let a = c.args in (
       search rules,
       below_more l.v l.i c.wrapping_sub_u8-d.result l.invariant.1 (omega arith),
-      l.invariant.2 ∙ tested_turn _ l.v _ l.i (omega arith) ∙ tested_digit a.max l.v _ _ (drop (l.i + 1) a.s.now) c.wrapping_sub_u8-d.type-inv c.wrapping_sub_u8-d.ensures c.if-d-gt9.false,
+      l.invariant.2 ∙ tested_turn _ l.v _ l.i (omega arith) ∙ tested_digit a.max l.v _ _ (drop (l.i + 1) a.s.now) c.wrapping_sub_u8-d.type_inv c.wrapping_sub_u8-d.ensures.value c.if-d-gt9.false,
     )
 
 pub returns-then-max-v : goal.returns-then-max-v

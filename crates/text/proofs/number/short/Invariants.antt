@@ -1,9 +1,8 @@
 -- `text::number::short` meets its contract. The invariant: the number is that of `v` and the bytes left from `i`, with one test at the end.
-use Rattle.std.proofs.Common.{◌≡◌, ◌+◌, ◌-◌, ◌^◌, ◌<◌, ◌≤◌, length, drop, sym, ◌∙◌, arith, rules, le-leb}
-use borrow.Author.Tests.{lt-leb}
+use Rattle.std.proofs.Common.{◌≡◌, ◌-◌, ◌^◌, ◌<◌, ◌≤◌, length, drop}
 use Rattle.text.specs.declared.number.Number.TheVariants.{Value}
 use Rattle.text.specs.Number.{folded}
-use Rattle.text.proofs.Numbers.{fold_is, tested, tested_turn, tested_end, tested_digit, tested_other, below_more, below_17}
+use Rattle.text.proofs.Numbers.{tested}
 use Rattle.text.proofs.number.short.Given as goal
 
 abbrev pub invariant-loop-i : goal.invariant-loop-i

@@ -1,5 +1,4 @@
-use Rattle.std.proofs.Common.{◌≡◌, ◌+◌, ◌≤◌, length, arith}
-use Rattle.text.specs.Number.{digits_of}
+use Rattle.std.proofs.Common.{arith}
 use Rattle.text.proofs.Digits.{length_small, length_more}
 use Rattle.text.proofs.put.digit_count.Goals as goal
 

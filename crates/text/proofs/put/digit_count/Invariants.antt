@@ -1,7 +1,6 @@
 -- `text::put::digit_count` meets its contract. The invariant: the digits of `x` are one fewer than `n` and those of `v`.
-use Rattle.std.proofs.Common.{◌≡◌, ◌+◌, ◌≤◌, length, arith}
+use Rattle.std.proofs.Common.{◌≡◌, ◌+◌, ◌≤◌, length}
 use Rattle.text.specs.Number.{digits_of}
-use Rattle.text.proofs.Digits.{length_small, length_more}
 use Rattle.text.proofs.put.digit_count.Given as goal
 
 abbrev pub invariant-loop-v : goal.invariant-loop-v

@@ -1,5 +1,5 @@
 -- `text::put::put_bytes` meets its contract: where there is no room nothing is put, and otherwise the bytes written are.
-use Rattle.std.proofs.Common.{◌+◌, length, sym, refl, arith, rules}
+use Rattle.std.proofs.Common.{◌+◌, length, sym, refl, arith}
 use Rattle.text.proofs.Writes.{put_full, put_done, no_room, has_room}
 use Rattle.text.proofs.put.put_bytes.Goals as goal
 

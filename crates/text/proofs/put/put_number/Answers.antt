@@ -1,5 +1,5 @@
 -- `text::put::put_number` meets its contract: where there is no room nothing is put, and otherwise the digits written are.
-use Rattle.std.proofs.Common.{◌+◌, length, sym, arith, rules}
+use Rattle.std.proofs.Common.{◌+◌, length, sym, arith}
 use Rattle.text.proofs.Writes.{put_full, put_done, no_room, has_room}
 use Rattle.text.proofs.put.put_number.Goals as goal
 

@@ -1,4 +1,4 @@
-use Rattle.std.proofs.Common.{◌≡◌, ◌-◌, ◌≤◌, length, take, refl, arith, length-set}
+use Rattle.std.proofs.Common.{refl, arith, length-set}
 use Rattle.text.specs.Put.{written}
 use Rattle.text.proofs.Writes.{copy_more, copy_all}
 use Rattle.text.proofs.put.store_bytes.Goals as goal

@@ -1,7 +1,6 @@
 -- `text::put::store_bytes` meets its contract. The invariant: the first `i` bytes are written.
-use Rattle.std.proofs.Common.{◌≡◌, ◌-◌, ◌≤◌, length, take, refl, arith, length-set}
+use Rattle.std.proofs.Common.{◌≡◌, ◌-◌, ◌≤◌, length, take}
 use Rattle.text.specs.Put.{written}
-use Rattle.text.proofs.Writes.{copy_more, copy_all}
 use Rattle.text.proofs.put.store_bytes.Given as goal
 
 abbrev pub invariant-loop-i : goal.invariant-loop-i

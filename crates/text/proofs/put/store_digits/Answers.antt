@@ -1,6 +1,4 @@
-use Rattle.std.proofs.Common.{◌≡◌, ◌+◌, ◌/◌, ◌≤◌, length, refl, ◌∙◌, arith, length-set}
-use Rattle.text.specs.Number.{digits_of}
-use Rattle.text.specs.Put.{written}
+use Rattle.std.proofs.Common.{◌/◌, refl, ◌∙◌, arith, length-set}
 use Rattle.text.proofs.Digits.{length_more, length_pos}
 use Rattle.text.proofs.Writes.{store_turn, store_last}
 use Rattle.text.proofs.put.store_digits.Goals as goal

@@ -1,10 +1,8 @@
 -- `text::put::store_digits` meets its contract. The invariant: the digits of `v` go before and at `p`, and with them the output
 -- is what it has to be.
-use Rattle.std.proofs.Common.{◌≡◌, ◌+◌, ◌/◌, ◌≤◌, length, refl, ◌∙◌, arith, length-set}
+use Rattle.std.proofs.Common.{◌≡◌, ◌+◌, ◌≤◌, length}
 use Rattle.text.specs.Number.{digits_of}
 use Rattle.text.specs.Put.{written}
-use Rattle.text.proofs.Digits.{length_more, length_pos}
-use Rattle.text.proofs.Writes.{store_turn, store_last}
 use Rattle.text.proofs.put.store_digits.Given as goal
 
 abbrev pub invariant-loop-v : goal.invariant-loop-v

@@ -1,6 +1,5 @@
 -- `walk::lines::line_between` meets its contract: the second place is not past the first, is past the end of the chunk, or a line's bytes lie
 -- between.
-use borrow.Author.Rules.{rules}
 use native.Mathlib.Omega.{arith}
 use Rattle.walk.proofs.Nexts.{between_back, between_past, between_some, between_ends}
 use Rattle.walk.proofs.lines.line_between.Goals as goal

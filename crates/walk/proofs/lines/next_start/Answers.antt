@@ -1,5 +1,4 @@
 -- `walk::lines::next_start` meets its contract: what `find` returned is past the end, or the byte 10 before the place that it answers.
-use borrow.Author.Rules.{rules}
 use Rattle.walk.proofs.Nexts.{found_none, found_some}
 use Rattle.walk.proofs.lines.next_start.Goals as goal
 

@@ -1,5 +1,4 @@
 -- `walk::lines::text_length` meets its contract: there is no byte, the last is a byte 13, or it is another.
-use borrow.Author.Rules.{rules}
 use native.Mathlib.Omega.{arith}
 use Rattle.walk.proofs.Cuts.{text_front, text_cr, text_plain}
 use Rattle.walk.proofs.lines.text_length.Goals as goal
