@@ -2,7 +2,6 @@
 use mathlib.Core.Path.{sym, ◌∙◌}
 use mathlib.Core.List.{[], ◌∷◌}
 use native.Mathlib.Omega.{arith}
-use borrow.Author.Rules.{rules}
 use borrow.Author.Tests.{leb-true, leb-false, not-true, not-false}
 use Rattle.text.specs.Number.{digits_of}
 use Rattle.text.proofs.Digits.{digits_short}
@@ -10,6 +9,9 @@ use Rattle.text.proofs.Writes.{put_full, put_two}
 use Rattle.bill.specs.Text.{figures_text}
 use Rattle.bill.proofs.Texts.{figure_text, length_figure}
 use Rattle.bill.proofs.figure.put_figure.Goals as goal
+
+pub overflow_add-length : goal.overflow_add-length
+overflow_add-length c = omega (arith, digits_short c.args.n (omega arith))
 
 pub returns-then-not-room : goal.returns-then-not-room
 returns-then-not-room c =

@@ -1,8 +1,8 @@
 -- `bill::scale::scale_length` meets its contract: one byte for a second, none for no time scale, and two for any other.
 use mathlib.Core.Path.{sym, ap}
-use mathlib.Core.Logic.{⊎_elim}
+use mathlib.Core.Logic.{inl, inr}
 use lib.ListN.{length}
-use borrow.Author.Tests.{ltb-true, ltb-false}
+use borrow.Author.Tests.{ltb-false}
 use Rattle.words.specs.Scale.{scale_word}
 use Rattle.bill.specs.Scale.{scale_text}
 use Rattle.bill.proofs.Scales.{scale_past, scale_two}
@@ -14,7 +14,7 @@ returns-then-scale-eq5 c = rw c.if-scale-eq5.true
 
 pub returns-then-scale-eq0 : goal.returns-then-scale-eq0
 unfolding scale_text
-returns-then-scale-eq0 c = ⊎_elim (λ w. rw w.taken) (λ w. sym (ap length (scale_past c.args.scale (ltb-true 5 _ w.1.taken)))) c.then-scale-eq0.branch
+returns-then-scale-eq0 c = elim c.then-scale-eq0.either [ inl z ↦ rw z | inr p ↦ sym (ap length (scale_past _ p.1)) ]
 
 pub returns : goal.returns
 returns c = sym (scale_two _ c.if-scale-eq0.false c.if-scale-eq5.false (ltb-false 5 _ c.if-scale-gt5.false-raw))

@@ -1,5 +1,4 @@
 -- `bill::scale::scale_number` meets its contract: each arm gives the number of its time scale.
-use borrow.Author.Rules.{rules}
 use Rattle.bill.specs.Scale.{scale_number}
 use Rattle.bill.proofs.scale.scale_number.Goals as goal
 

@@ -1,5 +1,4 @@
 -- `bill::section::put_title` meets its contract: the bytes of the two titles.
-use borrow.Author.Rules.{rules}
 use Rattle.bill.proofs.section.put_title.Goals as goal
 
 pub returns-in-Cores : goal.returns-in-Cores

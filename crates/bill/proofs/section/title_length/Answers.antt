@@ -1,5 +1,4 @@
 -- `bill::section::title_length` meets its contract: the lengths of the two titles.
-use borrow.Author.Rules.{rules}
 use Rattle.bill.proofs.section.title_length.Goals as goal
 
 pub returns-in-Cores : goal.returns-in-Cores

@@ -1,5 +1,4 @@
 -- `bill::verdict::put_refused` meets its contract: the pieces of the line are put one after another.
-use borrow.Author.Rules.{rules}
 use Rattle.bill.specs.Verdict.{refused_text}
 use Rattle.bill.proofs.VerdictLine.{put_five}
 use Rattle.bill.proofs.verdict.put_refused.Goals as goal

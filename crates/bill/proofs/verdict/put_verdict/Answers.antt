@@ -3,7 +3,6 @@ use mathlib.Core.Path.{sym}
 use Prim.Native.Nat.{◌+◌, ◌≤◌}
 use native.Mathlib.Omega.{arith}
 use lib.ListN.{length}
-use borrow.Author.Rules.{rules}
 use Rattle.text.proofs.Writes.{put_full, no_room, has_room}
 use Rattle.bill.specs.Verdict.{verdict_text}
 use Rattle.bill.proofs.VerdictLine.{verdict_accepted, verdict_refused}

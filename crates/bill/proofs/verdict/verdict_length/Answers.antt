@@ -4,7 +4,6 @@ use mathlib.Core.Path.{◌≡◌, ap, ◌∙◌}
 use Prim.Native.Nat.{◌+◌, ◌≤◌}
 use native.Mathlib.Omega.{arith}
 use lib.ListN.{length}
-use borrow.Author.Rules.{rules}
 use Rattle.text.proofs.Digits.{digits_short}
 use Rattle.bill.specs.Verdict.{verdict_text}
 use Rattle.bill.proofs.Scales.{scale_short}

@@ -4,7 +4,6 @@ use mathlib.Core.Path.{refl, sym}
 use Prim.Native.Nat.{suc}
 use native.Mathlib.Numerals.{add-one}
 use native.Mathlib.Omega.{arith}
-use borrow.Author.Rules.{rules}
 use Rattle.fields.specs.Part.{part_from}
 use Rattle.fields.proofs.Parts.{part_past, part_none, part_end, at_past, at_inside}
 use Rattle.fields.proofs.part.between.Goals as goal

@@ -1,11 +1,11 @@
-use mathlib.Core.Path.{◌≡◌, refl, sym}
-use Prim.Native.Nat.{◌-◌, ◌≤◌}
+use mathlib.Core.Path.{refl, sym}
+use Prim.Native.Nat.{◌≤◌}
 use native.Mathlib.Omega.{arith}
 use borrow.Author.Rules.{rules}
 use lib.ListN.{length}
-use Rattle.fields.specs.Part.{field_of, field_at, part_from, start_at}
+use Rattle.fields.specs.Part.{field_of, field_at, part_from}
 use Rattle.text.proofs.Finds.{find_ge, find_le}
-use Rattle.fields.proofs.Parts.{From, field_turn, field_stop, field_found, at_turn, at_stop, at_found}
+use Rattle.fields.proofs.Parts.{field_turn, field_stop, field_found, at_turn, at_stop, at_found}
 use Rattle.fields.proofs.part.field.Goals as goal
 
 pub returns-then-k-eq0 : goal.returns-then-k-eq0

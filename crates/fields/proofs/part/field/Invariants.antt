@@ -1,12 +1,9 @@
 -- `fields::part::field` meets its contract. The invariant: the `j`-th part starts at `a`, and the one asked for is that or a later one.
-use mathlib.Core.Path.{◌≡◌, refl, sym}
+use mathlib.Core.Path.{◌≡◌}
 use Prim.Native.Nat.{◌-◌, ◌≤◌}
-use native.Mathlib.Omega.{arith}
-use borrow.Author.Rules.{rules}
 use lib.ListN.{length}
-use Rattle.fields.specs.Part.{field_of, field_at, part_from, start_at}
-use Rattle.text.proofs.Finds.{find_ge, find_le}
-use Rattle.fields.proofs.Parts.{From, field_turn, field_stop, field_found, at_turn, at_stop, at_found}
+use Rattle.fields.specs.Part.{start_at}
+use Rattle.fields.proofs.Parts.{From}
 use Rattle.fields.proofs.part.field.Given as goal
 
 abbrev pub invariant-loop-j : goal.invariant-loop-j

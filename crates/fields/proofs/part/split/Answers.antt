@@ -1,8 +1,5 @@
 -- `fields::part::split` meets its contract: each place found is the next comma's, and none is far enough past the end for a sum to wrap.
-use mathlib.Core.List.{List}
-use Prim.Native.Nat.{ℕ}
 use native.Mathlib.Omega.{arith}
-use borrow.Author.Rules.{rules}
 use Rattle.fields.proofs.Parts.{Place, place_first, place_next}
 use Rattle.fields.proofs.part.split.Goals as goal
 

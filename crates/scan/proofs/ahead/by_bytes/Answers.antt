@@ -1,5 +1,5 @@
 -- `scan::ahead::by_bytes` meets its contract: what the bytes of the line found tell.
-use Rattle.std.proofs.Common.{◌≤◌, length, sym, ◌∙◌, arith, rules}
+use Rattle.std.proofs.Common.{◌≤◌, length, sym, ◌∙◌, arith}
 use Rattle.fields.specs.Part.{part_from}
 use Rattle.scan.specs.Ahead.{ahead_of}
 use Rattle.scan.proofs.Nexts.{line_inside}

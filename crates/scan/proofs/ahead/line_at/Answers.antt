@@ -1,5 +1,4 @@
 -- `scan::ahead::line_at` meets its contract: all that is left, a line that is told quickly, or the line byte by byte.
-use Rattle.std.proofs.Common.{rules}
 use Rattle.scan.proofs.ahead.line_at.Goals as goal
 
 pub returns-then-whole : goal.returns-then-whole

@@ -1,5 +1,5 @@
 -- `scan::ahead::next_at` meets its contract: the next line; or the index is past the end, or all from it on is the line.
-use Rattle.std.proofs.Common.{rules, le-leb}
+use Rattle.std.proofs.Common.{le-leb}
 use borrow.Author.Tests.{lt-leb, not-true, not-false}
 use Rattle.scan.specs.Ahead.{line_from}
 use Rattle.scan.proofs.ahead.next_at.Goals as goal

@@ -1,5 +1,5 @@
 -- `scan::quick::after_six` meets its contract: the line ends at the seventh place, may go on past what is looked at, or ends at the eighth.
-use Rattle.std.proofs.Common.{sym, ◌∙◌, rules, le-ltb, lt-ltb}
+use Rattle.std.proofs.Common.{sym, ◌∙◌, le-ltb, lt-ltb}
 use borrow.Author.Tests.{not-true, not-false}
 use Rattle.scan.specs.Quick.{after_six}
 use Rattle.scan.proofs.quick.after_six.Goals as goal

@@ -1,5 +1,5 @@
 -- `scan::quick::end_length` meets its contract: a byte 10, a byte that begins no end, or a byte 13 with or without a byte 10 after it.
-use Rattle.std.proofs.Common.{rules, eq-eqb, ne_eqb}
+use Rattle.std.proofs.Common.{eq-eqb, ne_eqb}
 use Rattle.scan.specs.Quick.{end_length}
 use Rattle.scan.proofs.quick.end_length.Goals as goal
 

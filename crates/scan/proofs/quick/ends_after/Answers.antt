@@ -1,5 +1,5 @@
 -- `scan::quick::ends_after` meets its contract: no line ends there, or one does.
-use Rattle.std.proofs.Common.{◌+◌, ◌≤◌, arith, rules}
+use Rattle.std.proofs.Common.{◌+◌, ◌≤◌, arith}
 use Rattle.scan.specs.Quick.{ends_after}
 use Rattle.scan.proofs.Ends.{end_most, line_ends}
 use Rattle.scan.proofs.quick.ends_after.Goals as goal

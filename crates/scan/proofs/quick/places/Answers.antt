@@ -1,5 +1,4 @@
 -- `scan::quick::places` meets its contract: each of the numbers is the one before it without its first mark.
-use Rattle.std.proofs.Common.{rules}
 use Rattle.scan.specs.Quick.{without, places_of}
 use Rattle.scan.proofs.quick.places.Goals as goal
 

@@ -1,5 +1,4 @@
 -- `scan::window::joined` meets its contract: nothing wraps where each sum is one byte of the number.
-use Rattle.std.proofs.Common.{rules}
 use Rattle.scan.specs.Window.{joined_of}
 use Rattle.scan.proofs.window.joined.Goals as goal
 

@@ -1,5 +1,5 @@
-use Rattle.std.proofs.Common.{◌≡◌, ◌-◌, ◌≤◌, length, refl, ◌∙◌, arith, length-set, rules}
-use Rattle.scan.proofs.Windows.{Weighed, weighed_turn, marks_joined}
+use Rattle.std.proofs.Common.{refl, ◌∙◌, arith, length-set, rules}
+use Rattle.scan.proofs.Windows.{weighed_turn, marks_joined}
 use Rattle.scan.proofs.window.marks_at.Goals as goal
 
 pub loop-k-init : goal.loop-k-init

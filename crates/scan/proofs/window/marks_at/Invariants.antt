@@ -1,6 +1,6 @@
 -- `scan::window::marks_at` meets its contract. The invariant: the entries before `k` are what the bytes add.
-use Rattle.std.proofs.Common.{◌≡◌, ◌-◌, ◌≤◌, length, refl, ◌∙◌, arith, length-set, rules}
-use Rattle.scan.proofs.Windows.{Weighed, weighed_turn, marks_joined}
+use Rattle.std.proofs.Common.{◌≡◌, ◌-◌, ◌≤◌, length}
+use Rattle.scan.proofs.Windows.{Weighed}
 use Rattle.scan.proofs.window.marks_at.Given as goal
 
 abbrev pub invariant-loop-k : goal.invariant-loop-k

@@ -1,5 +1,4 @@
 -- `scan::window::weight` meets its contract, in both branches.
-use Rattle.std.proofs.Common.{rules}
 use Rattle.scan.proofs.window.weight.Goals as goal
 
 pub returns-then-name_byte : goal.returns-then-name_byte

@@ -1,5 +1,4 @@
 -- `words::class::class_is_of` meets its contract: at each type the tests are the definition's.
-use borrow.Author.Rules.{rules}
 use Rattle.words.specs.Class.{class_is_of}
 use Rattle.words.proofs.class.class_is_of.Goals as goal
 

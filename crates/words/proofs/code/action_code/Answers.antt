@@ -1,13 +1,11 @@
 -- `words::code::action_code` meets its contract: each arm gives its code, by the one fact that the match told of it; in the last the codes are those of SEM.
-use mathlib.Core.Path.{refl}
 use borrow.Author.Rules.{rules}
 use Rattle.words.specs.Action.{action_code}
-use Rattle.words.specs.Code.{assigned}
-use Rattle.words.proofs.Tags.{tag_code, codes_from, at_least}
 use Rattle.words.proofs.code.action_code.Goals as goal
 
 pub semaphore_code-requires : goal.semaphore_code-requires
-semaphore_code-requires c = at_least assigned (codes_from assigned 15) refl c.in_default.keys24 (tag_code c.args.action)
+unfolding action_code
+semaphore_code-requires c = search rules
 
 pub returns-in-Trigger : goal.returns-in-Trigger
 unfolding action_code

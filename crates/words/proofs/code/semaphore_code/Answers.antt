@@ -1,10 +1,6 @@
 -- `words::code::semaphore_code` meets its contract: each arm gives its code, by the one fact that the match told of it, and the last the one that is left.
-use mathlib.Core.Path.{refl}
-use mathlib.Core.List.{[], ◌∷◌, ◌++◌}
 use borrow.Author.Rules.{rules}
 use Rattle.words.specs.Action.{action_code}
-use Rattle.words.specs.Code.{assigned, waiting}
-use Rattle.words.proofs.Tags.{tag_code, codes_from, left_over}
 use Rattle.words.proofs.code.semaphore_code.Goals as goal
 
 pub returns-in-Assigned : goal.returns-in-Assigned
@@ -64,4 +60,5 @@ unfolding action_code
 returns-in-Used c = rw c.in-Used.is
 
 pub returns-in_default : goal.returns-in_default
-returns-in_default c = left_over assigned waiting (codes_from 0 assigned ++ (waiting ∷ [])) refl c.in_default.keys15 (tag_code c.args.action) c.requires
+unfolding action_code
+returns-in_default c = search rules

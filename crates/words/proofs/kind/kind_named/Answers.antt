@@ -1,6 +1,5 @@
 -- `words::kind::kind_named` meets its contract: `same` tells which of the two it is.
 use mathlib.Core.Path.{sym, ◌∙◌}
-use borrow.Author.Rules.{rules}
 use Rattle.words.specs.Named.{pick}
 use Rattle.words.proofs.kind.kind_named.Goals as goal
 

@@ -1,6 +1,5 @@
 -- `words::kind::kind_of` meets its contract: each word's answer is put into the one before it.
 use mathlib.Core.Path.{refl}
-use borrow.Author.Rules.{rules}
 use Rattle.words.specs.Kind.{kind_of, kind_word}
 use Rattle.words.proofs.Chains.{step}
 use Rattle.words.proofs.kind.kind_of.Goals as goal

@@ -1,5 +1,4 @@
 -- `words::kind::put_kind` meets its contract: the part put is the type's word.
-use borrow.Author.Rules.{rules}
 use Rattle.words.proofs.Tables.{kind_entry}
 use Rattle.words.proofs.kind.put_kind.Goals as goal
 

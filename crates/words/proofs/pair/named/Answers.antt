@@ -1,5 +1,4 @@
 -- `words::pair::named` meets its contract: first the type, then the event of that type.
-use borrow.Author.Rules.{rules}
 use Rattle.words.specs.Pair.{named_by}
 use Rattle.words.proofs.pair.named.Goals as goal
 

@@ -1,6 +1,5 @@
 -- `words::reading::action_of` meets its contract: each type asks the chain of its own events.
 use mathlib.Core.Path.{ap, ◌∙◌}
-use borrow.Author.Rules.{rules}
 use Rattle.words.specs.declared.action.ActionFound.{ActionFound}
 use Rattle.words.specs.Action.{action_of, actions_of, word_of, action_from, semaphore_states}
 use Rattle.words.proofs.Chains.{step}

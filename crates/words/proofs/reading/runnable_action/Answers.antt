@@ -1,6 +1,5 @@
 -- `words::reading::runnable_action` meets its contract: each word's answer is put into the one before it.
 use mathlib.Core.Path.{refl}
-use borrow.Author.Rules.{rules}
 use Rattle.words.specs.Action.{word_of}
 use Rattle.words.proofs.Chains.{step}
 use Rattle.words.proofs.reading.runnable_action.Goals as goal

@@ -1,6 +1,5 @@
 -- `words::scale::scale_of` meets its contract: each word's answer is put into the one before it.
 use mathlib.Core.Path.{refl}
-use borrow.Author.Rules.{rules}
 use Rattle.words.specs.Scale.{scale_of, scale_word}
 use Rattle.words.proofs.Chains.{step}
 use Rattle.words.proofs.scale.scale_of.Goals as goal

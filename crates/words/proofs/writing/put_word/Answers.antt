@@ -1,5 +1,4 @@
 -- `words::writing::put_word` meets its contract: the part put is the event's word.
-use borrow.Author.Rules.{rules}
 use Rattle.words.proofs.Tables.{word_entry, word_end}
 use Rattle.words.proofs.writing.put_word.Goals as goal
 
