@@ -14,6 +14,6 @@ unfolding store_activation
 returns c =
     rw (lt-ltb _ name_rows c.if-i-ge-NAME_ROWS.false)
     (elim c.if-nums-i-eq0.branch [
-      then-nums-i-eq0 w ↦ rw (eq-eqb _ 0 w.if-nums-i-eq0.true) (rw w.nums-is at c.store_number.ensures)
+      | then-nums-i-eq0 w ↦ rw (eq-eqb _ 0 w.if-nums-i-eq0.true) (rw w.nums-is at c.store_number.ensures)
       | else-nums-i-eq0 w ↦ rw (ne_eqb _ 0 w.if-nums-i-eq0.false) (rw w.nums-is at c.store_number.ensures)
     ])

@@ -1,5 +1,5 @@
 -- `store::entries::store_instance` meets its contract: three stores where both rows are ones of their columns.
-use Rattle.std.proofs.Common.{arith, length-set, rules, le-ltb, lt-ltb}
+use Rattle.std.proofs.Common.{le-ltb, lt-ltb}
 use Rattle.tables.specs.Entry.{name_rows, instance_rows}
 use Rattle.store.specs.Store.{store_instance}
 use Rattle.store.proofs.entries.store_instance.Goals as goal
@@ -11,12 +11,6 @@ returns-then-j-ge-INSTANCE_ROWS c = rw (le-ltb _ instance_rows c.if-j-ge-INSTANC
 pub returns-then-owner-ge-NAME_ROWS : goal.returns-then-owner-ge-NAME_ROWS
 unfolding store_instance
 returns-then-owner-ge-NAME_ROWS c = rw (lt-ltb _ instance_rows c.if-j-ge-INSTANCE_ROWS.false, le-ltb _ name_rows c.if-owner-ge-NAME_ROWS.true)
-
-pub bounds-nums-j-2 : goal.bounds-nums-j-2
-bounds-nums-j-2 c = simp length-set (omega arith)
-
-pub bounds-nums-j-3 : goal.bounds-nums-j-3
-bounds-nums-j-3 c = simp length-set (omega arith)
 
 pub returns : goal.returns
 unfolding store_instance

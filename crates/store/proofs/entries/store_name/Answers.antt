@@ -1,5 +1,5 @@
 -- `store::entries::store_name` meets its contract: the bytes are put where the row is one of a name.
-use Rattle.std.proofs.Common.{ap, rules, le-ltb, lt-ltb}
+use Rattle.std.proofs.Common.{ap, le-ltb, lt-ltb}
 use Rattle.text.specs.Put.{Put}
 use Rattle.tables.specs.Entry.{name_rows}
 use Rattle.store.specs.Store.{store_name}

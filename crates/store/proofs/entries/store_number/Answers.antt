@@ -1,5 +1,5 @@
 -- `store::entries::store_number` meets its contract: two stores where the row is one of a name.
-use Rattle.std.proofs.Common.{arith, length-set, rules, le-ltb, lt-ltb}
+use Rattle.std.proofs.Common.{arith, length-set, le-ltb, lt-ltb}
 use Rattle.tables.specs.Entry.{name_rows}
 use Rattle.store.specs.Store.{store_number}
 use Rattle.store.proofs.entries.store_number.Goals as goal

@@ -1,5 +1,5 @@
 -- `store::entries::store_standing` meets its contract: one store where the row is one of a name.
-use Rattle.std.proofs.Common.{rules, le-ltb, lt-ltb}
+use Rattle.std.proofs.Common.{le-ltb, lt-ltb}
 use Rattle.tables.specs.Entry.{name_rows}
 use Rattle.store.specs.Store.{store_standing}
 use Rattle.store.proofs.entries.store_standing.Goals as goal

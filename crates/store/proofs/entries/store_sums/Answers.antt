@@ -1,5 +1,5 @@
 -- `store::entries::store_sums` meets its contract: four stores where the row is one of a name.
-use Rattle.std.proofs.Common.{arith, length-set, rules, le-ltb, lt-ltb}
+use Rattle.std.proofs.Common.{le-ltb, lt-ltb}
 use Rattle.tables.specs.Entry.{name_rows}
 use Rattle.store.specs.Store.{store_sums}
 use Rattle.store.proofs.entries.store_sums.Goals as goal
@@ -7,15 +7,6 @@ use Rattle.store.proofs.entries.store_sums.Goals as goal
 pub returns-then-i-ge-NAME_ROWS : goal.returns-then-i-ge-NAME_ROWS
 unfolding store_sums
 returns-then-i-ge-NAME_ROWS c = rw (le-ltb _ name_rows c.if-i-ge-NAME_ROWS.true)
-
-pub bounds-ticks-i-2 : goal.bounds-ticks-i-2
-bounds-ticks-i-2 c = simp length-set (omega arith)
-
-pub bounds-ticks-i-3 : goal.bounds-ticks-i-3
-bounds-ticks-i-3 c = simp length-set (omega arith)
-
-pub bounds-ticks-i-4 : goal.bounds-ticks-i-4
-bounds-ticks-i-4 c = simp length-set (omega arith)
 
 pub returns : goal.returns
 unfolding store_sums

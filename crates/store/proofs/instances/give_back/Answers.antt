@@ -1,5 +1,5 @@
 -- `store::instances::give_back` meets its contract: the last row is read before its entries are stored in the row j, where both are rows of their columns.
-use Rattle.std.proofs.Common.{arith, length-set, rules, le-ltb, lt-ltb, eq-eqb, ne_eqb, le-leb}
+use Rattle.std.proofs.Common.{le-ltb, lt-ltb, eq-eqb, ne_eqb, le-leb}
 use borrow.Author.Tests.{lt-leb}
 use Rattle.tables.specs.Entry.{instance_rows}
 use Rattle.store.specs.Store.{given_back}
@@ -16,12 +16,6 @@ returns-then-n-eq0 c = rw (lt-ltb _ instance_rows c.if-j-ge-INSTANCE_ROWS.false,
 pub returns-then-n-gt-INSTANCE_LIMIT : goal.returns-then-n-gt-INSTANCE_LIMIT
 unfolding given_back
 returns-then-n-gt-INSTANCE_LIMIT c = rw (lt-ltb _ instance_rows c.if-j-ge-INSTANCE_ROWS.false, ne_eqb _ 0 c.if-n-eq0.false, lt-leb _ instance_rows c.if-n-gt-INSTANCE_LIMIT.true)
-
-pub bounds-nums-j-2 : goal.bounds-nums-j-2
-bounds-nums-j-2 c = simp length-set (omega arith)
-
-pub bounds-nums-j-3 : goal.bounds-nums-j-3
-bounds-nums-j-3 c = simp length-set (omega arith)
 
 pub returns : goal.returns
 unfolding given_back

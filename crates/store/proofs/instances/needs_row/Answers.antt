@@ -1,5 +1,5 @@
 -- `store::instances::needs_row` meets its contract: at each exit the tests passed say what the definition's tests say.
-use Rattle.std.proofs.Common.{rules, le-ltb, lt-ltb, eq-eqb, ne_eqb}
+use Rattle.std.proofs.Common.{le-ltb, lt-ltb, eq-eqb, ne_eqb}
 use Rattle.rules.specs.Words.{TERMINATED}
 use Rattle.tables.specs.Entry.{name_rows}
 use Rattle.store.specs.Store.{needs_row}

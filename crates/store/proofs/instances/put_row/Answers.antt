@@ -1,5 +1,5 @@
 -- `store::instances::put_row` meets its contract: the row found, or the next one with the count after it, where there is a next one.
-use Rattle.std.proofs.Common.{rules, le-ltb, lt-ltb}
+use Rattle.std.proofs.Common.{le-ltb, lt-ltb}
 use Rattle.tables.specs.Entry.{instance_rows}
 use Rattle.store.specs.Store.{put_row}
 use Rattle.store.proofs.instances.put_row.Goals as goal

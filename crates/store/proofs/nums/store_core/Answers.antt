@@ -1,5 +1,5 @@
 -- `store::nums::store_core` meets its contract: no store for a line without a core, the state idle where it gives the core, and else the holder.
-use Rattle.std.proofs.Common.{rules, eq-eqb, ne_eqb}
+use Rattle.std.proofs.Common.{eq-eqb, ne_eqb}
 use Rattle.rules.specs.Core.{no_core, gives_core}
 use Rattle.store.specs.Store.{with_core}
 use Rattle.store.proofs.nums.store_core.Goals as goal

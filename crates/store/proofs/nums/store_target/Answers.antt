@@ -1,5 +1,5 @@
 -- `store::nums::store_target` meets its contract: a semaphore's state and count; else the number of an event that numbers.
-use Rattle.std.proofs.Common.{sym, ◌∙◌, rules, eq-eqb, ne_eqb}
+use Rattle.std.proofs.Common.{sym, ◌∙◌, eq-eqb, ne_eqb}
 use Rattle.rules.specs.Words.{semaphore}
 use Rattle.store.specs.Store.{with_target}
 use Rattle.store.proofs.nums.store_target.Goals as goal

@@ -1,5 +1,4 @@
 -- `store::nums::take_nums` meets its contract: the places of new names after all other stores, in the rows as they were before them.
-use Rattle.std.proofs.Common.{rules}
 use Rattle.store.proofs.Stores.{nums_taken}
 use Rattle.store.proofs.nums.take_nums.Goals as goal
 

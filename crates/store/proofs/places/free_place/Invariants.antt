@@ -1,9 +1,8 @@
 -- `store::places::free_place` meets its contract. The invariant: the first free place is the first one from the distance `d` on.
-use Rattle.std.proofs.Common.{◌≡◌, ◌-◌, sym, ◌∙◌, arith, rules}
+use Rattle.std.proofs.Common.{◌≡◌, ◌-◌}
 use Rattle.tables.specs.Entry.{place_rows}
 use Rattle.index.specs.Index.{free}
-use Rattle.index.proofs.Right.{place_lt}
-use Rattle.store.proofs.PlaceStores.{free_from, free_begin, free_here, free_on, free_none}
+use Rattle.store.proofs.PlaceStores.{free_from}
 use Rattle.store.proofs.places.free_place.Given as goal
 
 abbrev pub invariant-loop-d : goal.invariant-loop-d

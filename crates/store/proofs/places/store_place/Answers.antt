@@ -1,5 +1,5 @@
 -- `store::places::store_place` meets its contract: one store where the row is one of a name and a place is free.
-use Rattle.std.proofs.Common.{rules, le-ltb}
+use Rattle.std.proofs.Common.{le-ltb}
 use Rattle.tables.specs.Entry.{name_rows}
 use Rattle.store.specs.Store.{store_place}
 use Rattle.store.proofs.PlaceStores.{placed, unplaced}

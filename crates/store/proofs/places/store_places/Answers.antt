@@ -18,7 +18,7 @@ unfolding with_places
 returns-then-new_name-eq1 c =
     made_next (λ l home. store_place l c.args.p home) c.new_name.ensures c.if-new_name-eq1.true
     (elim c.if-new_core-eq1.branch [
-      then-new_core-eq1 w ↦ made _ c.new_core.ensures w.if-new_core-eq1.true (w.nums-is ∙ w.store_place.ensures ∙ ap (store_place c.args.nums.now c.args.i) w.home_of.ensures)
+      | then-new_core-eq1 w ↦ made _ c.new_core.ensures w.if-new_core-eq1.true (w.nums-is ∙ w.store_place.ensures ∙ ap (store_place c.args.nums.now c.args.i) w.home_of.ensures)
       | else-new_core-eq1 w ↦ unmade _ c.new_core.ensures w.if-new_core-eq1.false w.nums-is
     ])
     c.home_of-then-new_name-eq1.ensures c.store_place-then-new_name-eq1.ensures
@@ -28,6 +28,6 @@ unfolding with_places
 returns-else-new_name-eq1 c =
     unmade _ c.new_name.ensures c.if-new_name-eq1.false
     (elim c.if-new_core-eq1.branch [
-      then-new_core-eq1 w ↦ made _ c.new_core.ensures w.if-new_core-eq1.true (w.nums-is ∙ w.store_place.ensures ∙ ap (store_place c.args.nums.now c.args.i) w.home_of.ensures)
+      | then-new_core-eq1 w ↦ made _ c.new_core.ensures w.if-new_core-eq1.true (w.nums-is ∙ w.store_place.ensures ∙ ap (store_place c.args.nums.now c.args.i) w.home_of.ensures)
       | else-new_core-eq1 w ↦ unmade _ c.new_core.ensures w.if-new_core-eq1.false w.nums-is
     ])

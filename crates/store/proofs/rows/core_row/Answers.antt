@@ -1,5 +1,5 @@
 -- `store::rows::core_row` meets its contract: the row found, or as many rows as there are.
-use Rattle.std.proofs.Common.{arith, rules}
+use Rattle.std.proofs.Common.{arith}
 use Rattle.tables.specs.Entry.{names_index}
 use Rattle.store.specs.Store.{core_row}
 use Rattle.store.proofs.rows.core_row.Goals as goal

@@ -8,6 +8,6 @@ pub returns : goal.returns
 unfolding with_times
 returns c =
     elim c.if-started-eq0.branch [
-      then-started-eq0 w ↦ rw (eq-eqb _ 0 w.if-started-eq0.true, w.ticks-is)
+      | then-started-eq0 w ↦ rw (eq-eqb _ 0 w.if-started-eq0.true, w.ticks-is)
       | else-started-eq0 w ↦ rw (ne_eqb _ 0 w.if-started-eq0.false, w.ticks-is)
     ]

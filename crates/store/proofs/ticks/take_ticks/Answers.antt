@@ -1,5 +1,4 @@
 -- `store::ticks::take_ticks` meets its contract: the stores one after another, with the rows as they were before them.
-use Rattle.std.proofs.Common.{rules}
 use Rattle.store.proofs.Stores.{ticks_taken}
 use Rattle.store.proofs.ticks.take_ticks.Goals as goal
 
