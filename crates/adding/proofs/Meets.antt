@@ -1,5 +1,5 @@
 -- Two sections in order, walked side by side: whether some name stands in both is told by the names that come first and those after them.
-use mathlib.Core.Path.{◌≡◌, sym, ap, ◌∙◌}
+use mathlib.Core.Path.{◌≡◌, sym, ap, subst, ◌∙◌}
 use mathlib.Core.Bool.{Bool, true, false, ◌||◌}
 use mathlib.Core.List.{List, [], ◌∷◌, map}
 use Prim.Native.Nat.{ℕ, suc, ◌+◌, ◌≤◌, ◌<◌}
@@ -43,9 +43,12 @@ module _ (key key' : ℕ → Name) (left right : List ℕ) (i j : ℕ) where
       (o : Order) (e : o ≡ order (key (get_or left i 0)) (key' (get_or right j 0))) where
     turned : common ≡ is_same o || meets (drop (i + left_step o) (map key left)) (drop (j + right_step o) (map key' right))
     turned =
-        rw (← drop-drop (left_step o) i (map key left), ← drop-drop (right_step o) j (map key' right), at_row key left i h, at_row key' right j k)
+        rw (← drop-drop (left_step o) i (map key left), ← drop-drop (right_step o) j (map key' right))
+        (subst (λ (ms : List Name). meets (drop i (map key left)) ms ≡ is_same o || meets (drop (left_step o) (drop i (map key left))) (drop (right_step o) ms))
+        (sym (at_row key' right j k))
+        (rw (at_row key left i h)
         (meets_step (key (get_or left i 0)) (key' (get_or right j 0)) (drop (suc i) (map key left)) (drop (suc j) (map key' right))
-        (rw (at_row key left i h) at (rising_drop i (map key left) r)) (rw (at_row key' right j k) at (rising_drop j (map key' right) q)) o e)
+        (rw (at_row key left i h) at (rising_drop i (map key left) r)) (rw (at_row key' right j k) at (rising_drop j (map key' right) q)) o e)))
 
     module _ (told : Bool) (t : told ≡ is_same o) where
       pub meets_one : told ≡ true → common ≡ true

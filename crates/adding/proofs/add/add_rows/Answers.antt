@@ -27,18 +27,18 @@ pub returns-then-n-ne0 : goal.returns-then-n-ne0
 returns-then-n-ne0 c = sum_refused c.requires c.put_cores-cores.ensures.0 c.put_processes-processes.ensures.0 _ c.own_refusal-n.ensures c.if-n-ne0.true
 
 pub slice_bounds-put_bill-end : goal.slice_bounds-put_bill-end
-slice_bounds-put_bill-end c = omega (arith, ((let fact : let d = c.put_cores-cores in let a = c.args in (take (d.result.next - 0) d.last.1.1.1.1.0 ≡ rows_text (sums_of Cores a.a.now a.x a.b.now a.y)) × (d.result.next ≤ length d.last.1.1.1.1.0) = put_front _ _ c.put_cores-cores.ensures.1 (sums_room c.requires Cores) in fact)).1)
+slice_bounds-put_bill-end c = omega (arith, (put_front _ _ c.put_cores-cores.ensures.1 (sums_room c.requires Cores)).1)
 
 pub slice_bounds-put_bill-end-2 : goal.slice_bounds-put_bill-end-2
-slice_bounds-put_bill-end-2 c = omega (arith, ((let fact : let d = c.put_processes-processes in let a = c.args in (take (d.result.next - 0) d.new.1.1.1.1.0 ≡ rows_text (sums_of Processes a.a.now a.x a.b.now a.y)) × (d.result.next ≤ length d.new.1.1.1.1.0) = put_front _ _ c.put_processes-processes.ensures.1 (sums_room c.requires Processes) in fact)).1)
+slice_bounds-put_bill-end-2 c = omega (arith, (put_front _ _ c.put_processes-processes.ensures.1 (sums_room c.requires Processes)).1)
 
 pub put_bill-requires : goal.put_bill-requires
 put_bill-requires c =
     let b = c.requires in
-    (omega (arith, ap length ((let fact : let d = c.put_cores-cores in let a = c.args in (take (d.result.next - 0) d.last.1.1.1.1.0 ≡ rows_text (sums_of Cores a.a.now a.x a.b.now a.y)) × (d.result.next ≤ length d.last.1.1.1.1.0) = put_front _ _ c.put_cores-cores.ensures.1 (sums_room c.requires Cores) in fact)).0, sums_room b Cores), omega (arith, ap length ((let fact : let d = c.put_processes-processes in let a = c.args in (take (d.result.next - 0) d.new.1.1.1.1.0 ≡ rows_text (sums_of Processes a.a.now a.x a.b.now a.y)) × (d.result.next ≤ length d.new.1.1.1.1.0) = put_front _ _ c.put_processes-processes.ensures.1 (sums_room c.requires Processes) in fact)).0, sums_room b Processes))
+    (omega (arith, ap length (put_front _ _ c.put_cores-cores.ensures.1 (sums_room c.requires Cores)).0, sums_room b Cores), omega (arith, ap length (put_front _ _ c.put_processes-processes.ensures.1 (sums_room c.requires Processes)).0, sums_room b Processes))
 
 pub returns : goal.returns
 returns c =
     c.put_bill.ensures
     ∙ sum_made c.requires c.put_cores-cores.ensures.0 c.put_processes-processes.ensures.0 _ (sym c.own_refusal-n.ensures ∙ c.if-n-ne0.false)
-    ((let fact : let d = c.put_cores-cores in let a = c.args in (take (d.result.next - 0) d.last.1.1.1.1.0 ≡ rows_text (sums_of Cores a.a.now a.x a.b.now a.y)) × (d.result.next ≤ length d.last.1.1.1.1.0) = put_front _ _ c.put_cores-cores.ensures.1 (sums_room c.requires Cores) in fact)).0 ((let fact : let d = c.put_processes-processes in let a = c.args in (take (d.result.next - 0) d.new.1.1.1.1.0 ≡ rows_text (sums_of Processes a.a.now a.x a.b.now a.y)) × (d.result.next ≤ length d.new.1.1.1.1.0) = put_front _ _ c.put_processes-processes.ensures.1 (sums_room c.requires Processes) in fact)).0
+    (put_front _ _ c.put_cores-cores.ensures.1 (sums_room c.requires Cores)).0 (put_front _ _ c.put_processes-processes.ensures.1 (sums_room c.requires Processes)).0

@@ -1,8 +1,8 @@
 use mathlib.Core.Path.{◌≡◌, refl, sym, ap, ◌∙◌}
-use mathlib.Core.List.{◌∷◌, map}
-use Prim.Native.Nat.{◌+◌, ◌-◌, ◌≤◌}
+use mathlib.Core.List.{List, ◌∷◌, map}
+use Prim.Native.Nat.{ℕ, ◌+◌, ◌<◌}
+use mathlib.Core.Bool.{Bool}
 use native.Mathlib.Omega.{arith}
-use borrow.Author.Rules.{rules}
 use lib.ListN.{length, get_or, drop}
 use Rattle.paper.specs.Lines.{line_from}
 use Rattle.paper.specs.Rows.{process_charge}
@@ -11,6 +11,11 @@ use Rattle.paper.proofs.RowTests.{charge_small}
 use Rattle.adding.proofs.RowWalks.{charges_end, charge_bad, charge_turn, rows_next}
 use Rattle.adding.proofs.rows.charges_make.Goals as goal
 
+-- the row at the index i comes first of those from i on
+first_row : (text places : List ℕ) (i left : ℕ) (told : Bool) → i < length places → told ≡ charges_make left (map (line_from text) (drop i places))
+    → told ≡ charges_make left (line_from text (get_or places i 0) ∷ map (line_from text) (drop (i + 1) places))
+first_row text places i left told h e = e ∙ rw (rows_next text places i h)
+
 pub loop-i-init : goal.loop-i-init
 loop-i-init c = (omega arith, refl)
 
@@ -18,13 +23,20 @@ pub overflow_cast-places : goal.overflow_cast-places
 overflow_cast-places c = omega (arith, c.type_inv.places c.loop-i.i)
 
 pub returns-in_default : goal.returns-in_default
-returns-in_default c = sym ((let fact : let a = c.args in charges_make a.held (map (line_from a.text.now) a.places.now) ≡ charges_make c.loop-i.false (line_from a.text.now (get_or a.places.now c.loop-i.i 0) ∷ map (line_from a.text.now) (drop (c.loop-i.i + 1) a.places.now)) = let a = c.args in c.loop-i.invariant.1 ∙ rw (rows_next a.text.now a.places.now c.loop-i.i c.loop-i-test.true) in fact) ∙ charge_bad _ _ _ ((let fact : let a = c.args in process_charge c.loop-i.false (line_from a.text.now (get_or a.places.now c.loop-i.i 0)) ≡ c.charge_in-charge.result = sym (c.charge_in-charge.ensures ∙ ap (process_charge c.loop-i.false) c.line_at.ensures) in fact) ∙ c.in_default.is))
+returns-in_default c =
+    sym
+    (first_row _ _ _ _ _ c.loop-i-test.true c.loop-i.invariant.1
+    ∙ charge_bad _ _ _ (ap (process_charge c.loop-i.left) (sym c.line_at.ensures) ∙ sym c.charge_in-charge.ensures ∙ c.in_default.is))
 
 pub overflow_sub-left : goal.overflow_sub-left
-overflow_sub-left c = charge_small _ _ _ ((let fact : let a = c.args in process_charge c.loop-i.false (line_from a.text.now (get_or a.places.now c.loop-i.i 0)) ≡ c.charge_in-charge.result = sym (c.charge_in-charge.ensures ∙ ap (process_charge c.loop-i.false) c.line_at.ensures) in fact) ∙ c.in-Value.is)
+overflow_sub-left c = charge_small _ _ _ (ap (process_charge c.loop-i.left) (sym c.line_at.ensures) ∙ sym c.charge_in-charge.ensures ∙ c.in-Value.is)
 
 pub loop-i-preserved : goal.loop-i-preserved
-loop-i-preserved c = (omega arith, (let fact : let a = c.args in charges_make a.held (map (line_from a.text.now) a.places.now) ≡ charges_make c.loop-i.false (line_from a.text.now (get_or a.places.now c.loop-i.i 0) ∷ map (line_from a.text.now) (drop (c.loop-i.i + 1) a.places.now)) = let a = c.args in c.loop-i.invariant.1 ∙ rw (rows_next a.text.now a.places.now c.loop-i.i c.loop-i-test.true) in fact) ∙ charge_turn _ _ _ _ ((let fact : let a = c.args in process_charge c.loop-i.false (line_from a.text.now (get_or a.places.now c.loop-i.i 0)) ≡ c.charge_in-charge.result = sym (c.charge_in-charge.ensures ∙ ap (process_charge c.loop-i.false) c.line_at.ensures) in fact) ∙ c.in-Value.is))
+loop-i-preserved c = (
+  omega arith,
+  first_row _ _ _ _ _ c.loop-i-test.true c.loop-i.invariant.1
+  ∙ charge_turn _ _ _ _ (ap (process_charge c.loop-i.left) (sym c.line_at.ensures) ∙ sym c.charge_in-charge.ensures ∙ c.in-Value.is),
+)
 
 pub returns : goal.returns
 returns c = sym (c.loop-i.invariant.1 ∙ charges_end _ _ _ _ c.loop-i-test.false)

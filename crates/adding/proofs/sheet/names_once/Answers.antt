@@ -7,21 +7,21 @@ use Rattle.adding.proofs.sheet.names_once.Goals as goal
 pub returns-then-not-sort : goal.returns-then-not-sort
 returns-then-not-sort c =
     let s = c.sort in
-    cores_twice _ _ _ _ (search rules) s.result s.ensures.1 _ (search rules) c.if-not-sort.true-raw
+    cores_twice _ _ _ _ (search rules) s.result s.ensures.1 _ (search rules) (rw c.if-not-sort.true)
 
 pub returns-then-not-sort-2 : goal.returns-then-not-sort-2
 returns-then-not-sort-2 c =
     let s = c.sort in
-    processes_twice _ _ _ _ (search rules) s.result s.ensures.1 c.if-not-sort.false _ (search rules) c.sort-2.result c.sort-2.ensures.1 c.if-not-sort-2.true-raw
+    processes_twice _ _ _ _ (search rules) s.result s.ensures.1 (rw c.if-not-sort.false) _ (search rules) c.sort-2.result c.sort-2.ensures.1 (rw c.if-not-sort-2.true)
 
 pub meet-requires : goal.meet-requires
 meet-requires c =
     let s = c.sort in
     let h = c.requires in
-    both_rise _ _ _ _ (s.ensures.0 ∙ h.2) s.result s.ensures.1 c.if-not-sort.false _ (c.sort-2.ensures.0 ∙ h.3) c.sort-2.result c.sort-2.ensures.1 c.if-not-sort-2.false
+    both_rise _ _ _ _ (s.ensures.0 ∙ h.2) s.result s.ensures.1 (rw c.if-not-sort.false) _ (c.sort-2.ensures.0 ∙ h.3) c.sort-2.result c.sort-2.ensures.1 (rw c.if-not-sort-2.false)
 
 pub returns : goal.returns
 returns c =
     let s = c.sort in
     let h = c.requires in
-    compared _ _ _ _ (s.ensures.0 ∙ h.2) s.result s.ensures.1 c.if-not-sort.false _ (c.sort-2.ensures.0 ∙ h.3) c.sort-2.result c.sort-2.ensures.1 c.if-not-sort-2.false c.meet.result c.meet.ensures
+    compared _ _ _ _ (s.ensures.0 ∙ h.2) s.result s.ensures.1 (rw c.if-not-sort.false) _ (c.sort-2.ensures.0 ∙ h.3) c.sort-2.result c.sort-2.ensures.1 (rw c.if-not-sort-2.false) c.meet.result c.meet.ensures

@@ -1,7 +1,6 @@
 -- `adding::sort::insert` meets its contract: where the name at the row's place is its own nothing is put, and otherwise the row goes there.
 use mathlib.Core.Path.{◌≡◌, ◌∙◌}
 use mathlib.Core.Bool.{true}
-use mathlib.Core.Logic.{⊎_elim}
 use Prim.Native.Nat.{◌<◌}
 use native.Mathlib.Omega.{arith}
 use borrow.Author.Rules.{rules}
@@ -9,6 +8,7 @@ use borrow.Author.Tests.{not-true, not-false}
 use Rattle.adding.proofs.Compared.{less_told}
 use Rattle.adding.proofs.Inserts.{front, after, within, taken, inserted}
 use Rattle.adding.proofs.sort.insert.Goals as goal
+use Rattle.adding.proofs.sort.insert.Goals.{then-k-n+else-not-is_less, else-k-n}
 
 pub rank-k-requires : goal.rank-k-requires
 rank-k-requires c = rw front c.requires.1
@@ -19,7 +19,7 @@ returns-then-not-is_less c =
     let b = less_told c.compare-o.ensures c.name_at.ensures c.name_at-then-k-n.ensures c.is_less.ensures in (
       search rules,
       taken a.text.now a.places.now a.n a.p c.rank-k.result c.requires.0 c.rank-k.ensures c.if-k-n.true
-          (b ∙ not-true _ c.if-not-is_less.true-raw),
+          (b ∙ c.if-not-is_less.true),
     )
 
 pub put_at-requires : goal.put_at-requires
@@ -32,5 +32,5 @@ pub returns : goal.returns
 returns c =
     let a = c.args in (
       search rules,
-      inserted a.text.now a.places.now a.n a.p c.rank-k.result c.requires.0 c.rank-k.ensures c.requires.1 ((let fact : let a = c.args in c.rank-k.result < a.n → after a.text.now a.places.now a.p c.rank-k.result ≡ true = λ h. ⊎_elim (λ w. less_told w.4.ensures w.1.ensures w.3.ensures w.5.ensures ∙ not-false _ w.6.left) (λ w. absurd (omega arith)) c.if-k-n.branch in fact)) _ c.put_at.ensures.1,
+      inserted a.text.now a.places.now a.n a.p c.rank-k.result c.requires.0 c.rank-k.ensures c.requires.1 (λ h. elim c.if-k-n.branch [ then-k-n+else-not-is_less w ↦ less_told w.compare-o.ensures w.name_at.ensures w.name_at-then-k-n.ensures w.is_less.ensures ∙ w.if-not-is_less.false | else-k-n w ↦ absurd (omega arith) ]) _ c.put_at.ensures.1,
     )
