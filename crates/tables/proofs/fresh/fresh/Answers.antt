@@ -1,5 +1,4 @@
 -- `tables::fresh::fresh` meets its contract: 15 by the sizes, with nothing written, else every entry of the three tables is 0.
-use borrow.Author.Rules.{rules}
 use Rattle.tables.specs.Fresh.{cleared_of}
 use Rattle.tables.proofs.Chains.{passed, failed}
 use Rattle.tables.proofs.Zeros.{clear_all}
@@ -11,7 +10,7 @@ returns-then-not-sized c = rw (failed c.sized.ensures c.if-not-sized.true-raw)
 
 pub returns : goal.returns
 returns c =
-    clear_all _ _ _ _ _ _ (passed c.sized.ensures c.if-not-sized.false)
+    clear_all _ _ _ _ _ _ (passed c.sized.ensures c.if-not-sized.false-raw)
     c.zero_bytes.ensures
     c.zero_nums.ensures
     c.zero_ticks.ensures

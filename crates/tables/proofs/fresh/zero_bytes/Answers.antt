@@ -1,7 +1,5 @@
-use Prim.Native.Nat.{◌-◌}
 use borrow.Author.Rules.{rules}
-use lib.ListN.{length}
-use Rattle.tables.proofs.Zeros.{Zeroed, zero_none, zero_more, zero_all}
+use Rattle.tables.proofs.Zeros.{zero_none, zero_more, zero_all}
 use Rattle.tables.proofs.fresh.zero_bytes.Goals as goal
 
 pub loop-i-init : goal.loop-i-init

@@ -1,8 +1,7 @@
 -- `tables::fresh::zero_nums` meets its contract. The invariant: the entries before `i` are 0, and the others are as they were.
 use Prim.Native.Nat.{◌-◌}
-use borrow.Author.Rules.{rules}
 use lib.ListN.{length}
-use Rattle.tables.proofs.Zeros.{Zeroed, zero_none, zero_more, zero_all}
+use Rattle.tables.proofs.Zeros.{Zeroed}
 use Rattle.tables.proofs.fresh.zero_nums.Given as goal
 
 abbrev pub invariant-loop-i : goal.invariant-loop-i
