@@ -1,14 +1,8 @@
-use Rattle.std.proofs.Common.{◌≡◌, arith, rules}
-use Rattle.text.proofs.Finds.{gather_start, gather_turn}
+use Rattle.std.proofs.Common.{arith, rules}
+use Rattle.text.proofs.Finds.{gather_turn}
 use Rattle.text.proofs.bytes.eight_have.Goals as goal
-
-pub loop-k-init : goal.loop-k-init
-loop-k-init c = (search rules, λ e. gather_start _ _ _)
 
 pub loop-k-preserved : goal.loop-k-preserved
 loop-k-preserved c =
     let a = c.args in
     (search rules, λ e. gather_turn a.b a.s.now a.at c.loop-k.k c.loop-k.have (omega arith) c.loop-k.invariant.1 e)
-
-pub returns : goal.returns
-returns c = λ e. let k : c.loop-k.k ≡ 8 = omega arith in rw k at (c.loop-k.invariant.1 e)

@@ -1,9 +1,6 @@
-use Rattle.std.proofs.Common.{sym, refl, arith, rules}
+use Rattle.std.proofs.Common.{sym, arith, rules}
 use Rattle.text.proofs.Plain.{plain_turn, plain_end}
 use Rattle.text.proofs.name.all_plain.Goals as goal
-
-pub loop-i-init : goal.loop-i-init
-loop-i-init c = (search rules, refl)
 
 pub loop-i-preserved : goal.loop-i-preserved
 loop-i-preserved c = (search rules, plain_turn c.args.s.now c.loop-i.i c.loop-i.odd (omega arith) c.loop-i.invariant.1)

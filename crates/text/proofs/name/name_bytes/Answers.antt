@@ -4,9 +4,6 @@ use Rattle.text.specs.Name.{all_name_bytes}
 use Rattle.text.proofs.Names.{eight_more, eight_odd, eight_last}
 use Rattle.text.proofs.name.name_bytes.Goals as goal
 
-pub returns-then-n-lt8 : goal.returns-then-n-lt8
-returns-then-n-lt8 c = c.few_named.ensures
-
 pub loop-i-init : goal.loop-i-init
 unfolding all_name_bytes
 loop-i-init c = (search rules, refl)

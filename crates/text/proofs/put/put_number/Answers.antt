@@ -8,16 +8,5 @@ returns-then-not-room c =
     let a = c.args in
     sym (put_full _ _ _ (omega (arith, no_room _ (a.at + c.digit_count-n.result) (length a.out.now) c.room.ensures c.if-not-room.true-raw)))
 
-pub overflow_add-end : goal.overflow_add-end
-overflow_add-end c =
-    let a = c.args in
-    omega (arith, has_room _ (a.at + c.digit_count-n.result) (length a.out.now) c.room.ensures c.if-not-room.false-raw)
-
-pub store_digits-requires : goal.store_digits-requires
-store_digits-requires c =
-    let a = c.args in
-    let h = has_room _ (a.at + c.digit_count-n.result) (length a.out.now) c.room.ensures c.if-not-room.false-raw in
-    (omega arith, omega arith)
-
 pub returns : goal.returns
 returns c = put_done _ _ _ _ _ c.digit_count-n.ensures (has_room _ _ _ c.room.ensures c.if-not-room.false-raw) c.store_digits.ensures

@@ -19,8 +19,5 @@ loop-v-preserved c =
     let n = length_pos (l.v / 10) in
     (omega arith, omega arith, simp length-set l.invariant.2, store_turn _ _ _ _ c.loop-v-test.true l.invariant.0 ∙ l.invariant.3)
 
-pub shape_of-out : goal.shape_of-out
-shape_of-out c = simp length-set c.loop-v.invariant.2
-
 pub returns : goal.returns
 returns c = store_last _ _ _ _ c.loop-v-test.false c.loop-v.invariant.0 ∙ c.loop-v.invariant.3
