@@ -1,22 +1,50 @@
 -- `decide::room::needs_one` meets its contract: at each exit the tests passed say what the definition's tests say.
-use mathlib.Core.Path.{◌≡◌, sym, ap, ◌∙◌}
-use mathlib.Core.Bool.{Bool, true, not, ◌&&◌, ◌||◌}
-use borrow.Author.Rules.{rules}
-use Rattle.rules.specs.History.{has_instances, activates}
-use Rattle.tables.proofs.Chains.{pass, stop, passed, failed}
-use Rattle.lookup.specs.LookedUp.{is_nothing}
-use Rattle.decide.specs.PlanCode.{reaches_first, is_next_in, needs_one_in}
+use Rattle.decide.specs.PlanCode.{needs_one_in}
 use Rattle.decide.proofs.room.needs_one.Goals as goal
 
--- ---- the exits
 pub returns-then-not-with_instances : goal.returns-then-not-with_instances
 unfolding needs_one_in
-returns-then-not-with_instances c = stop _ (failed c.with_instances.ensures c.if-not-with_instances.true-raw)
+returns-then-not-with_instances c = rw (← c.with_instances.ensures, c.if-not-with_instances.true)
 
 pub returns-in-At : goal.returns-in-At
 unfolding needs_one_in
-returns-in-At c = pass ((let fact : has_instances c.args.kind ≡ true = passed c.with_instances.ensures c.if-not-with_instances.false-raw in fact)) (rw c.in-At.is)
+returns-in-At c = rw (← c.with_instances.ensures, c.if-not-with_instances.false, c.in-At.is)
 
 pub returns-then-exceeds_limit : goal.returns-then-exceeds_limit
 unfolding needs_one_in
-returns-then-exceeds_limit c = pass ((let fact : has_instances c.args.kind ≡ true = passed c.with_instances.ensures c.if-not-with_instances.false-raw in fact)) (pass ((let fact : is_nothing c.args.s.instance ≡ true = rw c.in_default.is in fact)) (stop _ (ap not (sym c.exceeds_limit.ensures ∙ c.if-exceeds_limit.true))))
+returns-then-exceeds_limit c =
+    rw (
+      ← c.with_instances.ensures,
+      c.if-not-with_instances.false,
+      c.in_default.is,
+      ← c.exceeds_limit.ensures,
+      c.if-exceeds_limit.true,
+    )
+
+pub returns-then-not-reaches_first : goal.returns-then-not-reaches_first
+unfolding needs_one_in
+returns-then-not-reaches_first c =
+    rw (
+      ← c.with_instances.ensures,
+      c.if-not-with_instances.false,
+      c.in_default.is,
+      ← c.exceeds_limit.ensures,
+      c.if-exceeds_limit.false,
+      ← c.reaches_first.ensures,
+      c.if-not-reaches_first.true,
+    )
+
+pub returns : goal.returns
+unfolding needs_one_in
+returns c =
+    rw (
+      ← c.with_instances.ensures,
+      c.if-not-with_instances.false,
+      c.in_default.is,
+      ← c.exceeds_limit.ensures,
+      c.if-exceeds_limit.false,
+      ← c.reaches_first.ensures,
+      c.if-not-reaches_first.false,
+      ← c.numbers_instance.ensures,
+      ← c.is_next.ensures,
+    )

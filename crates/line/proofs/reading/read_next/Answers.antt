@@ -11,18 +11,28 @@ pub returns-in_default : goal.returns-in_default
 returns-in_default c = next_over _ _ _ (rest_is _ _ _ (sym c.next_line-next.ensures ∙ c.in_default.is))
 
 pub slice_bounds-read_at-count : goal.slice_bounds-read_at-count
-slice_bounds-read_at-count c = let t = (let fact : let a = c.args in let g = c.next-1.given.0 in LineIs a.whole a.s.now a.at g.0 g.1.0 g.1.1.0 g.1.1.1.0 = line_is _ _ _ _ _ _ _ (sym c.next_line-next.ensures ∙ c.in-Line.is) in fact) in omega arith
+slice_bounds-read_at-count c =
+    let t : LineIs c.args.whole c.args.s.now c.args.at _ _ _ _ = line_is _ _ _ _ _ _ _ (sym c.next_line-next.ensures ∙ c.in-Line.is) in
+    omega arith
 
 pub slice_bounds-read_at-start : goal.slice_bounds-read_at-start
-slice_bounds-read_at-start c = let t = (let fact : let a = c.args in let g = c.next-1.given.0 in LineIs a.whole a.s.now a.at g.0 g.1.0 g.1.1.0 g.1.1.1.0 = line_is _ _ _ _ _ _ _ (sym c.next_line-next.ensures ∙ c.in-Line.is) in fact) in omega arith
+slice_bounds-read_at-start c =
+    let t : LineIs c.args.whole c.args.s.now c.args.at _ _ _ _ = line_is _ _ _ _ _ _ _ (sym c.next_line-next.ensures ∙ c.in-Line.is) in
+    omega arith
 
 pub slice_bounds-read_at-end : goal.slice_bounds-read_at-end
-slice_bounds-read_at-end c = let t = (let fact : let a = c.args in let g = c.next-1.given.0 in LineIs a.whole a.s.now a.at g.0 g.1.0 g.1.1.0 g.1.1.1.0 = line_is _ _ _ _ _ _ _ (sym c.next_line-next.ensures ∙ c.in-Line.is) in fact) in omega arith
+slice_bounds-read_at-end c =
+    let t : LineIs c.args.whole c.args.s.now c.args.at _ _ _ _ = line_is _ _ _ _ _ _ _ (sym c.next_line-next.ensures ∙ c.in-Line.is) in
+    omega arith
 
 pub read_at-reading-requires : goal.read_at-reading-requires
 unfolding part_from
-read_at-reading-requires c = let t = (let fact : let a = c.args in let g = c.next-1.given.0 in LineIs a.whole a.s.now a.at g.0 g.1.0 g.1.1.0 g.1.1.1.0 = line_is _ _ _ _ _ _ _ (sym c.next_line-next.ensures ∙ c.in-Line.is) in fact) in (t.commas_told, λ p. sym t.plain_told ∙ p)
+read_at-reading-requires c =
+    let t : LineIs c.args.whole c.args.s.now c.args.at _ _ _ _ = line_is _ _ _ _ _ _ _ (sym c.next_line-next.ensures ∙ c.in-Line.is) in
+    (t.commas_told, λ p. sym t.plain_told ∙ p)
 
 pub returns : goal.returns
 unfolding part_from
-returns c = let t = (let fact : let a = c.args in let g = c.next-1.given.0 in LineIs a.whole a.s.now a.at g.0 g.1.0 g.1.1.0 g.1.1.1.0 = line_is _ _ _ _ _ _ _ (sym c.next_line-next.ensures ∙ c.in-Line.is) in fact) in next_read _ _ _ _ _ _ _ t.next c.read_at-reading.ensures t.commas_told
+returns c =
+    let t : LineIs c.args.whole c.args.s.now c.args.at _ _ _ _ = line_is _ _ _ _ _ _ _ (sym c.next_line-next.ensures ∙ c.in-Line.is) in
+    next_read _ _ _ _ _ _ _ t.next c.read_at-reading.ensures t.commas_told

@@ -13,6 +13,18 @@ pub loop-k-init : goal.loop-k-init
 unfolding marks_from
 loop-k-init c = (search rules, refl, refl)
 
+-- the marks so far are a number of at most sixteen digits
+pub overflow_add-m : goal.overflow_add-m
+overflow_add-m c =
+    let a = c.args in
+    let k = c.loop-k.k in
+    omega (
+      arith,
+      row_marked a.nums.now a.owner a.number a.at k _ _ _ (search rules) c.loop-k.invariant.1 c.loop-k.invariant.2 c.weight-m.ensures,
+      marks_lt (instance_is a.nums.now a.owner a.number) (k + 1) a.at,
+      pow_mono {i = k + 1} {j = 16} (search rules),
+    )
+
 pub overflow_add-w : goal.overflow_add-w
 overflow_add-w c = let k = c.loop-k.k in omega (arith, pow_mono {i = k} {j = 16} (search rules))
 

@@ -12,6 +12,10 @@ use Rattle.index.proofs.Right.{place_lt}
 use Rattle.ranges.specs.IndexCode.{vacant, holds_row, row_placed}
 use Rattle.ranges.proofs.placed.row_placed.Goals as goal
 
+pub loop-d-init : goal.loop-d-init
+unfolding row_placed
+loop-d-init c = refl
+
 pub bounds-index-home : goal.bounds-index-home
 bounds-index-home c = omega (arith, place_lt c.args.home c.loop-d.d)
 

@@ -1,41 +1,52 @@
 -- `ranges::range::in_range` meets its contract: with wrong counts the definition's test fails, and with right ones its other tests are left, in another order.
-use mathlib.Core.Path.{ap}
-use mathlib.Core.Bool.{◌&&◌, and-false}
+use mathlib.Core.Path.{◌≡◌, sym, ap, ◌∙◌}
+use mathlib.Core.Bool.{true, ◌&&◌, and-false}
+use mathlib.Core.List.{List}
+use Prim.Native.Nat.{ℕ}
+use lib.ListN.{length}
 use borrow.Author.Rules.{rules}
-use Rattle.tables.specs.Entry.{instance_count}
-use Rattle.tables.proofs.Chains.{passed, failed}
-use Rattle.ranges.specs.Range.{Counted, line_level_ok, times_ok, instance_ok, up_to, in_range}
+use Rattle.tables.specs.Entry.{nums_size, instance_count}
+use Rattle.ranges.specs.Range.{Counted, counts_ok, line_level_ok, times_ok, instance_ok, up_to, in_range}
 use Rattle.ranges.proofs.Valid.{counts_mean}
 use Rattle.ranges.proofs.Tested.{index_tested}
 use Rattle.ranges.proofs.range.in_range.Goals as goal
 
+-- how many names and instances there are, once their counts are tested
+few : (nums : List ℕ) → length nums ≡ nums_size → counts_ok nums ≡ true → Counted nums
+few nums size e = let h = (counts_mean nums).holds e in record { size = size; names = h.1.0; instances = h.1.1.1 }
+
 pub returns-then-not-counts_ok : goal.returns-then-not-counts_ok
 unfolding in_range
-returns-then-not-counts_ok c = rw (failed c.counts_ok.ensures c.if-not-counts_ok.true, and-false)
+returns-then-not-counts_ok c = rw (← c.counts_ok.ensures, c.if-not-counts_ok.true, and-false)
 
 pub overflow_cast-n : goal.overflow_cast-n
-overflow_cast-n c = let h = (let fact : Counted c.args.nums.now = let h = (counts_mean _).holds (passed c.counts_ok.ensures c.if-not-counts_ok.false) in record { size = c.requires.nums_sized; names = h.1.0; instances = h.1.1.1 } in fact) in search rules
+overflow_cast-n c =
+    let h = few _ c.requires.nums_sized (sym c.counts_ok.ensures ∙ c.if-not-counts_ok.false) in search rules
 
 pub overflow_cast-m : goal.overflow_cast-m
-overflow_cast-m c = let h = (let fact : Counted c.args.nums.now = let h = (counts_mean _).holds (passed c.counts_ok.ensures c.if-not-counts_ok.false) in record { size = c.requires.nums_sized; names = h.1.0; instances = h.1.1.1 } in fact) in search rules
+overflow_cast-m c =
+    let h = few _ c.requires.nums_sized (sym c.counts_ok.ensures ∙ c.if-not-counts_ok.false) in search rules
 
 pub names_ok-requires : goal.names_ok-requires
-names_ok-requires c = let h = (let fact : Counted c.args.nums.now = let h = (counts_mean _).holds (passed c.counts_ok.ensures c.if-not-counts_ok.false) in record { size = c.requires.nums_sized; names = h.1.0; instances = h.1.1.1 } in fact) in search rules
+names_ok-requires c =
+    let h = few _ c.requires.nums_sized (sym c.counts_ok.ensures ∙ c.if-not-counts_ok.false) in search rules
 
 pub instances_ok-requires : goal.instances_ok-requires
-instances_ok-requires c = let h = (let fact : Counted c.args.nums.now = let h = (counts_mean _).holds (passed c.counts_ok.ensures c.if-not-counts_ok.false) in record { size = c.requires.nums_sized; names = h.1.0; instances = h.1.1.1 } in fact) in search rules
+instances_ok-requires c =
+    let h = few _ c.requires.nums_sized (sym c.counts_ok.ensures ∙ c.if-not-counts_ok.false) in search rules
 
 pub returns : goal.returns
 unfolding in_range
 returns c =
     let a = c.args in
+    let counted = sym c.counts_ok.ensures ∙ c.if-not-counts_ok.false in
     rw (
       c.line_level_ok.ensures,
       c.times_ok.ensures,
       c.names_ok.ensures,
       c.instances_ok.ensures,
       c.taken_places.ensures,
-      passed c.counts_ok.ensures c.if-not-counts_ok.false,
+      counted,
     )
     (ap (λ b. line_level_ok a.nums.now && (times_ok a.ticks.now && b))
-    (index_tested a.names.now a.nums.now a.ticks.now ((let fact : Counted c.args.nums.now = let h = (counts_mean _).holds (passed c.counts_ok.ensures c.if-not-counts_ok.false) in record { size = c.requires.nums_sized; names = h.1.0; instances = h.1.1.1 } in fact)) (up_to (instance_ok a.nums.now) (instance_count a.nums.now))))
+    (index_tested a.names.now a.nums.now a.ticks.now (few _ c.requires.nums_sized counted) (up_to (instance_ok a.nums.now) (instance_count a.nums.now))))
