@@ -8,9 +8,6 @@ use Rattle.text.proofs.PiecesFrom.{From}
 use Rattle.paper.proofs.LineWalk.{count_next, count_end}
 use Rattle.paper.proofs.line.word_count.Goals as goal
 
-pub loop-n-init : goal.loop-n-init
-loop-n-init c = (omega arith, omega arith, omega arith, refl)
-
 pub returns-then-n-e : goal.returns-then-n-e
 returns-then-n-e c =
     let l = c.loop-n in
