@@ -1,9 +1,6 @@
 -- `paper::line::line_at` meets its contract: from past the end there is nothing, and otherwise the line ends where the next end of line is found.
 use mathlib.Core.Path.{sym}
-use Prim.Native.Nat.{◌≤◌}
-use native.Mathlib.Omega.{arith}
 use borrow.Author.Rules.{rules}
-use lib.ListN.{length}
 use Rattle.paper.proofs.LineWalk.{line_past, line_here, found_within}
 use Rattle.paper.proofs.line.line_at.Goals as goal
 

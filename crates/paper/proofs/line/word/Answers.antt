@@ -1,9 +1,6 @@
-use mathlib.Core.Path.{refl, sym}
-use Prim.Native.Nat.{◌≤◌, ◌-◌}
+use mathlib.Core.Path.{sym}
 use native.Mathlib.Omega.{arith}
 use borrow.Author.Rules.{rules}
-use lib.ListN.{length}
-use Rattle.text.proofs.PiecesFrom.{From}
 use Rattle.paper.proofs.LineWalk.{found_within, word_missing, word_next, word_here}
 use Rattle.paper.proofs.line.word.Goals as goal
 

@@ -1,13 +1,7 @@
 -- `paper::row::held_in` meets its contract: each figure is told as one of at most what the span still leaves.
-use mathlib.Core.Path.{◌≡◌, sym, ◌∙◌}
-use mathlib.Core.Bool.{true}
-use Prim.Native.Nat.{◌-◌}
+use mathlib.Core.Path.{sym, ◌∙◌}
 use native.Mathlib.Omega.{arith}
-use borrow.Author.Rules.{rules}
-use borrow.Author.Tests.{not-true, not-false}
-use Rattle.bill.specs.Reading.{word_of}
-use Rattle.paper.specs.Rows.{named_of}
-use Rattle.paper.proofs.Numbers.{Told, told}
+use Rattle.paper.proofs.Numbers.{told}
 use Rattle.paper.proofs.RowTests.{core_unnamed, core_first, core_second, core_third, core_short, core_whole}
 use Rattle.paper.proofs.row.held_in.Goals as goal
 
