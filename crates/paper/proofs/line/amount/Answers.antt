@@ -1,5 +1,4 @@
 -- `paper::line::amount` meets its contract.
-use borrow.Author.Rules.{rules}
 use Rattle.paper.proofs.LineWalk.{amount_none, amount_some}
 use Rattle.paper.proofs.line.amount.Goals as goal
 

@@ -1,6 +1,5 @@
 -- `paper::line::name_at` meets its contract: a row's name is the first word of its line.
 use mathlib.Core.Path.{ap, ◌∙◌}
-use borrow.Author.Rules.{rules}
 use Rattle.bill.specs.Reading.{word_of, row_from}
 use Rattle.paper.proofs.line.name_at.Goals as goal
 

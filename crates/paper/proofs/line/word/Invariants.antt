@@ -1,12 +1,7 @@
 -- `paper::line::word` meets its contract. The invariant: `i` words stand before the index `at`.
-use mathlib.Core.Path.{refl, sym}
 use Prim.Native.Nat.{◌≤◌, ◌-◌}
-use native.Mathlib.Omega.{arith}
-use borrow.Author.Rules.{rules}
 use lib.ListN.{length}
-use Rattle.text.proofs.Finds.{find_ge, find_le}
 use Rattle.text.proofs.PiecesFrom.{From}
-use Rattle.paper.proofs.LineWalk.{word_missing, word_next, word_here}
 use Rattle.paper.proofs.line.word.Given as goal
 
 abbrev pub invariant-loop-i : goal.invariant-loop-i

@@ -1,15 +1,7 @@
-use mathlib.Core.Path.{refl}
-use Prim.Native.Nat.{◌≤◌, ◌-◌, ◌+◌}
 use native.Mathlib.Omega.{arith}
-use borrow.Author.Rules.{rules}
-use lib.ListN.{length}
 use Rattle.text.proofs.Finds.{find_ge}
-use Rattle.text.proofs.PiecesFrom.{From}
 use Rattle.paper.proofs.LineWalk.{count_next, count_end}
 use Rattle.paper.proofs.line.word_count.Goals as goal
-
-pub loop-n-init : goal.loop-n-init
-loop-n-init c = (omega arith, omega arith, omega arith, refl)
 
 pub returns-then-n-e : goal.returns-then-n-e
 returns-then-n-e c =

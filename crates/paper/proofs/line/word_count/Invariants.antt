@@ -1,12 +1,7 @@
 -- `paper::line::word_count` meets its contract. The invariant: `k - 1` words stand before the index `at`.
-use mathlib.Core.Path.{refl}
 use Prim.Native.Nat.{◌≤◌, ◌-◌, ◌+◌}
-use native.Mathlib.Omega.{arith}
-use borrow.Author.Rules.{rules}
 use lib.ListN.{length}
-use Rattle.text.proofs.Finds.{find_ge}
 use Rattle.text.proofs.PiecesFrom.{From}
-use Rattle.paper.proofs.LineWalk.{count_next, count_end}
 use Rattle.paper.proofs.line.word_count.Given as goal
 
 abbrev pub invariant-loop-n : goal.invariant-loop-n

@@ -1,6 +1,5 @@
 -- `paper::row::named` meets its contract.
 use mathlib.Core.Path.{sym, ◌∙◌}
-use borrow.Author.Rules.{rules}
 use Rattle.paper.proofs.RowTests.{other_words, name_tested}
 use Rattle.paper.proofs.row.named.Goals as goal
 
