@@ -1,5 +1,5 @@
 -- `judge::feed::feed` meets its contract: the tables are tested first.
-use Rattle.std.proofs.Common.{ap, rules}
+use Rattle.std.proofs.Common.{ap}
 use Rattle.judge.specs.Feed.{after, AfterChunk}
 use Rattle.judge.proofs.Feeds.{refused_fed, judged_fed, sized}
 use Rattle.judge.proofs.feed.feed.Goals as goal

@@ -1,9 +1,8 @@
 -- `judge::feed::lines_in` meets its contract. The loop's invariant: the lines from the index on give what all lines give. The measure is what is
 -- left of the chunk.
-use Rattle.std.proofs.Common.{◌-◌, length, arith}
+use Rattle.std.proofs.Common.{◌-◌, length}
 use Rattle.judge.specs.Feed.{tables}
-use Rattle.judge.proofs.Sizes.{alike_sized}
-use Rattle.judge.proofs.Traces.{Going, going_start, loop-ends, loop-goes}
+use Rattle.judge.proofs.Traces.{Going}
 use Rattle.judge.proofs.feed.lines_in.Given as goal
 
 abbrev pub invariant-loop-at : goal.invariant-loop-at

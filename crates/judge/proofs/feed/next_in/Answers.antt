@@ -1,7 +1,7 @@
 -- `judge::feed::next_in` meets its contract: the line that is read is the next one, and is judged.
-use Rattle.std.proofs.Common.{sym, ◌∙◌, arith, rules}
+use Rattle.std.proofs.Common.{sym, ◌∙◌, arith}
 use Rattle.fields.specs.Part.{part_from}
-use Rattle.line.proofs.Lines.{NextIs, line_next, over_next}
+use Rattle.line.proofs.Lines.{line_next, over_next}
 use Rattle.judge.proofs.Feeds.{none_next, judged_next}
 use Rattle.judge.proofs.feed.next_in.Goals as goal
 
@@ -9,18 +9,18 @@ pub returns-in_default : goal.returns-in_default
 returns-in_default c = none_next _ _ _ (over_next _ _ _ (sym c.read_next-next.ensures ∙ c.in_default.is))
 
 pub slice_bounds-line_in-count : goal.slice_bounds-line_in-count
-slice_bounds-line_in-count c = let n = (let fact : let a = c.args in let g = c.next-1.given.0 in NextIs a.whole a.s.now a.at g.0 g.1.0 g.1.1.0 = line_next _ _ _ _ _ _ (sym c.read_next-next.ensures ∙ c.in-Read.is) in fact) in omega arith
+slice_bounds-line_in-count c = omega (arith, line_next _ _ _ _ _ _ (sym c.read_next-next.ensures ∙ c.in-Read.is))
 
 pub slice_bounds-line_in-start : goal.slice_bounds-line_in-start
-slice_bounds-line_in-start c = let n = (let fact : let a = c.args in let g = c.next-1.given.0 in NextIs a.whole a.s.now a.at g.0 g.1.0 g.1.1.0 = line_next _ _ _ _ _ _ (sym c.read_next-next.ensures ∙ c.in-Read.is) in fact) in omega arith
+slice_bounds-line_in-start c = omega (arith, line_next _ _ _ _ _ _ (sym c.read_next-next.ensures ∙ c.in-Read.is))
 
 pub slice_bounds-line_in-end : goal.slice_bounds-line_in-end
-slice_bounds-line_in-end c = let n = (let fact : let a = c.args in let g = c.next-1.given.0 in NextIs a.whole a.s.now a.at g.0 g.1.0 g.1.1.0 = line_next _ _ _ _ _ _ (sym c.read_next-next.ensures ∙ c.in-Read.is) in fact) in omega arith
+slice_bounds-line_in-end c = omega (arith, line_next _ _ _ _ _ _ (sym c.read_next-next.ensures ∙ c.in-Read.is))
 
 pub line_in-answer-requires : goal.line_in-answer-requires
 unfolding part_from
-line_in-answer-requires c = (c.requires, ((let fact : let a = c.args in let g = c.next-1.given.0 in NextIs a.whole a.s.now a.at g.0 g.1.0 g.1.1.0 = line_next _ _ _ _ _ _ (sym c.read_next-next.ensures ∙ c.in-Read.is) in fact)).said)
+line_in-answer-requires c = (c.requires, (line_next _ _ _ _ _ _ (sym c.read_next-next.ensures ∙ c.in-Read.is)).said)
 
 pub returns : goal.returns
 unfolding part_from
-returns c = judged_next _ _ _ _ _ ((let fact : let a = c.args in let g = c.next-1.given.0 in NextIs a.whole a.s.now a.at g.0 g.1.0 g.1.1.0 = line_next _ _ _ _ _ _ (sym c.read_next-next.ensures ∙ c.in-Read.is) in fact)).next c.line_in-answer.ensures
+returns c = judged_next _ _ _ _ _ (line_next _ _ _ _ _ _ (sym c.read_next-next.ensures ∙ c.in-Read.is)).next c.line_in-answer.ensures
