@@ -35,7 +35,7 @@ pub loop-i-preserved : goal.loop-i-preserved
 loop-i-preserved c = (
   omega arith,
   first_row _ _ _ _ _ c.loop-i-test.true c.loop-i.invariant.1
-  ∙ charge_turn _ _ _ _ (ap (process_charge c.loop-i.left) (sym c.line_at.ensures) ∙ sym c.charge_in-charge.ensures ∙ c.in-Value.is),
+      ∙ charge_turn _ _ _ _ (ap (process_charge c.loop-i.left) (sym c.line_at.ensures) ∙ sym c.charge_in-charge.ensures ∙ c.in-Value.is),
 )
 
 pub returns : goal.returns

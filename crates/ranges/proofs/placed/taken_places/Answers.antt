@@ -13,8 +13,8 @@ pub loop-p-preserved : goal.loop-p-preserved
 loop-p-preserved c =
     let index = c.args.index.now in
     elim c.if-index-p-ne0.branch [
-    | then-index-p-ne0 w ↦ (search rules, (search rules, omega (arith, turn_taken index c.loop-p.p (omega arith) w.if-index-p-ne0.true)))
-    | else-index-p-ne0 w ↦ (search rules, (search rules, omega (arith, turn_free index c.loop-p.p (omega arith) w.if-index-p-ne0.false)))
+      | then-index-p-ne0 w ↦ (search rules, (search rules, omega (arith, turn_taken index c.loop-p.p (omega arith) w.if-index-p-ne0.true)))
+      | else-index-p-ne0 w ↦ (search rules, (search rules, omega (arith, turn_free index c.loop-p.p (omega arith) w.if-index-p-ne0.false)))
     ]
 
 pub returns : goal.returns
