@@ -2,7 +2,6 @@
 use mathlib.Core.Path.{sym, ap}
 use mathlib.Core.Logic.{inl, inr}
 use lib.ListN.{length}
-use borrow.Author.Tests.{ltb-false}
 use Rattle.words.specs.Scale.{scale_word}
 use Rattle.bill.specs.Scale.{scale_text}
 use Rattle.bill.proofs.Scales.{scale_past, scale_two}
@@ -17,4 +16,4 @@ unfolding scale_text
 returns-then-scale-eq0 c = elim c.then-scale-eq0.either [ inl z ↦ rw z | inr p ↦ sym (ap length (scale_past _ p.1)) ]
 
 pub returns : goal.returns
-returns c = sym (scale_two _ c.if-scale-eq0.false c.if-scale-eq5.false (ltb-false 5 _ c.if-scale-gt5.false-raw))
+returns c = sym (scale_two _ c.if-scale-eq0.false c.if-scale-eq5.false c.if-scale-gt5.false)

@@ -12,9 +12,6 @@ pub returns-then-k-eq0 : goal.returns-then-k-eq0
 unfolding field_of field_at
 returns-then-k-eq0 c = record { block = refl; place = rw c.if-k-eq0.true; bytes = rw c.if-k-eq0.true }
 
-pub loop-j-init : goal.loop-j-init
-loop-j-init c = (omega arith, omega arith, omega arith, refl, refl)
-
 pub returns-then-line-c : goal.returns-then-line-c
 returns-then-line-c c =
     let l = c.loop-j in

@@ -1,5 +1,4 @@
 use Rattle.std.proofs.Common.{◌-◌, length, sym, refl, ◌∙◌, arith, rules}
-use borrow.Author.Tests.{not-true, not-false}
 use Rattle.text.specs.Name.{all_name_bytes}
 use Rattle.text.proofs.Names.{eight_more, eight_odd, eight_last}
 use Rattle.text.proofs.name.name_bytes.Goals as goal
@@ -9,10 +8,10 @@ unfolding all_name_bytes
 loop-i-init c = (search rules, refl)
 
 pub returns-then-not-eight_named : goal.returns-then-not-eight_named
-returns-then-not-eight_named c = sym (eight_odd _ c.loop-i.i c.loop-i.invariant.1 (sym c.eight_named.ensures ∙ not-true _ c.if-not-eight_named.true-raw))
+returns-then-not-eight_named c = sym (eight_odd _ c.loop-i.i c.loop-i.invariant.1 (sym c.eight_named.ensures ∙ c.if-not-eight_named.true))
 
 pub loop-i-preserved : goal.loop-i-preserved
-loop-i-preserved c = (search rules, eight_more _ c.loop-i.i c.loop-i.invariant.1 (sym c.eight_named.ensures ∙ not-false _ c.if-not-eight_named.false-raw))
+loop-i-preserved c = (search rules, eight_more _ c.loop-i.i c.loop-i.invariant.1 (sym c.eight_named.ensures ∙ c.if-not-eight_named.false))
 
 pub returns : goal.returns
 returns c =

@@ -98,7 +98,3 @@ returns-in-Read c = rw c.in-Read.is
 pub returns-in-Write : goal.returns-in-Write
 unfolding action_code
 returns-in-Write c = rw c.in-Write.is
-
-pub returns-in_default : goal.returns-in_default
-unfolding action_code
-returns-in_default c = search rules

@@ -3,12 +3,6 @@ use native.Mathlib.Omega.{arith}
 use Rattle.words.proofs.Tables.{code_bound, length_entry}
 use Rattle.words.proofs.writing.word_length.Goals as goal
 
-pub overflow_cast-code : goal.overflow_cast-code
-overflow_cast-code c = let h = code_bound c.args.action in let e = c.action_code-code.ensures in omega arith
-
-pub offset_bounds-code : goal.offset_bounds-code
-offset_bounds-code c = let h = code_bound c.args.action in let e = c.action_code-code.ensures in omega arith
-
 pub bounds-code : goal.bounds-code
 bounds-code c = let h = code_bound c.args.action in let e = c.action_code-code.ensures in omega arith
 
