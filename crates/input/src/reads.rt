@@ -4,9 +4,9 @@ ghost use Rattle.judge.specs.Feed.{tables};
 ghost use Rattle.run.specs.Chunk.{carried_most};
 ghost use Rattle.input.specs.Reads.{buffer_size, OneFill, Stepped, input_refusal, Taken};
 
-use libc::STDIN_FILENO;
 use ranges::range::table_answer;
 use run::chunk::{Turn, take_chunk, take_last};
+use std::io::Read;
 
 // What one read came to: how many bytes, never 0; the end of input; or an error.
 #[derive(Clone, Copy)]
@@ -39,23 +39,20 @@ pub const BUFFER_SIZE: usize = 65536;
 const MOST: u64 = 9223372036854775808;
 
 // One read behind the first `have` bytes of the buffer, which stay.
-fn fill(buf: &mut [u8], have: usize) -> Got
+fn fill<R: Read>(stdin: &mut R, buf: &mut [u8], have: usize) -> Got
     requires { have < length buf.old }
     ensures { OneFill result have buf.old buf.new }
 {
-    let got = libc::read(STDIN_FILENO, &mut buf[have..]);
-    let n = io::count(got, &buf[have..]);
-    if n != 0 {
-        return Got::Bytes(n);
+    match stdin.read(&mut buf[have..]) {
+        Ok(0) => Got::End,
+        Ok(n) => Got::Bytes(n),
+        Err(_) => Got::Error,
     }
-    if got == 0 {
-        return Got::End;
-    }
-    Got::Error
 }
 
 // One read, and what the lines that it ends leave in the tables.
-fn one_read(
+fn one_read<R: Read>(
+    stdin: &mut R,
     names: &mut [u8],
     nums: &mut [u32],
     ticks: &mut [u64],
@@ -66,7 +63,7 @@ fn one_read(
     ensures { Stepped result have (tables names.old nums.old ticks.old) buf.old
         (tables names.new nums.new ticks.new) buf.new }
 {
-    let got = fill(buf, have);
+    let got = fill(stdin, buf, have);
     match got {
         Got::Bytes(n) => {
             let Turn::More(left) = take_chunk(names, nums, ticks, buf, have + n) else {
@@ -83,7 +80,13 @@ fn one_read(
 }
 
 // Reads until the input ends, a line is refused or a read fails.
-fn read_to_end(names: &mut [u8], nums: &mut [u32], ticks: &mut [u64], buf: &mut [u8]) -> Input
+fn read_to_end<R: Read>(
+    stdin: &mut R,
+    names: &mut [u8],
+    nums: &mut [u32],
+    ticks: &mut [u64],
+    buf: &mut [u8],
+) -> Input
     requires { input_refusal (tables names.old nums.old ticks.old) buf.old ≡ 0 }
     ensures { Taken result (tables names.old nums.old ticks.old) buf.old
         (tables names.new nums.new ticks.new) buf.new }
@@ -91,7 +94,7 @@ fn read_to_end(names: &mut [u8], nums: &mut [u32], ticks: &mut [u64], buf: &mut 
     let mut have: usize = 0;
     let mut total: u64 = 0;
     while total < MOST {
-        let step = one_read(names, nums, ticks, buf, have);
+        let step = one_read(stdin, names, nums, ticks, buf, have);
         match step {
             Step::More(n, left) => {
                 total += n as u64;
@@ -122,7 +125,13 @@ fn input_refusal(names: &[u8], nums: &[u32], ticks: &[u64], buf: &[u8]) -> u32
 }
 
 // All of standard input into the tables as they are, over a buffer of 64 KiB.
-pub fn read_all(names: &mut [u8], nums: &mut [u32], ticks: &mut [u64], buf: &mut [u8]) -> Input
+pub fn read_all<R: Read>(
+    stdin: &mut R,
+    names: &mut [u8],
+    nums: &mut [u32],
+    ticks: &mut [u64],
+    buf: &mut [u8],
+) -> Input
     ensures { Taken result (tables names.old nums.old ticks.old) buf.old
         (tables names.new nums.new ticks.new) buf.new }
 {
@@ -130,5 +139,5 @@ pub fn read_all(names: &mut [u8], nums: &mut [u32], ticks: &mut [u64], buf: &mut
     if n != 0 {
         return Input::Refused(n);
     }
-    read_to_end(names, nums, ticks, buf)
+    read_to_end(stdin, names, nums, ticks, buf)
 }

@@ -4,6 +4,7 @@ ghost use Rattle.input.specs.Whole.{lent, size_refusal, lent_refusal, Answered};
 
 use crate::reads::{BUFFER_SIZE, Input, read_all};
 use run::report::{Printed, TEXT_MOST, report};
+use std::io::Read;
 use tables::fresh::fresh;
 use tables::size::sized;
 
@@ -27,7 +28,8 @@ fn size_refusal(names: usize, nums: usize, ticks: usize, buf: usize, out: usize)
 }
 
 // The text where nothing is refused. It always fits and fresh tables are never refused, so both refusals here are never given.
-fn text_from_fresh(
+fn text_from_fresh<R: Read>(
+    stdin: &mut R,
     names: &mut [u8],
     nums: &mut [u32],
     ticks: &mut [u64],
@@ -39,7 +41,7 @@ fn text_from_fresh(
         (lent names.new nums.new ticks.new buf.new out.new) }
 {
     fresh(names, nums, ticks);
-    let input = read_all(names, nums, ticks, buf);
+    let input = read_all(stdin, names, nums, ticks, buf);
     match input {
         Input::Read(bytes) => {
             let Printed::Done(n) = report(names, nums, ticks, out) else {
@@ -53,7 +55,8 @@ fn text_from_fresh(
 }
 
 // The text of standard input at the front of the output.
-pub fn text_of_input(
+pub fn text_of_input<R: Read>(
+    stdin: &mut R,
     names: &mut [u8],
     nums: &mut [u32],
     ticks: &mut [u64],
@@ -67,5 +70,5 @@ pub fn text_of_input(
     if n != 0 {
         return Answer::Refused(n);
     }
-    text_from_fresh(names, nums, ticks, buf, out)
+    text_from_fresh(stdin, names, nums, ticks, buf, out)
 }

@@ -6,40 +6,44 @@ ghost use Rattle.input.specs.Whole.{IsText};
 
 use input::reads::BUFFER_SIZE;
 use input::whole::{Answer, text_of_input};
-use libc::{STDERR_FILENO, STDOUT_FILENO};
 use run::report::TEXT_MOST;
+use std::io::{Stderr, Stdout};
 use tables::entry::{NAMES_SIZE, NUMS_SIZE, TICKS_SIZE};
 
-fn complain(s: &[u8]) {
-    io::write_all(STDERR_FILENO, s);
+fn complain(stderr: Stderr, s: &[u8]) {
+    let _ = stderr.write_all(s);
 }
 
 // Writes the first n bytes, which are the text of the trace that was read, and nothing else is ever written to standard output.
-fn print(s: &[u8], n: usize)
+fn print(stdout: Stdout, stderr: Stderr, s: &[u8], n: usize)
     requires { IsText n s.now }
 {
-    if !io::write_all(STDOUT_FILENO, &s[0..n]) {
-        complain(b"pickaxle: cannot write standard output\n");
+    if stdout.write_all(&s[0..n]).is_err() {
+        complain(stderr, b"pickaxle: cannot write standard output\n");
     }
 }
 
 // What is lent has the right sizes, so that nobody can call this.
-fn wrong_sizes()
+fn wrong_sizes(stderr: Stderr)
     requires { ⊥ }
 {
-    complain(b"pickaxle: memory of the wrong size\n");
+    complain(stderr, b"pickaxle: memory of the wrong size\n");
 }
 
-fn main() {
+fn main(rt: HostRuntime) {
     let mut names = [0u8; NAMES_SIZE];
     let mut nums = [0u32; NUMS_SIZE];
     let mut ticks = [0u64; TICKS_SIZE];
     let mut buf = [0u8; BUFFER_SIZE];
     let mut out = [0u8; TEXT_MOST];
-    let answer = text_of_input(&mut names, &mut nums, &mut ticks, &mut buf, &mut out);
+    let mut stdin = rt.stdin();
+    let stderr = rt.stderr();
+    let answer = text_of_input(
+        &mut stdin, &mut names, &mut nums, &mut ticks, &mut buf, &mut out,
+    );
     match answer {
-        Answer::Text(n, _) => print(&out, n),
-        Answer::Unread => complain(b"pickaxle: cannot read standard input\n"),
-        Answer::Refused(_) => wrong_sizes(),
+        Answer::Text(n, _) => print(rt.stdout(), stderr, &out, n),
+        Answer::Unread => complain(stderr, b"pickaxle: cannot read standard input\n"),
+        Answer::Refused(_) => wrong_sizes(stderr),
     }
 }
