@@ -1,5 +1,4 @@
 -- `adding::add::add` meets its contract: each text that may not be added is 21, and else both are added by the places of their rows.
-use borrow.Author.Rules.{rules}
 use Rattle.adding.proofs.Books.{not_read, booked, first_unsound, second_unsound}
 use Rattle.adding.proofs.add.add.Goals as goal
 

@@ -1,21 +1,10 @@
 -- `adding::add::add_rows` meets its contract: both sections put have room, and what they come to is the sum or its refusal.
-use mathlib.Core.Path.{◌≡◌, sym, ap, ◌∙◌}
-use Prim.Native.Nat.{◌-◌, ◌≤◌}
+use mathlib.Core.Path.{sym, ◌∙◌}
 use native.Mathlib.Omega.{arith}
-use lib.ListN.{length, take}
-use borrow.Author.Rules.{rules}
 use Rattle.text.proofs.Writes.{put_front}
 use Rattle.bill.specs.declared.section.Section.TheVariants.{Cores, Processes}
-use Rattle.bill.specs.Text.{rows_text}
-use Rattle.adding.specs.AddCode.{sums_of}
 use Rattle.adding.proofs.Adds.{spans_fit, sums_room, few, sum_refused, sum_made}
 use Rattle.adding.proofs.add.add_rows.Goals as goal
-
-pub put_cores-cores-requires : goal.put_cores-cores-requires
-put_cores-cores-requires c = (c.requires, search rules)
-
-pub put_processes-processes-requires : goal.put_processes-processes-requires
-put_processes-processes-requires c = (c.requires, search rules)
 
 pub overflow_add-span : goal.overflow_add-span
 overflow_add-span c = omega (arith, spans_fit c.requires)
@@ -31,11 +20,6 @@ slice_bounds-put_bill-end c = omega (arith, (put_front _ _ c.put_cores-cores.ens
 
 pub slice_bounds-put_bill-end-2 : goal.slice_bounds-put_bill-end-2
 slice_bounds-put_bill-end-2 c = omega (arith, (put_front _ _ c.put_processes-processes.ensures.1 (sums_room c.requires Processes)).1)
-
-pub put_bill-requires : goal.put_bill-requires
-put_bill-requires c =
-    let b = c.requires in
-    (omega (arith, ap length (put_front _ _ c.put_cores-cores.ensures.1 (sums_room c.requires Cores)).0, sums_room b Cores), omega (arith, ap length (put_front _ _ c.put_processes-processes.ensures.1 (sums_room c.requires Processes)).0, sums_room b Processes))
 
 pub returns : goal.returns
 returns c =

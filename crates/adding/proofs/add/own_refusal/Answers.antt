@@ -1,5 +1,4 @@
 -- `adding::add::own_refusal` meets its contract: the tests in their order.
-use borrow.Author.Rules.{rules}
 use borrow.Author.Tests.{lt-ltb, le-ltb}
 use Rattle.adding.specs.AddCode.{own_refusal}
 use Rattle.adding.proofs.add.own_refusal.Goals as goal

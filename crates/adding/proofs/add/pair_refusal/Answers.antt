@@ -6,14 +6,8 @@ use Rattle.adding.proofs.add.pair_refusal.Goals as goal
 pub returns-then-x-y : goal.returns-then-x-y
 returns-then-x-y c = scales_differ c.requires c.if-x-y.true
 
-pub cores_met-requires : goal.cores_met-requires
-cores_met-requires c = c.requires
-
 pub returns-then-cores_met : goal.returns-then-cores_met
 returns-then-cores_met c = clash_here c.requires c.if-x-y.false c.cores_met.ensures c.if-cores_met.true
-
-pub cores_met-requires-2 : goal.cores_met-requires-2
-cores_met-requires-2 c = let p = c.requires in record { first = p.second; second = p.first }
 
 pub returns-then-cores_met-2 : goal.returns-then-cores_met-2
 returns-then-cores_met-2 c = clash_there c.requires c.if-x-y.false c.cores_met-2.ensures c.if-cores_met-2.true (sym c.cores_met.ensures ∙ c.if-cores_met.false)

@@ -1,9 +1,5 @@
-use mathlib.Core.Path.{◌≡◌, sym, ◌∙◌}
-use mathlib.Core.List.{map}
-use Prim.Native.Nat.{◌+◌, ◌-◌, ◌≤◌}
-use lib.ListN.{length, drop}
+use mathlib.Core.Path.{sym, ◌∙◌}
 use borrow.Author.Rules.{rules}
-use Rattle.sorting.specs.Sets.{meets}
 use Rattle.paper.specs.Lines.{name_at}
 use Rattle.adding.proofs.Compared.{compared}
 use Rattle.adding.proofs.Steps.{step}
@@ -24,15 +20,6 @@ returns-then-is_one c =
     (c.loop-i.invariant.2
     ∙ meets_one (name_at a.s.now) (name_at a.t.now) a.left.now a.right.now c.loop-i.i c.loop-i.j c.requires.0 c.requires.1 (search rules) (search rules)
     o.result (compared o.ensures c.name_at.ensures c.name_at-in-loop-i.ensures) x.result x.ensures c.if-is_one.true)
-
-pub overflow_add-i : goal.overflow_add-i
-overflow_add-i c = let h = step c.compare-o.result in search rules
-
-pub overflow_add-j : goal.overflow_add-j
-overflow_add-j c = let h = step c.compare-o.result in search rules
-
-pub loop-i-smaller : goal.loop-i-smaller
-loop-i-smaller c = let h = step c.compare-o.result in search rules
 
 pub loop-i-preserved : goal.loop-i-preserved
 loop-i-preserved c =

@@ -1,14 +1,10 @@
 -- `adding::apart::meet` meets its contract. The invariant: a name stands in both sections if one does in what is left of them.
-use mathlib.Core.Path.{◌≡◌, sym, ◌∙◌}
+use mathlib.Core.Path.{◌≡◌}
 use mathlib.Core.List.{map}
 use Prim.Native.Nat.{◌+◌, ◌-◌, ◌≤◌}
 use lib.ListN.{length, drop}
-use borrow.Author.Rules.{rules}
 use Rattle.sorting.specs.Sets.{meets}
 use Rattle.paper.specs.Lines.{name_at}
-use Rattle.adding.proofs.Compared.{compared}
-use Rattle.adding.proofs.Steps.{step}
-use Rattle.adding.proofs.Meets.{first_done, second_done, meets_one, meets_on}
 use Rattle.adding.proofs.apart.meet.Given as goal
 
 abbrev pub invariant-loop-i : goal.invariant-loop-i

@@ -1,15 +1,11 @@
 -- `adding::form::read_form` meets its contract.
-use mathlib.Core.Path.{◌≡◌, sym, ap, ◌∙◌}
-use native.Mathlib.Omega.{arith}
+use mathlib.Core.Path.{sym, ap, ◌∙◌}
 use Rattle.paper.specs.Heads.{head_of}
 use Rattle.adding.proofs.FormTests.{unformed, too_few, no_head, begun}
 use Rattle.adding.proofs.form.read_form.Goals as goal
 
 pub returns-then-n-lt3 : goal.returns-then-n-lt3
 returns-then-n-lt3 c = unformed _ _ _ c.no_form.ensures (too_few _ _ _ c.line_starts-n.ensures c.if-n-lt3.true)
-
-pub overflow_cast-starts : goal.overflow_cast-starts
-overflow_cast-starts c = omega (arith, c.type_inv.starts 0)
 
 pub returns-in_default : goal.returns-in_default
 returns-in_default c =

@@ -1,6 +1,5 @@
 -- `adding::merge::next_of` meets its contract: a section with no row left comes no more, and of two names the lesser comes first.
 use native.Mathlib.Omega.{arith}
-use borrow.Author.Rules.{rules}
 use Rattle.adding.proofs.NextRows.{left_ended, right_ended, both_left}
 use Rattle.adding.proofs.merge.next_of.Goals as goal
 

@@ -1,9 +1,5 @@
-use Prim.Native.Nat.{◌+◌, ◌-◌}
 use native.Mathlib.Omega.{arith}
-use borrow.Author.Rules.{rules}
-use lib.ListN.{length}
-use Rattle.adding.proofs.Steps.{step}
-use Rattle.adding.proofs.Walks.{Walk, walk_start, walk_next, walk_step, left_fits, all_counted, all_put}
+use Rattle.adding.proofs.Walks.{walk_start, walk_next, walk_step, all_counted, all_put}
 use Rattle.adding.proofs.merge.put_sums.Goals as goal
 
 pub loop-i-init : goal.loop-i-init
@@ -12,14 +8,8 @@ loop-i-init c = walk_start _ _ _ _ _ _ _ _ c.requires
 pub put_next-at-requires : goal.put_next-at-requires
 put_next-at-requires c = walk_next _ _ _ _ _ _ _ c.requires c.loop-i.invariant c.loop-i-test.true c.next_of-o.ensures
 
-pub loop-i-smaller : goal.loop-i-smaller
-loop-i-smaller c = omega (arith, step c.next_of-o.result)
-
 pub loop-i-preserved : goal.loop-i-preserved
 loop-i-preserved c = walk_step _ _ _ _ _ _ _ c.requires c.loop-i.invariant c.loop-i-test.true c.next_of-o.ensures c.left_step-i.ensures c.right_step-j.ensures c.put_next-at.ensures
-
-pub shape_of-out : goal.shape_of-out
-shape_of-out c = c.loop-i.invariant.same
 
 pub returns : goal.returns
 returns c =

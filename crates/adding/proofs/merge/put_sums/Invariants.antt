@@ -1,10 +1,7 @@
 -- `adding::merge::put_sums` meets its contract. The invariant: what is left of the sum, put where the output goes on, completes it.
 use Prim.Native.Nat.{◌+◌, ◌-◌}
-use native.Mathlib.Omega.{arith}
-use borrow.Author.Rules.{rules}
 use lib.ListN.{length}
-use Rattle.adding.proofs.Steps.{step}
-use Rattle.adding.proofs.Walks.{Walk, walk_start, walk_next, walk_step, left_fits, all_counted, all_put}
+use Rattle.adding.proofs.Walks.{Walk}
 use Rattle.adding.proofs.merge.put_sums.Given as goal
 
 abbrev pub invariant-loop-i : goal.invariant-loop-i

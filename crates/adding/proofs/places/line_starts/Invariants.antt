@@ -1,10 +1,7 @@
 -- `adding::places::line_starts` meets its contract. The invariant: the lines stored and those from `at` on are all lines.
 use Prim.Native.Nat.{◌-◌}
-use native.Mathlib.Omega.{arith}
-use borrow.Author.Rules.{rules}
 use lib.ListN.{length}
-use Rattle.text.proofs.Finds.{find_ge}
-use Rattle.adding.proofs.LinePlaces.{Placing, placing_start, placing_open, placing_full, placing_turn, placing_end}
+use Rattle.adding.proofs.LinePlaces.{Placing}
 use Rattle.adding.proofs.places.line_starts.Given as goal
 
 abbrev pub invariant-loop-at : goal.invariant-loop-at

@@ -1,5 +1,4 @@
 -- `adding::put::put_figures` meets its contract: the figures are put one after another, and all have room.
-use borrow.Author.Rules.{rules}
 use Rattle.adding.proofs.Puts.{core_figures_lem, process_figures_lem}
 use Rattle.adding.proofs.put.put_figures.Goals as goal
 

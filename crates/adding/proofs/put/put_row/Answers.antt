@@ -1,6 +1,4 @@
 -- `adding::put::put_row` meets its contract: the name, the figures and the end are put one after another, and each has room since the line has.
-use borrow.Author.Rules.{rules}
-use Rattle.bill.specs.Rows.{Row}
 use Rattle.adding.specs.MergeCode.{row_with}
 use Rattle.adding.proofs.Puts.{figures_room, row_put}
 use Rattle.adding.proofs.put.put_row.Goals as goal

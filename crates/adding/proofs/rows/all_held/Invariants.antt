@@ -1,16 +1,12 @@
 -- `adding::rows::all_held` meets its contract. The invariant: what the rows from `i` on come to, with `total`, is what all come to.
-use mathlib.Core.Path.{◌≡◌, sym, ap, ◌∙◌}
-use mathlib.Core.List.{◌∷◌, map}
-use Prim.Native.Nat.{◌+◌, ◌*◌, ◌-◌, ◌≤◌}
-use native.Mathlib.Omega.{arith}
-use borrow.Author.Rules.{rules}
-use lib.ListN.{length, get_or, drop}
+use mathlib.Core.Path.{◌≡◌}
+use mathlib.Core.List.{map}
+use Prim.Native.Nat.{◌*◌, ◌-◌, ◌≤◌}
+use lib.ListN.{length, drop}
 use Rattle.text.specs.Sizes.{max_time}
 use Rattle.paper.specs.Lines.{line_from}
-use Rattle.paper.specs.Rows.{core_held}
 use Rattle.adding.specs.RowCode.{all_held}
-use Rattle.paper.proofs.RowTests.{held_small}
-use Rattle.adding.proofs.RowWalks.{held_with, held_start, held_bad, held_turn, held_end, rows_next}
+use Rattle.adding.proofs.RowWalks.{held_with}
 use Rattle.adding.proofs.rows.all_held.Given as goal
 
 abbrev pub invariant-loop-i : goal.invariant-loop-i

@@ -1,15 +1,10 @@
 -- `adding::rows::charges_make` meets its contract. The invariant: the rows are right exactly if those from `i` on make what is left.
-use mathlib.Core.Path.{◌≡◌, refl, sym, ap, ◌∙◌}
-use mathlib.Core.List.{◌∷◌, map}
-use Prim.Native.Nat.{◌+◌, ◌-◌, ◌≤◌}
-use native.Mathlib.Omega.{arith}
-use borrow.Author.Rules.{rules}
-use lib.ListN.{length, get_or, drop}
+use mathlib.Core.Path.{◌≡◌}
+use mathlib.Core.List.{map}
+use Prim.Native.Nat.{◌-◌, ◌≤◌}
+use lib.ListN.{length, drop}
 use Rattle.paper.specs.Lines.{line_from}
-use Rattle.paper.specs.Rows.{process_charge}
 use Rattle.adding.specs.RowCode.{charges_make}
-use Rattle.paper.proofs.RowTests.{charge_small}
-use Rattle.adding.proofs.RowWalks.{charges_end, charge_bad, charge_turn, rows_next}
 use Rattle.adding.proofs.rows.charges_make.Given as goal
 
 abbrev pub invariant-loop-i : goal.invariant-loop-i

@@ -1,5 +1,4 @@
 -- `adding::rows::sums_right` meets its contract.
-use borrow.Author.Rules.{rules}
 use Rattle.adding.proofs.SumTests.{sums_wrong, sums_made}
 use Rattle.adding.proofs.rows.sums_right.Goals as goal
 

@@ -1,15 +1,10 @@
 -- `adding::sheet::read_places` meets its contract: at each exit the text is none that may be added, or all is found of one that may.
 use borrow.Author.Rules.{rules}
-use Rattle.adding.proofs.SheetExits.{too_long, unread, no_form, sheet_sized, rows_wrong, sheet_read}
+use Rattle.adding.proofs.SheetExits.{too_long, unread, sheet_sized, rows_wrong, sheet_read}
 use Rattle.adding.proofs.sheet.read_places.Goals as goal
 
 pub returns-then-text-gt-SHEET_MOST : goal.returns-then-text-gt-SHEET_MOST
 returns-then-text-gt-SHEET_MOST c = unread _ _ _ _ (search rules) (search rules) c.no_form.ensures (too_long _ c.if-text-gt-SHEET_MOST.true)
-
-pub returns-then-not-form : goal.returns-then-not-form
-returns-then-not-form c =
-    let r = c.read_form-form in
-    unread _ _ _ _ (search rules) (search rules) c.no_form-then-not-form.ensures (no_form _ _ r.result r.ensures c.if-not-form.true)
 
 pub rows_right-requires : goal.rows_right-requires
 rows_right-requires c =
@@ -20,9 +15,9 @@ pub returns-then-not-rows_right : goal.returns-then-not-rows_right
 returns-then-not-rows_right c =
     let r = c.read_form-form in
     let s = c.rows_right.ensures in
-    unread _ _ _ _ s.cores_sized s.processes_sized c.no_form-then-not-rows_right.ensures (rows_wrong _ _ r.result r.ensures c.if-not-form.false _ _ c.rows_right.result s c.if-not-rows_right.true-raw)
+    unread _ _ _ _ s.cores_sized s.processes_sized c.no_form-then-not-rows_right.ensures (rows_wrong _ _ r.result r.ensures c.if-not-form.false _ _ c.rows_right.result s (rw c.if-not-rows_right.true))
 
 pub returns : goal.returns
 returns c =
     let r = c.read_form-form in
-    sheet_read _ _ r.result r.ensures c.if-not-form.false _ _ c.rows_right.result c.rows_right.ensures c.if-not-rows_right.false-raw
+    sheet_read _ _ r.result r.ensures c.if-not-form.false _ _ c.rows_right.result c.rows_right.ensures (rw c.if-not-rows_right.false)

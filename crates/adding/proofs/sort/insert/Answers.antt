@@ -1,17 +1,11 @@
 -- `adding::sort::insert` meets its contract: where the name at the row's place is its own nothing is put, and otherwise the row goes there.
-use mathlib.Core.Path.{◌≡◌, ◌∙◌}
-use mathlib.Core.Bool.{true}
-use Prim.Native.Nat.{◌<◌}
+use mathlib.Core.Path.{◌∙◌}
 use native.Mathlib.Omega.{arith}
 use borrow.Author.Rules.{rules}
-use borrow.Author.Tests.{not-true, not-false}
 use Rattle.adding.proofs.Compared.{less_told}
-use Rattle.adding.proofs.Inserts.{front, after, within, taken, inserted}
+use Rattle.adding.proofs.Inserts.{within, taken, inserted}
 use Rattle.adding.proofs.sort.insert.Goals as goal
 use Rattle.adding.proofs.sort.insert.Goals.{then-k-n+else-not-is_less, else-k-n}
-
-pub rank-k-requires : goal.rank-k-requires
-rank-k-requires c = rw front c.requires.1
 
 pub returns-then-not-is_less : goal.returns-then-not-is_less
 returns-then-not-is_less c =

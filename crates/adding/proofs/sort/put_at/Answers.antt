@@ -1,9 +1,7 @@
 use mathlib.Core.Path.{◌≡◌}
-use Prim.Native.Nat.{◌≤◌}
 use native.Mathlib.Omega.{arith}
-use lib.ListN.{length}
 use borrow.Author.Rules.{rules}
-use Rattle.adding.proofs.Moves.{Moved, moved_none, moved_one, moved_put}
+use Rattle.adding.proofs.Moves.{moved_none, moved_one, moved_put}
 use Rattle.adding.proofs.sort.put_at.Goals as goal
 
 pub loop-i-init : goal.loop-i-init

@@ -1,10 +1,8 @@
 -- `adding::sort::put_at` meets its contract. The invariant: the entries from i on have moved up.
 use mathlib.Core.Path.{◌≡◌}
 use Prim.Native.Nat.{◌≤◌}
-use native.Mathlib.Omega.{arith}
 use lib.ListN.{length}
-use borrow.Author.Rules.{rules}
-use Rattle.adding.proofs.Moves.{Moved, moved_none, moved_one, moved_put}
+use Rattle.adding.proofs.Moves.{Moved}
 use Rattle.adding.proofs.sort.put_at.Given as goal
 
 abbrev pub invariant-loop-i : goal.invariant-loop-i

@@ -1,14 +1,9 @@
 -- `adding::sort::rank` meets its contract. The invariant: the place lies from low to high.
-use mathlib.Core.Path.{◌≡◌, ◌∙◌}
 use mathlib.Core.List.{map}
-use Prim.Native.Nat.{ℕ, ◌+◌, ◌-◌, ◌/◌, ◌≤◌}
-use lib.ListN.{length, get_or}
-use borrow.Author.Rules.{rules}
-use Rattle.sorting.specs.Order.{order, is_less}
+use Prim.Native.Nat.{◌-◌, ◌≤◌}
+use lib.ListN.{length}
 use Rattle.sorting.specs.Sets.{lower}
-use Rattle.sorting.proofs.Places.{lower_most, lower_below, lower_above}
 use Rattle.paper.specs.Lines.{name_at}
-use Rattle.adding.proofs.Compared.{less_told}
 use Rattle.adding.proofs.sort.rank.Given as goal
 
 abbrev pub invariant-loop-low : goal.invariant-loop-low

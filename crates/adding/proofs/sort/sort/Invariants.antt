@@ -1,11 +1,8 @@
 -- `adding::sort::sort` meets its contract. The invariant: the rows from i on are in order at the front of the entries.
 use mathlib.Core.Path.{◌≡◌}
 use Prim.Native.Nat.{◌≤◌}
-use native.Mathlib.Omega.{arith}
 use lib.ListN.{length, drop}
-use borrow.Author.Rules.{rules}
 use Rattle.adding.specs.SortCode.{SortedInto}
-use Rattle.adding.proofs.Sorts.{sort_none, sort_order, sort_turn, sort_twice}
 use Rattle.adding.proofs.sort.sort.Given as goal
 
 abbrev pub invariant-loop-i : goal.invariant-loop-i

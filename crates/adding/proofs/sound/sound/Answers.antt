@@ -1,5 +1,4 @@
 -- `adding::sound::sound` meets its contract: it answers what the reading says.
-use borrow.Author.Rules.{rules}
 use Rattle.adding.proofs.Sounds.{sound_told}
 use Rattle.adding.proofs.sound.sound.Goals as goal
 

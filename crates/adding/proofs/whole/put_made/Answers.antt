@@ -1,10 +1,6 @@
 -- `adding::whole::put_made` meets its contract: the verdict's line and the two sections are put one after another, and each has room since the whole has.
-use mathlib.Core.Path.{◌≡◌, refl, ap, ◌∙◌}
-use mathlib.Core.List.{List}
-use Prim.Native.Nat.{ℕ}
-use Rattle.text.specs.Put.{Put, put}
-use Rattle.bill.specs.Verdict.{accepted_text}
-use Rattle.bill.specs.declared.verdict.Verdict.{Verdict}
+use mathlib.Core.Path.{refl, ap, ◌∙◌}
+use Rattle.text.specs.Put.{put}
 use Rattle.bill.proofs.VerdictLine.{verdict_accepted}
 use Rattle.adding.proofs.Made.{first_room, second_room, put_made}
 use Rattle.adding.proofs.whole.put_made.Goals as goal

@@ -1,6 +1,4 @@
 -- `adding::whole::put_section` meets its contract: the title, the count, an end and the lines are put one after another.
-use borrow.Author.Rules.{rules}
-use Rattle.text.proofs.Writes.{put_length}
 use Rattle.adding.proofs.Made.{put_counted}
 use Rattle.adding.proofs.whole.put_section.Goals as goal
 
