@@ -1,7 +1,6 @@
 -- `try_sheets::number_to` meets its contract: the end of the number lies behind its beginning, and what was read is small.
 use mathlib.Core.Path.{sym, ◌∙◌}
 use native.Mathlib.Omega.{arith}
-use borrow.Author.Rules.{rules}
 use Rattle.text.proofs.Digits.{read_written}
 use Rattle.text.proofs.Finds.{find_ge}
 use Rattle.try_sheets.proofs.number_to.Goals as goal

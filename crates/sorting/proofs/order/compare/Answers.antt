@@ -1,8 +1,5 @@
-use mathlib.Core.Path.{◌≡◌, sym, ◌∙◌}
-use Prim.Native.Nat.{◌≤◌, ◌-◌}
+use mathlib.Core.Path.{sym, ◌∙◌}
 use borrow.Author.Rules.{rules}
-use lib.ListN.{length, drop}
-use Rattle.sorting.specs.Order.{order}
 use Rattle.sorting.proofs.Compares.{compare_turn, compare_less, compare_more, longer, shorter, both_end}
 use Rattle.sorting.proofs.order.compare.Goals as goal
 

@@ -1,11 +1,9 @@
 -- `sorting::order::compare` meets its contract. The invariant: what is left of the two is in the order of the whole.
 -- Assumes nothing.
-use mathlib.Core.Path.{◌≡◌, sym, ◌∙◌}
+use mathlib.Core.Path.{◌≡◌}
 use Prim.Native.Nat.{◌≤◌, ◌-◌}
-use borrow.Author.Rules.{rules}
 use lib.ListN.{length, drop}
 use Rattle.sorting.specs.Order.{order}
-use Rattle.sorting.proofs.Compares.{compare_turn, compare_less, compare_more, longer, shorter, both_end}
 use Rattle.sorting.proofs.order.compare.Given as goal
 
 abbrev pub invariant-loop-i : goal.invariant-loop-i

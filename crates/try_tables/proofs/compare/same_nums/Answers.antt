@@ -1,15 +1,8 @@
-use mathlib.Core.Path.{◌≡◌, refl, sym, ◌∙◌}
-use Prim.Native.Nat.{◌+◌, ◌-◌, ◌≤◌}
+use mathlib.Core.Path.{sym, ◌∙◌}
 use native.Mathlib.Omega.{arith}
 use borrow.Author.Rules.{rules}
-use lib.ListN.{length, drop}
-use Rattle.text.specs.Bytes.{same_bytes}
 use Rattle.text.proofs.Words.{same_turn, same_stop, same_end}
-use Rattle.tables.specs.Entry.{nums_size}
 use Rattle.try_tables.proofs.compare.same_nums.Goals as goal
-
-pub loop-i-init : goal.loop-i-init
-loop-i-init c = (search rules, search rules, search rules, refl)
 
 pub returns-then-s-i : goal.returns-then-s-i
 returns-then-s-i c = sym (c.loop-i.invariant.3 ∙ same_stop _ _ c.loop-i.i (omega arith) (omega arith) c.if-s-i.true)

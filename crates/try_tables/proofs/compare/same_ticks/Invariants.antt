@@ -1,12 +1,9 @@
 -- `try_tables::compare::same_ticks` meets its contract, as `text::bytes::same` does. The invariant: the arrays are the same where what is left of them
 -- from `i` is.
-use mathlib.Core.Path.{◌≡◌, refl, sym, ◌∙◌}
+use mathlib.Core.Path.{◌≡◌}
 use Prim.Native.Nat.{◌+◌, ◌-◌, ◌≤◌}
-use native.Mathlib.Omega.{arith}
-use borrow.Author.Rules.{rules}
 use lib.ListN.{length, drop}
 use Rattle.text.specs.Bytes.{same_bytes}
-use Rattle.text.proofs.Words.{same_turn, same_stop, same_end}
 use Rattle.tables.specs.Entry.{ticks_size}
 use Rattle.try_tables.proofs.compare.same_ticks.Given as goal
 

@@ -1,7 +1,5 @@
 -- `try_tables::fill::fill_ticks` is safe and ends: the n entries from the first on are within the buffer.
 use Prim.Native.Nat.{◌+◌, ◌-◌, ◌≤◌}
-use borrow.Author.Rules.{rules}
-use Rattle.text.proofs.Writes.{has_room}
 use Rattle.tables.specs.Entry.{ticks_size}
 use Rattle.try_tables.proofs.fill.fill_ticks.Given as goal
 

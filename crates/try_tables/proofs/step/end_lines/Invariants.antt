@@ -1,7 +1,6 @@
 -- `try_tables::step::end_lines` is safe and ends: a store keeps the length.
 use mathlib.Core.Path.{◌≡◌}
 use Prim.Native.Nat.{◌-◌}
-use borrow.Author.Rules.{rules}
 use lib.ListN.{length}
 use Rattle.try_tables.proofs.step.end_lines.Given as goal
 

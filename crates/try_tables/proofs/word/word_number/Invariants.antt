@@ -1,6 +1,5 @@
 -- `try_tables::word::word_number` is safe and ends: it reads each byte once.
 use Prim.Native.Nat.{◌-◌, ◌≤◌}
-use borrow.Author.Rules.{rules}
 use lib.ListN.{length}
 use Rattle.try_tables.proofs.word.word_number.Given as goal
 
