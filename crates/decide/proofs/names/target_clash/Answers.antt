@@ -6,10 +6,10 @@ use Rattle.decide.proofs.names.target_clash.Goals as goal
 
 pub returns-then-not-tracked : goal.returns-then-not-tracked
 unfolding target_clash_in
-returns-then-not-tracked c = let t = c.tracked in rw (← t.ensures, not-true t.result c.if-not-tracked.true-raw)
+returns-then-not-tracked c = let t = c.tracked in rw (← t.ensures, c.if-not-tracked.true)
 
 pub returns : goal.returns
 unfolding target_clash_in
 returns c =
     let t = c.tracked in
-    rw (← t.ensures, not-false t.result c.if-not-tracked.false-raw, ← c.kind_in.ensures) c.kind_clash.ensures
+    rw (← t.ensures, c.if-not-tracked.false, ← c.kind_in.ensures) c.kind_clash.ensures

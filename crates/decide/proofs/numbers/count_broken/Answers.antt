@@ -11,7 +11,7 @@ returns-then-kind-ne-SEMAPHORE c = rw (ne_eqb _ semaphore c.if-kind-ne-SEMAPHORE
 
 pub returns-then-not-count_fits : goal.returns-then-not-count_fits
 unfolding count_broken_in
-returns-then-not-count_fits c = rw (eq-eqb _ semaphore c.if-kind-ne-SEMAPHORE.false, ← c.count_fits.ensures, not-true c.count_fits.result c.if-not-count_fits.true-raw)
+returns-then-not-count_fits c = rw (eq-eqb _ semaphore c.if-kind-ne-SEMAPHORE.false, ← c.count_fits.ensures, c.if-not-count_fits.true)
 
 pub returns-then-not-numbered_in : goal.returns-then-not-numbered_in
 unfolding count_broken_in
@@ -19,9 +19,9 @@ returns-then-not-numbered_in c =
     rw (
       eq-eqb _ semaphore c.if-kind-ne-SEMAPHORE.false,
       ← c.count_fits.ensures,
-      not-false c.count_fits.result c.if-not-count_fits.false-raw,
+      c.if-not-count_fits.false,
       ← c.numbered_in.ensures,
-      not-true c.numbered_in.result c.if-not-numbered_in.true-raw,
+      c.if-not-numbered_in.true,
     )
 
 pub returns : goal.returns
@@ -30,9 +30,9 @@ returns c =
     rw (
       eq-eqb _ semaphore c.if-kind-ne-SEMAPHORE.false,
       ← c.count_fits.ensures,
-      not-false c.count_fits.result c.if-not-count_fits.false-raw,
+      c.if-not-count_fits.false,
       ← c.numbered_in.ensures,
-      not-false c.numbered_in.result c.if-not-numbered_in.false-raw,
+      c.if-not-numbered_in.false,
       c.count_follows.ensures,
       c.number_in.ensures,
     )

@@ -1,4 +1,5 @@
 -- `decide::numbers::is_next` meets its contract: of the first activation what the rows say of the number, and else the last number plus 1.
+use Rattle.std.proofs.Common.{sym, ◌∙◌}
 use mathlib.Core.Path.{◌≡◌}
 use mathlib.Core.Bool.{true, false}
 use lib.Dec.{eqb}
@@ -11,8 +12,8 @@ use Rattle.decide.proofs.numbers.is_next.Goals as goal
 
 pub returns-then-not-numbered_in : goal.returns-then-not-numbered_in
 unfolding is_next_in
-returns-then-not-numbered_in c = rw ((let fact : let a = c.args in eqb (numbered_in a.nums.now a.row) 0 ≡ true = not-false _ (failed c.numbered_in.ensures c.if-not-numbered_in.true-raw) in fact)) c.above_all.ensures
+returns-then-not-numbered_in c = rw (not-false _ (sym c.numbered_in.ensures ∙ c.if-not-numbered_in.true)) c.above_all.ensures
 
 pub returns : goal.returns
 unfolding is_next_in
-returns c = rw ((let fact : let a = c.args in eqb (numbered_in a.nums.now a.row) 0 ≡ false = not-true _ (passed c.numbered_in.ensures c.if-not-numbered_in.false-raw) in fact), ← c.number_in.ensures)
+returns c = rw (not-true _ (sym c.numbered_in.ensures ∙ c.if-not-numbered_in.false), ← c.number_in.ensures)

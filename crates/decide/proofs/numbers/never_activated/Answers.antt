@@ -17,12 +17,12 @@ returns-then-state_in-ne0 c = stop _ (ne_eqb _ 0 (λ q. c.if-state_in-ne0.true (
 
 pub returns-then-not-with_instances : goal.returns-then-not-with_instances
 unfolding never_activated_in
-returns-then-not-with_instances c = pass ((let fact : let a = c.args in eqb (state_in a.nums.now a.s a.kind) 0 ≡ true = eq-eqb _ 0 (sym c.state_in.ensures ∙ c.if-state_in-ne0.false) in fact)) (stop _ (failed c.with_instances.ensures c.if-not-with_instances.true-raw))
+returns-then-not-with_instances c = pass (eq-eqb _ 0 (sym c.state_in.ensures ∙ c.if-state_in-ne0.false)) (stop _ (sym c.with_instances.ensures ∙ c.if-not-with_instances.true))
 
 pub returns-then-numbers_instance : goal.returns-then-numbers_instance
 unfolding never_activated_in
-returns-then-numbers_instance c = pass ((let fact : let a = c.args in eqb (state_in a.nums.now a.s a.kind) 0 ≡ true = eq-eqb _ 0 (sym c.state_in.ensures ∙ c.if-state_in-ne0.false) in fact)) (pass ((let fact : has_instances c.args.kind ≡ true = passed c.with_instances.ensures c.if-not-with_instances.false-raw in fact)) (stop _ (ap not (sym c.numbers_instance.ensures ∙ c.if-numbers_instance.true))))
+returns-then-numbers_instance c = pass (eq-eqb _ 0 (sym c.state_in.ensures ∙ c.if-state_in-ne0.false)) (pass (sym c.with_instances.ensures ∙ c.if-not-with_instances.false) (stop _ (ap not (sym c.numbers_instance.ensures ∙ c.if-numbers_instance.true))))
 
 pub returns : goal.returns
 unfolding never_activated_in
-returns c = pass ((let fact : let a = c.args in eqb (state_in a.nums.now a.s a.kind) 0 ≡ true = eq-eqb _ 0 (sym c.state_in.ensures ∙ c.if-state_in-ne0.false) in fact)) (pass ((let fact : has_instances c.args.kind ≡ true = passed c.with_instances.ensures c.if-not-with_instances.false-raw in fact)) (pass ((let fact : let a = c.args in not (activates a.kind a.word) ≡ true = ap not (sym c.numbers_instance.ensures ∙ c.if-numbers_instance.false) in fact)) c.reaches_first.ensures))
+returns c = pass (eq-eqb _ 0 (sym c.state_in.ensures ∙ c.if-state_in-ne0.false)) (pass (sym c.with_instances.ensures ∙ c.if-not-with_instances.false) (pass (ap not (sym c.numbers_instance.ensures ∙ c.if-numbers_instance.false)) c.reaches_first.ensures))

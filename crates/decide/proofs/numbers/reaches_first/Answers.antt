@@ -1,4 +1,5 @@
 -- `decide::numbers::reaches_first` meets its contract: without a number none is reached, and else the first one is compared.
+use Rattle.std.proofs.Common.{sym, ◌∙◌}
 use borrow.Author.Rules.{rules}
 use Rattle.tables.proofs.Chains.{pass, stop, passed, failed}
 use Rattle.decide.specs.PlanCode.{reaches_first}
@@ -6,8 +7,8 @@ use Rattle.decide.proofs.numbers.reaches_first.Goals as goal
 
 pub returns-then-not-numbered_in : goal.returns-then-not-numbered_in
 unfolding reaches_first
-returns-then-not-numbered_in c = stop _ (failed c.numbered_in.ensures c.if-not-numbered_in.true-raw)
+returns-then-not-numbered_in c = stop _ (sym c.numbered_in.ensures ∙ c.if-not-numbered_in.true)
 
 pub returns : goal.returns
 unfolding reaches_first
-returns c = pass (passed c.numbered_in.ensures c.if-not-numbered_in.false-raw) (rw c.first_number_in.ensures)
+returns c = pass (sym c.numbered_in.ensures ∙ c.if-not-numbered_in.false) (rw c.first_number_in.ensures)

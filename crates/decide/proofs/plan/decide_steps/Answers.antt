@@ -14,17 +14,17 @@ returns-in_default c = rw (← c.state_in.ensures, ← c.chart_step-m.ensures, c
 
 pub returns-then-never_activated : goal.returns-then-never_activated
 unfolding steps_plan
-returns-then-never_activated c = rw ((let fact : let a = c.args in move_by (chart_of a.kind) a.word (state_in a.nums.now a.s a.kind) ≡ To c.in-To.state = rw (← c.state_in.ensures) (sym c.chart_step-m.ensures ∙ c.in-To.is) in fact), ← c.never_activated.ensures, c.if-never_activated.true)
+returns-then-never_activated c = rw (← c.state_in.ensures, ← c.chart_step-m.ensures, c.in-To.is, ← c.never_activated.ensures, c.if-never_activated.true)
 
 pub returns-then-not_next : goal.returns-then-not_next
 unfolding steps_plan
-returns-then-not_next c = rw ((let fact : let a = c.args in move_by (chart_of a.kind) a.word (state_in a.nums.now a.s a.kind) ≡ To c.in-To.state = rw (← c.state_in.ensures) (sym c.chart_step-m.ensures ∙ c.in-To.is) in fact), ← c.never_activated.ensures, c.if-never_activated.false, ← c.not_next.ensures, c.if-not_next.true)
+returns-then-not_next c = rw (← c.state_in.ensures, ← c.chart_step-m.ensures, c.in-To.is, ← c.never_activated.ensures, c.if-never_activated.false, ← c.not_next.ensures, c.if-not_next.true)
 
 pub returns-then-core_broken : goal.returns-then-core_broken
 unfolding steps_plan
 returns-then-core_broken c =
     rw (
-      (let fact : let a = c.args in move_by (chart_of a.kind) a.word (state_in a.nums.now a.s a.kind) ≡ To c.in-To.state = rw (← c.state_in.ensures) (sym c.chart_step-m.ensures ∙ c.in-To.is) in fact),
+      ← c.state_in.ensures, ← c.chart_step-m.ensures, c.in-To.is,
       ← c.never_activated.ensures,
       c.if-never_activated.false,
       ← c.not_next.ensures,
@@ -37,7 +37,7 @@ pub returns-then-count_broken : goal.returns-then-count_broken
 unfolding steps_plan
 returns-then-count_broken c =
     rw (
-      (let fact : let a = c.args in move_by (chart_of a.kind) a.word (state_in a.nums.now a.s a.kind) ≡ To c.in-To.state = rw (← c.state_in.ensures) (sym c.chart_step-m.ensures ∙ c.in-To.is) in fact),
+      ← c.state_in.ensures, ← c.chart_step-m.ensures, c.in-To.is,
       ← c.never_activated.ensures,
       c.if-never_activated.false,
       ← c.not_next.ensures,
@@ -52,7 +52,7 @@ pub returns : goal.returns
 unfolding steps_plan
 returns c =
     rw (
-      (let fact : let a = c.args in move_by (chart_of a.kind) a.word (state_in a.nums.now a.s a.kind) ≡ To c.in-To.state = rw (← c.state_in.ensures) (sym c.chart_step-m.ensures ∙ c.in-To.is) in fact),
+      ← c.state_in.ensures, ← c.chart_step-m.ensures, c.in-To.is,
       ← c.never_activated.ensures,
       c.if-never_activated.false,
       ← c.not_next.ensures,

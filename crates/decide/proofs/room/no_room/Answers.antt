@@ -15,10 +15,10 @@ pub overflow_cast-nums : goal.overflow_cast-nums
 overflow_cast-nums c = omega (arith, c.type_inv.nums names_index)
 
 pub overflow_add-nums : goal.overflow_add-nums
-overflow_add-nums c = omega (arith, c.type_inv.nums names_index, (let fact : c.rows_added-core.result ≤ 1 = one_core c.args.s c.rows_added-core.ensures in fact))
+overflow_add-nums c = omega (arith, c.type_inv.nums names_index, one_core c.args.s c.rows_added-core.ensures)
 
 pub overflow_add-nums-2 : goal.overflow_add-nums-2
-overflow_add-nums-2 c = omega (arith, c.type_inv.nums names_index, (let fact : c.rows_added-core.result ≤ 1 = one_core c.args.s c.rows_added-core.ensures in fact), (let fact : c.rows_added-name.result ≤ 1 = one_at_most c.tracked.result c.args.s.target c.rows_added-name.ensures in fact))
+overflow_add-nums-2 c = omega (arith, c.type_inv.nums names_index, one_core c.args.s c.rows_added-core.ensures, one_at_most c.tracked.result c.args.s.target c.rows_added-name.ensures)
 
 pub returns-then-nums-core : goal.returns-then-nums-core
 unfolding no_room_in
@@ -29,7 +29,7 @@ pub overflow_cast-nums-2 : goal.overflow_cast-nums-2
 overflow_cast-nums-2 c = omega (arith, c.type_inv.nums cores_index)
 
 pub overflow_add-nums-3 : goal.overflow_add-nums-3
-overflow_add-nums-3 c = omega (arith, c.type_inv.nums cores_index, (let fact : c.rows_added-core.result ≤ 1 = one_core c.args.s c.rows_added-core.ensures in fact))
+overflow_add-nums-3 c = omega (arith, c.type_inv.nums cores_index, one_core c.args.s c.rows_added-core.ensures)
 
 pub returns-then-nums-core-2 : goal.returns-then-nums-core-2
 unfolding no_room_in

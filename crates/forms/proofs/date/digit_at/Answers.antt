@@ -8,9 +8,6 @@ pub returns-then-s-i-lt48 : goal.returns-then-s-i-lt48
 unfolding digit_at
 returns-then-s-i-lt48 c = (omega arith, omega arith)
 
-pub overflow_cast-result : goal.overflow_cast-result
-overflow_cast-result c = omega (arith, c.type_inv.s c.args.i)
-
 pub returns : goal.returns
 unfolding digit_at
 returns c = (omega arith, omega (arith, c.type_inv.s c.args.i))

@@ -10,14 +10,11 @@ use Rattle.forms.proofs.date.fits_pattern.Goals as goal
 pub returns-then-s-pattern : goal.returns-then-s-pattern
 returns-then-s-pattern c = sym (fits_other _ _ c.if-s-pattern.true)
 
-pub loop-i-init : goal.loop-i-init
-loop-i-init c = (omega arith, omega arith, refl)
-
 pub returns-then-not-fits_byte : goal.returns-then-not-fits_byte
-returns-then-not-fits_byte c = sym (c.loop-i.invariant.2 ∙ fits_turn _ _ c.loop-i.i (omega arith) (omega arith) ∙ rw (← c.fits_byte.ensures, not-true c.fits_byte.result c.if-not-fits_byte.true-raw))
+returns-then-not-fits_byte c = sym (c.loop-i.invariant.2 ∙ fits_turn _ _ c.loop-i.i (omega arith) (omega arith) ∙ rw (← c.fits_byte.ensures, c.if-not-fits_byte.true))
 
 pub loop-i-preserved : goal.loop-i-preserved
-loop-i-preserved c = (omega arith, omega arith, c.loop-i.invariant.2 ∙ fits_turn _ _ c.loop-i.i (omega arith) (omega arith) ∙ rw (← c.fits_byte.ensures, not-false c.fits_byte.result c.if-not-fits_byte.false-raw))
+loop-i-preserved c = (omega arith, omega arith, c.loop-i.invariant.2 ∙ fits_turn _ _ c.loop-i.i (omega arith) (omega arith) ∙ rw (← c.fits_byte.ensures, c.if-not-fits_byte.false))
 
 pub returns : goal.returns
 returns c = sym (c.loop-i.invariant.2 ∙ fits_end _ _ c.loop-i.i (omega arith) (omega arith))

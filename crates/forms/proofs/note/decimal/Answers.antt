@@ -10,7 +10,7 @@ pub returns-then-s-dot : goal.returns-then-s-dot
 returns-then-s-dot c = c.digits.ensures ∙ no_dot _ _ c.find-dot.ensures c.if-s-dot.true
 
 pub returns-then-not-digits : goal.returns-then-not-digits
-returns-then-not-digits c = rw (← c.digits-2.ensures, not-true c.digits-2.result c.if-not-digits.true-raw) at (at_dot _ _ c.find-dot.ensures c.if-s-dot.false)
+returns-then-not-digits c = rw (← c.digits-2.ensures, c.if-not-digits.true) at (at_dot _ _ c.find-dot.ensures c.if-s-dot.false)
 
 pub returns : goal.returns
-returns c = c.digits-3.ensures ∙ rw part_to_end (rw (← c.digits-2.ensures, not-false c.digits-2.result c.if-not-digits.false-raw) at (at_dot _ _ c.find-dot.ensures c.if-s-dot.false))
+returns c = c.digits-3.ensures ∙ rw part_to_end (rw (← c.digits-2.ensures, c.if-not-digits.false) at (at_dot _ _ c.find-dot.ensures c.if-s-dot.false))

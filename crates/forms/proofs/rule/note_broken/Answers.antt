@@ -9,25 +9,25 @@ pub returns-then-class_of-eq-EVENT_SETTING : goal.returns-then-class_of-eq-EVENT
 returns-then-class_of-eq-EVENT_SETTING c = rw (note_set _ _ _ _ c.class_of.ensures c.if-class_of-eq-EVENT_SETTING.true)
 
 pub returns-in-Stimulus : goal.returns-in-Stimulus
-returns-in-Stimulus c = rw ((let fact : let a = c.args in note_broken a.kind a.action a.n ≡ presence_broken (presence_at a.kind) a.n = note_other _ _ _ _ c.class_of.ensures c.if-class_of-eq-EVENT_SETTING.false in fact), c.in-Stimulus.is)
+returns-in-Stimulus c = rw (note_other _ _ _ _ c.class_of.ensures c.if-class_of-eq-EVENT_SETTING.false, c.in-Stimulus.is)
 
 pub returns-in-Task : goal.returns-in-Task
-returns-in-Task c = rw ((let fact : let a = c.args in note_broken a.kind a.action a.n ≡ presence_broken (presence_at a.kind) a.n = note_other _ _ _ _ c.class_of.ensures c.if-class_of-eq-EVENT_SETTING.false in fact), c.in-Task.is)
+returns-in-Task c = rw (note_other _ _ _ _ c.class_of.ensures c.if-class_of-eq-EVENT_SETTING.false, c.in-Task.is)
 
 pub returns-in-Interrupt : goal.returns-in-Interrupt
-returns-in-Interrupt c = rw ((let fact : let a = c.args in note_broken a.kind a.action a.n ≡ presence_broken (presence_at a.kind) a.n = note_other _ _ _ _ c.class_of.ensures c.if-class_of-eq-EVENT_SETTING.false in fact), c.in-Interrupt.is)
+returns-in-Interrupt c = rw (note_other _ _ _ _ c.class_of.ensures c.if-class_of-eq-EVENT_SETTING.false, c.in-Interrupt.is)
 
 pub returns-in-Runnable : goal.returns-in-Runnable
-returns-in-Runnable c = rw ((let fact : let a = c.args in note_broken a.kind a.action a.n ≡ presence_broken (presence_at a.kind) a.n = note_other _ _ _ _ c.class_of.ensures c.if-class_of-eq-EVENT_SETTING.false in fact), c.in-Runnable.is)
+returns-in-Runnable c = rw (note_other _ _ _ _ c.class_of.ensures c.if-class_of-eq-EVENT_SETTING.false, c.in-Runnable.is)
 
 pub returns-in-Scheduler : goal.returns-in-Scheduler
-returns-in-Scheduler c = rw ((let fact : let a = c.args in note_broken a.kind a.action a.n ≡ presence_broken (presence_at a.kind) a.n = note_other _ _ _ _ c.class_of.ensures c.if-class_of-eq-EVENT_SETTING.false in fact), c.in-Scheduler.is)
+returns-in-Scheduler c = rw (note_other _ _ _ _ c.class_of.ensures c.if-class_of-eq-EVENT_SETTING.false, c.in-Scheduler.is)
 
 pub returns-in-OsEvent : goal.returns-in-OsEvent
-returns-in-OsEvent c = rw ((let fact : let a = c.args in note_broken a.kind a.action a.n ≡ presence_broken (presence_at a.kind) a.n = note_other _ _ _ _ c.class_of.ensures c.if-class_of-eq-EVENT_SETTING.false in fact), c.in-OsEvent.is)
+returns-in-OsEvent c = rw (note_other _ _ _ _ c.class_of.ensures c.if-class_of-eq-EVENT_SETTING.false, c.in-OsEvent.is)
 
 pub returns-in-Signal : goal.returns-in-Signal
-returns-in-Signal c = rw ((let fact : let a = c.args in note_broken a.kind a.action a.n ≡ presence_broken (presence_at a.kind) a.n = note_other _ _ _ _ c.class_of.ensures c.if-class_of-eq-EVENT_SETTING.false in fact), c.in-Signal.is)
+returns-in-Signal c = rw (note_other _ _ _ _ c.class_of.ensures c.if-class_of-eq-EVENT_SETTING.false, c.in-Signal.is)
 
 pub returns-in-Semaphore : goal.returns-in-Semaphore
-returns-in-Semaphore c = rw ((let fact : let a = c.args in note_broken a.kind a.action a.n ≡ presence_broken (presence_at a.kind) a.n = note_other _ _ _ _ c.class_of.ensures c.if-class_of-eq-EVENT_SETTING.false in fact), c.in-Semaphore.is)
+returns-in-Semaphore c = rw (note_other _ _ _ _ c.class_of.ensures c.if-class_of-eq-EVENT_SETTING.false, c.in-Semaphore.is)

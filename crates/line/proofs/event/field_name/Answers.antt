@@ -13,4 +13,4 @@ returns-then-s-eq0 c = rw (lt-leb 1 (length c.args.s.now) (omega arith))
 
 pub returns : goal.returns
 unfolding is_name
-returns c = rw (le-leb 1 (length c.args.s.now) (omega arith), c.requires (not-false _ c.if-not-plain.false-raw), and-true)
+returns c = rw (le-leb 1 (length c.args.s.now) (omega arith), c.requires c.if-not-plain.false, and-true)

@@ -18,22 +18,22 @@ pub slice_bounds-time-end : goal.slice_bounds-time-end
 slice_bounds-time-end c = let h = time_ends _ _ c.requires.0 in search rules
 
 pub part-source-requires : goal.part-source-requires
-part-source-requires c = let o = (let fact : InOrder c.args.line.now c.args.c = in_order _ _ c.requires.0 c.if-n-c.false in fact) in (o.second, omega arith)
+part-source-requires c = let o = in_order _ _ c.requires.0 c.if-n-c.false in (o.second, omega arith)
 
 pub part-source_instance-requires : goal.part-source_instance-requires
-part-source_instance-requires c = let o = (let fact : InOrder c.args.line.now c.args.c = in_order _ _ c.requires.0 c.if-n-c.false in fact) in (o.third, omega arith)
+part-source_instance-requires c = let o = in_order _ _ c.requires.0 c.if-n-c.false in (o.third, omega arith)
 
 pub part-kind-requires : goal.part-kind-requires
-part-kind-requires c = let o = (let fact : InOrder c.args.line.now c.args.c = in_order _ _ c.requires.0 c.if-n-c.false in fact) in (o.fourth, omega arith)
+part-kind-requires c = let o = in_order _ _ c.requires.0 c.if-n-c.false in (o.fourth, omega arith)
 
 pub part-target-requires : goal.part-target-requires
-part-target-requires c = let o = (let fact : InOrder c.args.line.now c.args.c = in_order _ _ c.requires.0 c.if-n-c.false in fact) in (o.fifth, omega arith)
+part-target-requires c = let o = in_order _ _ c.requires.0 c.if-n-c.false in (o.fifth, omega arith)
 
 pub part-target_instance-requires : goal.part-target_instance-requires
-part-target_instance-requires c = let o = (let fact : InOrder c.args.line.now c.args.c = in_order _ _ c.requires.0 c.if-n-c.false in fact) in (o.sixth, omega arith)
+part-target_instance-requires c = let o = in_order _ _ c.requires.0 c.if-n-c.false in (o.sixth, omega arith)
 
 pub part-action-requires : goal.part-action-requires
-part-action-requires c = let o = (let fact : InOrder c.args.line.now c.args.c = in_order _ _ c.requires.0 c.if-n-c.false in fact) in (o.seventh, o.inside)
+part-action-requires c = let o = in_order _ _ c.requires.0 c.if-n-c.false in (o.seventh, o.inside)
 
 pub read_fields-requires : goal.read_fields-requires
 read_fields-requires c =

@@ -8,18 +8,18 @@ use Rattle.line.proofs.event.read_fields.Goals as goal
 
 pub returns-then-not-names : goal.returns-then-not-names
 unfolding fields_reading
-returns-then-not-names c = rw (← c.names.ensures, not-true c.names.result c.if-not-names.true-raw)
+returns-then-not-names c = rw (← c.names.ensures, c.if-not-names.true)
 
 pub returns-in_default : goal.returns-in_default
 unfolding fields_reading
-returns-in_default c = rw ((let fact : let a = c.args in has_names a.source.now a.target.now a.note.now a.noted ≡ true = sym c.names.ensures ∙ not-false _ c.if-not-names.false-raw in fact), ← c.read_numbers-n.ensures, c.in_default.is)
+returns-in_default c = rw (← c.names.ensures, c.if-not-names.false, ← c.read_numbers-n.ensures, c.in_default.is)
 
 pub returns-in_default-p : goal.returns-in_default-p
 unfolding fields_reading
-returns-in_default-p c = rw ((let fact : let a = c.args in has_names a.source.now a.target.now a.note.now a.noted ≡ true = sym c.names.ensures ∙ not-false _ c.if-not-names.false-raw in fact), ← c.read_numbers-n.ensures, c.in-TimeAndInstances.is, ← c.named-p.ensures, c.in_default-p.is)
+returns-in_default-p c = rw (← c.names.ensures, c.if-not-names.false, ← c.read_numbers-n.ensures, c.in-TimeAndInstances.is, ← c.named-p.ensures, c.in_default-p.is)
 
 pub returns : goal.returns
 unfolding fields_reading
 returns c =
-    rw ((let fact : let a = c.args in has_names a.source.now a.target.now a.note.now a.noted ≡ true = sym c.names.ensures ∙ not-false _ c.if-not-names.false-raw in fact), ← c.read_numbers-n.ensures, c.in-TimeAndInstances.is, ← c.named-p.ensures, c.in-Known.is)
+    rw (← c.names.ensures, c.if-not-names.false, ← c.read_numbers-n.ensures, c.in-TimeAndInstances.is, ← c.named-p.ensures, c.in-Known.is)
     c.read_known.ensures

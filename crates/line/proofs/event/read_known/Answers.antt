@@ -12,8 +12,8 @@ returns-in_default c = rw (← c.note_of-n.ensures, c.in_default.is)
 
 pub returns-then-rule_broken : goal.returns-then-rule_broken
 unfolding known_reading
-returns-then-rule_broken c = rw ((let fact : let a = c.args in note_of a.kind a.note.now ≡ Means c.in-Means.count = sym c.note_of-n.ensures ∙ c.in-Means.is in fact), ← c.rule_broken.ensures, c.if-rule_broken.true)
+returns-then-rule_broken c = rw (← c.note_of-n.ensures, c.in-Means.is, ← c.rule_broken.ensures, c.if-rule_broken.true)
 
 pub returns : goal.returns
 unfolding known_reading
-returns c = rw ((let fact : let a = c.args in note_of a.kind a.note.now ≡ Means c.in-Means.count = sym c.note_of-n.ensures ∙ c.in-Means.is in fact), ← c.rule_broken.ensures, c.if-rule_broken.false)
+returns c = rw (← c.note_of-n.ensures, c.in-Means.is, ← c.rule_broken.ensures, c.if-rule_broken.false)

@@ -6,8 +6,8 @@ use Rattle.line.proofs.parameter.creator.Goals as goal
 
 pub returns-then-not-starts : goal.returns-then-not-starts
 unfolding is_creator
-returns-then-not-starts c = rw (← c.starts.ensures, not-true c.starts.result c.if-not-starts.true-raw)
+returns-then-not-starts c = rw (← c.starts.ensures, c.if-not-starts.true)
 
 pub returns : goal.returns
 unfolding is_creator
-returns c = rw (← c.starts.ensures, not-false c.starts.result c.if-not-starts.false-raw)
+returns c = rw (← c.starts.ensures, c.if-not-starts.false)

@@ -7,9 +7,6 @@ use Rattle.line.specs.Reading.{has_break}
 use Rattle.line.proofs.Lines.{break_turn, break_end}
 use Rattle.line.proofs.reading.has_break.Goals as goal
 
-pub loop-i-init : goal.loop-i-init
-loop-i-init c = (omega arith, refl)
-
 pub returns-then-line-i-eq10 : goal.returns-then-line-i-eq10
 returns-then-line-i-eq10 c = sym (c.loop-i.invariant.1 ∙ break_turn _ c.loop-i.i (omega arith) ∙ rw (eq-eqb _ 10 c.if-line-i-eq10.true))
 

@@ -11,20 +11,14 @@ pub returns-then-line-gt-LINE_MOST : goal.returns-then-line-gt-LINE_MOST
 unfolding read_line
 returns-then-line-gt-LINE_MOST c = rw (lt-ltb line_most _ c.if-line-gt-LINE_MOST.true)
 
-pub broken-requires : goal.broken-requires
-broken-requires c = c.requires.1
-
 pub returns-then-broken : goal.returns-then-broken
 unfolding read_line
 returns-then-broken c = rw (le-ltb line_most _ c.if-line-gt-LINE_MOST.false, ← c.broken.ensures, c.if-broken.true)
 
-pub read_event-requires : goal.read_event-requires
-read_event-requires c = c.requires
-
 pub returns-then-event_line : goal.returns-then-event_line
 unfolding read_line
-returns-then-event_line c = rw ((let fact : let l = c.args.line.now in (ltb line_most (length l) || has_break l) ≡ false = rw (le-ltb line_most _ c.if-line-gt-LINE_MOST.false, ← c.broken.ensures, c.if-broken.false) in fact), ← c.event_line.ensures, c.if-event_line.true) c.read_event.ensures
+returns-then-event_line c = rw (le-ltb line_most _ c.if-line-gt-LINE_MOST.false, ← c.broken.ensures, c.if-broken.false, ← c.event_line.ensures, c.if-event_line.true) c.read_event.ensures
 
 pub returns : goal.returns
 unfolding read_line
-returns c = rw ((let fact : let l = c.args.line.now in (ltb line_most (length l) || has_break l) ≡ false = rw (le-ltb line_most _ c.if-line-gt-LINE_MOST.false, ← c.broken.ensures, c.if-broken.false) in fact), ← c.event_line.ensures, c.if-event_line.false) c.read_parameter.ensures
+returns c = rw (le-ltb line_most _ c.if-line-gt-LINE_MOST.false, ← c.broken.ensures, c.if-broken.false, ← c.event_line.ensures, c.if-event_line.false) c.read_parameter.ensures

@@ -13,29 +13,25 @@ use Rattle.line.proofs.writing.refusal.Goals as goal
 
 pub returns-then-not-sizes : goal.returns-then-not-sizes
 returns-then-not-sizes c =
-    let s = c.sizes in
-    rw ((let fact : record_refusal c.args.event c.args.source.now c.args.target.now c.args.note.now ≡ refused_by (has_sizes c.args.event.time c.args.source.now c.args.target.now c.args.note.now) (is_of c.args.event.kind c.args.event.action) (is_wrong (note_of c.args.event.kind c.args.note.now)) (rule_broken c.args.event.kind c.args.event.action c.args.source.now c.args.event.source_instance c.args.target.now c.args.event.target_instance c.args.note.now) = record_refusal_lem c.args.event c.args.source.now c.args.target.now c.args.note.now (omega arith) (omega arith) in fact), ← s.ensures, not-true s.result c.if-not-sizes.true-raw)
+    let a = c.args in
+    rw (record_refusal_lem a.event a.source.now a.target.now a.note.now (omega arith) (omega arith), ← c.sizes.ensures, c.if-not-sizes.true)
 
 pub returns-then-not-is_of : goal.returns-then-not-is_of
 returns-then-not-is_of c =
-    let o = c.is_of in
-    let s = c.sizes in
-    rw ((let fact : record_refusal c.args.event c.args.source.now c.args.target.now c.args.note.now ≡ refused_by (has_sizes c.args.event.time c.args.source.now c.args.target.now c.args.note.now) (is_of c.args.event.kind c.args.event.action) (is_wrong (note_of c.args.event.kind c.args.note.now)) (rule_broken c.args.event.kind c.args.event.action c.args.source.now c.args.event.source_instance c.args.target.now c.args.event.target_instance c.args.note.now) = record_refusal_lem c.args.event c.args.source.now c.args.target.now c.args.note.now (omega arith) (omega arith) in fact), ← s.ensures, not-false s.result c.if-not-sizes.false-raw, ← o.ensures, not-true o.result c.if-not-is_of.true-raw)
+    let a = c.args in
+    rw (record_refusal_lem a.event a.source.now a.target.now a.note.now (omega arith) (omega arith), ← c.sizes.ensures, c.if-not-sizes.false, ← c.is_of.ensures, c.if-not-is_of.true)
 
 pub returns-in_default : goal.returns-in_default
 returns-in_default c =
-    let o = c.is_of in
-    let s = c.sizes in
-    rw ((let fact : record_refusal c.args.event c.args.source.now c.args.target.now c.args.note.now ≡ refused_by (has_sizes c.args.event.time c.args.source.now c.args.target.now c.args.note.now) (is_of c.args.event.kind c.args.event.action) (is_wrong (note_of c.args.event.kind c.args.note.now)) (rule_broken c.args.event.kind c.args.event.action c.args.source.now c.args.event.source_instance c.args.target.now c.args.event.target_instance c.args.note.now) = record_refusal_lem c.args.event c.args.source.now c.args.target.now c.args.note.now (omega arith) (omega arith) in fact), ← s.ensures, not-false s.result c.if-not-sizes.false-raw, ← o.ensures, not-false o.result c.if-not-is_of.false-raw, ← c.note_of-n.ensures, c.in_default.is)
+    let a = c.args in
+    rw (record_refusal_lem a.event a.source.now a.target.now a.note.now (omega arith) (omega arith), ← c.sizes.ensures, c.if-not-sizes.false, ← c.is_of.ensures, c.if-not-is_of.false, ← c.note_of-n.ensures, c.in_default.is)
 
 pub returns-then-rule_broken : goal.returns-then-rule_broken
 returns-then-rule_broken c =
-    let o = c.is_of in
-    let s = c.sizes in
-    rw ((let fact : record_refusal c.args.event c.args.source.now c.args.target.now c.args.note.now ≡ refused_by (has_sizes c.args.event.time c.args.source.now c.args.target.now c.args.note.now) (is_of c.args.event.kind c.args.event.action) (is_wrong (note_of c.args.event.kind c.args.note.now)) (rule_broken c.args.event.kind c.args.event.action c.args.source.now c.args.event.source_instance c.args.target.now c.args.event.target_instance c.args.note.now) = record_refusal_lem c.args.event c.args.source.now c.args.target.now c.args.note.now (omega arith) (omega arith) in fact), ← s.ensures, not-false s.result c.if-not-sizes.false-raw, ← o.ensures, not-false o.result c.if-not-is_of.false-raw, ← c.note_of-n.ensures, c.in-Means.is, ← c.rule_broken.ensures, c.if-rule_broken.true)
+    let a = c.args in
+    rw (record_refusal_lem a.event a.source.now a.target.now a.note.now (omega arith) (omega arith), ← c.sizes.ensures, c.if-not-sizes.false, ← c.is_of.ensures, c.if-not-is_of.false, ← c.note_of-n.ensures, c.in-Means.is, ← c.rule_broken.ensures, c.if-rule_broken.true)
 
 pub returns : goal.returns
 returns c =
-    let o = c.is_of in
-    let s = c.sizes in
-    rw ((let fact : record_refusal c.args.event c.args.source.now c.args.target.now c.args.note.now ≡ refused_by (has_sizes c.args.event.time c.args.source.now c.args.target.now c.args.note.now) (is_of c.args.event.kind c.args.event.action) (is_wrong (note_of c.args.event.kind c.args.note.now)) (rule_broken c.args.event.kind c.args.event.action c.args.source.now c.args.event.source_instance c.args.target.now c.args.event.target_instance c.args.note.now) = record_refusal_lem c.args.event c.args.source.now c.args.target.now c.args.note.now (omega arith) (omega arith) in fact), ← s.ensures, not-false s.result c.if-not-sizes.false-raw, ← o.ensures, not-false o.result c.if-not-is_of.false-raw, ← c.note_of-n.ensures, c.in-Means.is, ← c.rule_broken.ensures, c.if-rule_broken.false)
+    let a = c.args in
+    rw (record_refusal_lem a.event a.source.now a.target.now a.note.now (omega arith) (omega arith), ← c.sizes.ensures, c.if-not-sizes.false, ← c.is_of.ensures, c.if-not-is_of.false, ← c.note_of-n.ensures, c.in-Means.is, ← c.rule_broken.ensures, c.if-rule_broken.false)

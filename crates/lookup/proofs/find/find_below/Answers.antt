@@ -8,9 +8,6 @@ use Rattle.lookup.proofs.Found.{last_end}
 use Rattle.lookup.proofs.Gathered.{last_marked, last_unmarked}
 use Rattle.lookup.proofs.find.find_below.Goals as goal
 
-pub loop-at-init : goal.loop-at-init
-loop-at-init c = (search rules, search rules, refl)
-
 pub returns-then-m-ne0 : goal.returns-then-m-ne0
 returns-then-m-ne0 c =
     let l = c.loop-at in

@@ -11,9 +11,6 @@ pub returns-then-nums-ne-NUMS_SIZE : goal.returns-then-nums-ne-NUMS_SIZE
 unfolding find_from
 returns-then-nums-ne-NUMS_SIZE c = rw (ne_eqb _ _ c.if-nums-ne-NUMS_SIZE.true)
 
-pub overflow_cast-j : goal.overflow_cast-j
-overflow_cast-j c = omega (arith, c.type_inv.nums instances_index)
-
 pub loop-j-init : goal.loop-j-init
 loop-j-init c = from_found _ _ _ c.if-nums-ne-NUMS_SIZE.false
 

@@ -16,17 +16,8 @@ pub returns-then-nums-ne-NUMS_SIZE : goal.returns-then-nums-ne-NUMS_SIZE
 unfolding find_instance
 returns-then-nums-ne-NUMS_SIZE c = rw (ne_eqb _ _ c.if-nums-ne-NUMS_SIZE.true)
 
-pub overflow_cast-nums : goal.overflow_cast-nums
-overflow_cast-nums c = omega (arith, c.type_inv.nums instances_index)
-
 pub returns-then-n-eq0 : goal.returns-then-n-eq0
 returns-then-n-eq0 c = sym (instance_below _ _ _ c.rows-n.result c.if-nums-ne-NUMS_SIZE.false c.rows-n.ensures ∙ last_end _ _ (omega arith))
-
-pub nonzero_rem-m : goal.nonzero_rem-m
-nonzero_rem-m c =
-    let n = c.rows-n.result in
-    let k = n - (n - 1) / 16 * 16 in
-    rw (weight_of k (omega arith)) (pow_pos k)
 
 pub returns-then-m-ne0 : goal.returns-then-m-ne0
 returns-then-m-ne0 c =

@@ -12,12 +12,6 @@ use Rattle.lookup.proofs.find.seek.Goals as goal
 pub loop-d-init : goal.loop-d-init
 loop-d-init c = seek_begin _ _ _ _ _
 
-pub bounds-index-home : goal.bounds-index-home
-bounds-index-home c = omega (arith, place_lt c.args.home c.loop-d.d)
-
-pub overflow_cast-e : goal.overflow_cast-e
-overflow_cast-e c = omega (arith, c.type_inv.index (place c.args.home c.loop-d.d))
-
 pub returns-then-e-eq0 : goal.returns-then-e-eq0
 returns-then-e-eq0 c =
     let l = c.loop-d in

@@ -25,9 +25,6 @@ overflow_add-m c =
       pow_mono {i = k + 1} {j = 16} (search rules),
     )
 
-pub overflow_add-w : goal.overflow_add-w
-overflow_add-w c = let k = c.loop-k.k in omega (arith, pow_mono {i = k} {j = 16} (search rules))
-
 pub loop-k-preserved : goal.loop-k-preserved
 loop-k-preserved c =
     let a = c.args in (
@@ -35,6 +32,3 @@ loop-k-preserved c =
       row_marked a.nums.now a.owner a.number a.at c.loop-k.k _ _ _ (search rules) c.loop-k.invariant.1 c.loop-k.invariant.2 c.weight-m.ensures,
       weight_next c.loop-k.k c.loop-k.w c.loop-k.invariant.2,
     )
-
-pub returns : goal.returns
-returns c = let k : c.loop-k.k ≡ 16 = omega arith in rw k at c.loop-k.invariant.1

@@ -8,9 +8,6 @@ use Rattle.text.specs.Bytes.{same_bytes}
 use Rattle.lookup.proofs.Compared.{eight_start, eight_other, eight_turn}
 use Rattle.lookup.proofs.row.eight_differ.Goals as goal
 
-pub loop-k-init : goal.loop-k-init
-loop-k-init c = (search rules, λ e. let z : false ≡ true = e in cc, λ e. eight_start c.args.row.now c.args.name.now c.args.at)
-
 pub loop-k-preserved : goal.loop-k-preserved
 loop-k-preserved c =
     let a = c.args in
@@ -19,9 +16,3 @@ loop-k-preserved c =
       eight_other a.row.now a.name.now i c.loop-k.differ c.loop-k.invariant.1,
       eight_turn a.row.now a.name.now a.at c.loop-k.k c.loop-k.differ (omega arith) c.requires.1 c.loop-k.invariant.2,
     )
-
-pub returns : goal.returns
-returns c =
-    let l = c.loop-k in
-    let k : l.k ≡ 8 = omega arith in
-    (l.invariant.1, rw k at l.invariant.2)

@@ -13,9 +13,6 @@ returns-then-i-ge-NAME_ROWS c = sym (other_row _ _ _ _ (λ m. omega (arith, m.0,
 pub returns-then-n-gt-NAME_ROOM : goal.returns-then-n-gt-NAME_ROOM
 returns-then-n-gt-NAME_ROOM c = sym (other_row _ _ _ _ (λ m. omega (arith, m.1.0, m.1.1.0, c.if-n-gt-NAME_ROOM.true)))
 
-pub overflow_cast-nums : goal.overflow_cast-nums
-overflow_cast-nums c = omega (arith, c.type_inv.nums (length_column.base + c.args.i))
-
 pub returns-then-nums-i : goal.returns-then-nums-i
 returns-then-nums-i c = sym (other_row _ _ _ _ (λ m. omega (arith, m.1.0, c.if-nums-i.true)))
 

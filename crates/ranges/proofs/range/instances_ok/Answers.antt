@@ -1,3 +1,4 @@
+use Rattle.std.proofs.Common.{◌∙◌}
 use mathlib.Core.Path.{◌≡◌, sym}
 use mathlib.Core.Bool.{true}
 use Prim.Native.Nat.{ℕ, ◌-◌, ◌≤◌, ◌<◌}
@@ -13,10 +14,10 @@ pub loop-j-init : goal.loop-j-init
 loop-j-init c = (search rules, below_none _)
 
 pub returns-then-not-instance_ok : goal.returns-then-not-instance_ok
-returns-then-not-instance_ok c = sym (up_not _ _ _ c.loop-j-test.true (failed c.instance_ok.ensures c.if-not-instance_ok.true-raw))
+returns-then-not-instance_ok c = sym (up_not _ _ _ c.loop-j-test.true (sym c.instance_ok.ensures ∙ c.if-not-instance_ok.true))
 
 pub loop-j-preserved : goal.loop-j-preserved
-loop-j-preserved c = (search rules, below_more _ _ c.loop-j.invariant.1 (passed c.instance_ok.ensures c.if-not-instance_ok.false-raw))
+loop-j-preserved c = (search rules, below_more _ _ c.loop-j.invariant.1 (sym c.instance_ok.ensures ∙ c.if-not-instance_ok.false))
 
 pub returns : goal.returns
 returns c = sym (up_all _ _ (λ k h. c.loop-j.invariant.1 k (omega arith)))

@@ -16,11 +16,11 @@ pub loop-i-init : goal.loop-i-init
 loop-i-init c = (search rules, below_none _)
 
 pub returns-then-not-name_ok : goal.returns-then-not-name_ok
-returns-then-not-name_ok c = sym (up_not _ _ _ c.loop-i-test.true (sym (stop _ (failed c.name_ok.ensures c.if-not-name_ok.true-raw))))
+returns-then-not-name_ok c = sym (up_not _ _ _ c.loop-i-test.true (sym (stop _ (sym c.name_ok.ensures ∙ c.if-not-name_ok.true))))
 
 pub home_at-home-requires : goal.home_at-home-requires
 home_at-home-requires c =
-    let row = (name_mean c.args.names.now c.args.nums.now c.args.ticks.now c.loop-i.i).holds ((let fact : let a = c.args in name_ok a.names.now a.nums.now a.ticks.now c.loop-i.i ≡ true = passed c.name_ok.ensures c.if-not-name_ok.false-raw in fact)) in
+    let row = (name_mean c.args.names.now c.args.nums.now c.args.ticks.now c.loop-i.i).holds (sym c.name_ok.ensures ∙ c.if-not-name_ok.false) in
     (c.requires.1.0.names_sized, (c.requires.1.0.nums_sized, (omega (arith, c.requires.0), row.length_most)))
 
 pub row_placed-requires : goal.row_placed-requires
@@ -29,10 +29,10 @@ row_placed-requires c =
     (c.requires.1.1.1, (omega (arith, c.home_at-home.ensures), omega (arith, c.requires.0)))
 
 pub returns-then-not-row_placed : goal.returns-then-not-row_placed
-returns-then-not-row_placed c = sym (up_not _ _ _ c.loop-i-test.true (failed ((let fact : let a = c.args in c.row_placed.result ≡ name_tests a.names.now a.nums.now a.ticks.now a.index.now c.loop-i.i = let a = c.args in pass ((let fact : let a = c.args in name_ok a.names.now a.nums.now a.ticks.now c.loop-i.i ≡ true = passed c.name_ok.ensures c.if-not-name_ok.false-raw in fact)) (c.row_placed.ensures ∙ ap (λ h. row_placed a.index.now h c.loop-i.i) c.home_at-home.ensures) in fact)) c.if-not-row_placed.true-raw))
+returns-then-not-row_placed c = sym (up_not _ _ _ c.loop-i-test.true (sym (pass (sym c.name_ok.ensures ∙ c.if-not-name_ok.false) (c.row_placed.ensures ∙ ap (λ h. row_placed c.args.index.now h c.loop-i.i) c.home_at-home.ensures)) ∙ c.if-not-row_placed.true))
 
 pub loop-i-preserved : goal.loop-i-preserved
-loop-i-preserved c = (search rules, below_more _ _ c.loop-i.invariant.1 (passed ((let fact : let a = c.args in c.row_placed.result ≡ name_tests a.names.now a.nums.now a.ticks.now a.index.now c.loop-i.i = let a = c.args in pass ((let fact : let a = c.args in name_ok a.names.now a.nums.now a.ticks.now c.loop-i.i ≡ true = passed c.name_ok.ensures c.if-not-name_ok.false-raw in fact)) (c.row_placed.ensures ∙ ap (λ h. row_placed a.index.now h c.loop-i.i) c.home_at-home.ensures) in fact)) c.if-not-row_placed.false-raw))
+loop-i-preserved c = (search rules, below_more _ _ c.loop-i.invariant.1 (sym (pass (sym c.name_ok.ensures ∙ c.if-not-name_ok.false) (c.row_placed.ensures ∙ ap (λ h. row_placed c.args.index.now h c.loop-i.i) c.home_at-home.ensures)) ∙ c.if-not-row_placed.false))
 
 pub returns : goal.returns
 returns c = sym (up_all _ _ (λ k h. c.loop-i.invariant.1 k (omega arith)))

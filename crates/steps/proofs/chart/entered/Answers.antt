@@ -13,10 +13,10 @@ pub loop-at-init : goal.loop-at-init
 loop-at-init c = (search rules, refl)
 
 pub returns-then-row_serves : goal.returns-then-row_serves
-returns-then-row_serves c = sym ((let fact : let a = c.args in entered_in a.rows.now a.word a.state ≡ cond c.row_serves.result (get_or (get_or a.rows.now c.loop-at.at []) 2 0) (entered_in (drop (c.loop-at.at + 1) a.rows.now) a.word a.state) = c.loop-at.invariant.1 ∙ row_turn _ c.loop-at.at _ _ c.loop-at-test.true ∙ rw c.row_serves.ensures in fact) ∙ rw c.if-row_serves.true)
+returns-then-row_serves c = sym (c.loop-at.invariant.1 ∙ row_turn _ c.loop-at.at _ _ c.loop-at-test.true ∙ rw (← c.row_serves.ensures, c.if-row_serves.true))
 
 pub loop-at-preserved : goal.loop-at-preserved
-loop-at-preserved c = (omega arith, (let fact : let a = c.args in entered_in a.rows.now a.word a.state ≡ cond c.row_serves.result (get_or (get_or a.rows.now c.loop-at.at []) 2 0) (entered_in (drop (c.loop-at.at + 1) a.rows.now) a.word a.state) = c.loop-at.invariant.1 ∙ row_turn _ c.loop-at.at _ _ c.loop-at-test.true ∙ rw c.row_serves.ensures in fact) ∙ rw c.if-row_serves.false)
+loop-at-preserved c = (omega arith, c.loop-at.invariant.1 ∙ row_turn _ c.loop-at.at _ _ c.loop-at-test.true ∙ rw (← c.row_serves.ensures, c.if-row_serves.false))
 
 pub returns : goal.returns
 returns c = sym (c.loop-at.invariant.1 ∙ row_end _ c.loop-at.at _ _ c.loop-at-test.false)

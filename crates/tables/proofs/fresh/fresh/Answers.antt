@@ -1,4 +1,5 @@
 -- `tables::fresh::fresh` meets its contract: 15 by the sizes, with nothing written, else every entry of the three tables is 0.
+use Rattle.std.proofs.Common.{sym, ◌∙◌}
 use Rattle.tables.specs.Fresh.{cleared_of}
 use Rattle.tables.proofs.Chains.{passed, failed}
 use Rattle.tables.proofs.Zeros.{clear_all}
@@ -6,11 +7,11 @@ use Rattle.tables.proofs.fresh.fresh.Goals as goal
 
 pub returns-then-not-sized : goal.returns-then-not-sized
 unfolding cleared_of
-returns-then-not-sized c = rw (failed c.sized.ensures c.if-not-sized.true-raw)
+returns-then-not-sized c = rw (← c.sized.ensures, c.if-not-sized.true)
 
 pub returns : goal.returns
 returns c =
-    clear_all _ _ _ _ _ _ (passed c.sized.ensures c.if-not-sized.false-raw)
+    clear_all _ _ _ _ _ _ (sym c.sized.ensures ∙ c.if-not-sized.false)
     c.zero_bytes.ensures
     c.zero_nums.ensures
     c.zero_ticks.ensures
