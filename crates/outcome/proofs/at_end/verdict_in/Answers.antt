@@ -19,7 +19,7 @@ returns-then-scale-eq0 c =
       ne_eqb _ 0 c.if-nums-eq0.false,
       eq-eqb _ 0 c.if-scale-eq0.true,
       c.span_in-span.ensures,
-      c.wrapping_add_u32.ensures,
+      c.wrapping_add_u32.ensures.value,
     )
 
 pub returns : goal.returns

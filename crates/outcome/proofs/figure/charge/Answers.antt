@@ -1,10 +1,8 @@
-use Rattle.std.proofs.Common.{◌≡◌, ◌-◌, ◌≤◌, sym, refl, ◌∙◌, ⊎_elim, add-one, arith, rules}
-use Rattle.tables.specs.Entry.{names_index, name_count}
+use Rattle.std.proofs.Common.{◌≡◌, sym, refl, ◌∙◌, add-one, arith, rules}
+use Rattle.tables.specs.Entry.{name_count}
 use Rattle.sheet.specs.Figure.{charge_to, charge_in}
 use Rattle.outcome.proofs.figure.charge.Goals as goal
-
-pub overflow_cast-n : goal.overflow_cast-n
-overflow_cast-n c = omega (arith, c.type_inv.nums names_index)
+use Rattle.outcome.proofs.figure.charge.Goals.{then-holds_core, else-holds_core}
 
 pub loop-k-init : goal.loop-k-init
 unfolding charge_to
@@ -12,14 +10,15 @@ loop-k-init c = (search rules, refl)
 
 pub loop-k-preserved : goal.loop-k-preserved
 unfolding charge_to
-loop-k-preserved c =
-    let e = c.holds_core.ensures in (
-      search rules,
-      ⊎_elim
-          (λ w. rw (add-one, sym e ∙ w.0.taken, ← c.loop-k.invariant.1, ← w.1.ensures) (w.3 ∙ w.2.ensures))
-          (λ w. rw (add-one, sym e ∙ w.0.left) (w.1 ∙ c.loop-k.invariant.1))
-          c.if-holds_core.branch,
-    )
+loop-k-preserved c = (
+  search rules,
+  elim c.if-holds_core.branch [
+    | then-holds_core w ↦
+        rw (add-one, sym c.holds_core.ensures ∙ w.if-holds_core.true, ← c.loop-k.invariant.1, ← w.open_ticks.ensures)
+        (w.sum-is ∙ w.wrapping_add_u64-sum.ensures.value)
+    | else-holds_core w ↦ rw (add-one, sym c.holds_core.ensures ∙ w.if-holds_core.false) (w.sum-is ∙ c.loop-k.invariant.1)
+  ],
+)
 
 pub returns : goal.returns
 unfolding charge_in

@@ -1,7 +1,6 @@
 -- `outcome::figure::charge` meets its contract. The invariant: the sum is the charge that the first k rows make.
-use Rattle.std.proofs.Common.{◌≡◌, ◌-◌, ◌≤◌, sym, refl, ◌∙◌, ⊎_elim, add-one, arith, rules}
-use Rattle.tables.specs.Entry.{names_index, name_count}
-use Rattle.sheet.specs.Figure.{charge_to, charge_in}
+use Rattle.std.proofs.Common.{◌≡◌, ◌-◌, ◌≤◌}
+use Rattle.sheet.specs.Figure.{charge_to}
 use Rattle.outcome.proofs.figure.charge.Given as goal
 
 abbrev pub invariant-loop-k : goal.invariant-loop-k

@@ -1,19 +1,15 @@
-use Rattle.std.proofs.Common.{◌≡◌, ◌-◌, ◌≤◌, length, sym, ◌∙◌, ⊎_elim, arith, rules}
-use Rattle.text.specs.Put.{after, put}
-use Rattle.text.proofs.Writes.{put_length}
+use Rattle.std.proofs.Common.{◌≡◌, sym, ◌∙◌, arith, rules}
 use Rattle.line.proofs.Texts.{put_none}
 use Rattle.bill.specs.Text.{rows_text}
-use Rattle.tables.specs.Entry.{name_rows, nums_size, names_index, name_count}
+use Rattle.tables.specs.Entry.{name_count}
 use Rattle.ranges.proofs.Valid.{valid}
 use Rattle.sheet.specs.Sheet.{rows_to, rows_in}
 use Rattle.sheet.proofs.Rows.{row_out, line_room, line_put}
 use Rattle.outcome.proofs.section.put_rows.Goals as goal
+use Rattle.outcome.proofs.section.put_rows.Goals.{then-in_section, else-in_section}
 
 pub bounds-nums-7 : goal.bounds-nums-7
 bounds-nums-7 c = omega (arith, valid _ _ _ c.requires.0)
-
-pub overflow_cast-n : goal.overflow_cast-n
-overflow_cast-n c = omega (arith, c.type_inv.nums names_index)
 
 pub loop-i-init : goal.loop-i-init
 unfolding rows_to rows_text
@@ -30,19 +26,16 @@ pub loop-i-preserved : goal.loop-i-preserved
 loop-i-preserved c =
     let inv = c.loop-i.invariant in
     let a = c.args in
-    let out = row_out a.section a.names.now a.nums.now a.ticks.now c.loop-i.i in
     let e = sym c.in_section.ensures in (
       search rules,
       inv.1,
       inv.2,
-      ⊎_elim
-          (λ w. rw (w.5, w.6) (line_put _ _ _ _ _ _ _ (e ∙ w.0.taken) c.loop-i-test.true c.requires.1 inv.3 w.2.ensures))
-          (λ w. rw (w.1, w.2, out (e ∙ w.0.left)) inv.3)
-          c.if-in_section.branch,
+      elim c.if-in_section.branch [
+        | then-in_section w ↦
+            rw (w.next-is, w.out-is) (line_put _ _ _ _ _ _ _ (e ∙ w.if-in_section.true) c.loop-i-test.true c.requires.1 inv.3 w.put_row-next.ensures)
+        | else-in_section w ↦ rw (w.next-is, w.out-is, row_out a.section a.names.now a.nums.now a.ticks.now c.loop-i.i (e ∙ w.if-in_section.false)) inv.3
+      ],
     )
-
-pub shape_of-out : goal.shape_of-out
-shape_of-out c = put_length _ _ _ c.loop-i.invariant.3
 
 pub returns : goal.returns
 unfolding rows_in

@@ -1,13 +1,9 @@
 -- `outcome::section::put_rows` meets its contract. The invariant: the lines of the first i rows are put.
-use Rattle.std.proofs.Common.{◌≡◌, ◌-◌, ◌≤◌, length, sym, ◌∙◌, ⊎_elim, arith, rules}
+use Rattle.std.proofs.Common.{◌≡◌, ◌-◌, ◌≤◌, length}
 use Rattle.text.specs.Put.{after, put}
-use Rattle.text.proofs.Writes.{put_length}
-use Rattle.line.proofs.Texts.{put_none}
 use Rattle.bill.specs.Text.{rows_text}
-use Rattle.tables.specs.Entry.{name_rows, nums_size, names_index, name_count}
-use Rattle.ranges.proofs.Valid.{valid}
-use Rattle.sheet.specs.Sheet.{rows_to, rows_in}
-use Rattle.sheet.proofs.Rows.{row_out, line_room, line_put}
+use Rattle.tables.specs.Entry.{name_rows, nums_size}
+use Rattle.sheet.specs.Sheet.{rows_to}
 use Rattle.outcome.proofs.section.put_rows.Given as goal
 
 abbrev pub invariant-loop-i : goal.invariant-loop-i

@@ -1,16 +1,14 @@
-use Rattle.std.proofs.Common.{◌≡◌, ◌-◌, ◌≤◌, length, sym, refl, ◌∙◌, ⊎_elim, arith, rules}
-use Rattle.tables.specs.Entry.{name_rows, nums_size, names_index, name_count}
+use Rattle.std.proofs.Common.{◌≡◌, sym, refl, ◌∙◌, arith, rules}
+use Rattle.tables.specs.Entry.{name_count}
 use Rattle.ranges.proofs.Valid.{valid}
 use Rattle.sheet.specs.Sheet.{rows_to, rows_in}
 use Rattle.sheet.proofs.Rows.{count_in, row_out}
 use Rattle.sheet.proofs.Short.{rows_few}
 use Rattle.outcome.proofs.section.rows_count.Goals as goal
+use Rattle.outcome.proofs.section.rows_count.Goals.{then-in_section, else-in_section}
 
 pub bounds-nums-7 : goal.bounds-nums-7
 bounds-nums-7 c = omega (arith, valid _ _ _ c.requires)
-
-pub overflow_cast-n : goal.overflow_cast-n
-overflow_cast-n c = omega (arith, c.type_inv.nums names_index)
 
 pub loop-i-init : goal.loop-i-init
 unfolding rows_to
@@ -27,15 +25,14 @@ pub loop-i-preserved : goal.loop-i-preserved
 loop-i-preserved c =
     let inv = c.loop-i.invariant in
     let a = c.args in
-    let out = row_out a.section a.names.now a.nums.now a.ticks.now c.loop-i.i in
     let e = sym c.in_section.ensures in (
       search rules,
       inv.1,
       inv.2,
-      ⊎_elim
-          (λ w. w.1 ∙ rw inv.3 (sym (count_in _ _ _ _ _ (e ∙ w.0.taken))))
-          (λ w. rw (out (e ∙ w.0.left)) (w.1 ∙ inv.3))
-          c.if-in_section.branch,
+      elim c.if-in_section.branch [
+        | then-in_section w ↦ w.count-is ∙ rw inv.3 (sym (count_in _ _ _ _ _ (e ∙ w.if-in_section.true)))
+        | else-in_section w ↦ rw (row_out a.section a.names.now a.nums.now a.ticks.now c.loop-i.i (e ∙ w.if-in_section.false)) (w.count-is ∙ inv.3)
+      ],
     )
 
 pub returns : goal.returns

@@ -1,10 +1,7 @@
 -- `outcome::section::rows_count` meets its contract. The invariant: the count is that of the first i rows.
-use Rattle.std.proofs.Common.{◌≡◌, ◌-◌, ◌≤◌, length, sym, refl, ◌∙◌, ⊎_elim, arith, rules}
-use Rattle.tables.specs.Entry.{name_rows, nums_size, names_index, name_count}
-use Rattle.ranges.proofs.Valid.{valid}
-use Rattle.sheet.specs.Sheet.{rows_to, rows_in}
-use Rattle.sheet.proofs.Rows.{count_in, row_out}
-use Rattle.sheet.proofs.Short.{rows_few}
+use Rattle.std.proofs.Common.{◌≡◌, ◌-◌, ◌≤◌, length}
+use Rattle.tables.specs.Entry.{name_rows, nums_size}
+use Rattle.sheet.specs.Sheet.{rows_to}
 use Rattle.outcome.proofs.section.rows_count.Given as goal
 
 abbrev pub invariant-loop-i : goal.invariant-loop-i

@@ -1,17 +1,15 @@
-use Rattle.std.proofs.Common.{◌≡◌, ◌-◌, ◌≤◌, length, sym, refl, ◌∙◌, ⊎_elim, arith, rules}
+use Rattle.std.proofs.Common.{◌≡◌, sym, refl, ◌∙◌, arith, rules}
 use Rattle.bill.specs.Text.{rows_text}
-use Rattle.tables.specs.Entry.{name_rows, nums_size, names_index, name_count}
+use Rattle.tables.specs.Entry.{name_count}
 use Rattle.ranges.proofs.Valid.{valid}
 use Rattle.sheet.specs.Sheet.{rows_to, rows_in}
 use Rattle.sheet.proofs.Rows.{length_in, row_out}
 use Rattle.sheet.proofs.Short.{row_short, rows_short}
 use Rattle.outcome.proofs.section.rows_length.Goals as goal
+use Rattle.outcome.proofs.section.rows_length.Goals.{then-in_section, else-in_section}
 
 pub bounds-nums-7 : goal.bounds-nums-7
 bounds-nums-7 c = omega (arith, valid _ _ _ c.requires)
-
-pub overflow_cast-n : goal.overflow_cast-n
-overflow_cast-n c = omega (arith, c.type_inv.nums names_index)
 
 pub loop-i-init : goal.loop-i-init
 unfolding rows_to rows_text
@@ -24,21 +22,20 @@ overflow_add-sum c =
     let v = valid _ _ _ c.requires in
     let row = row_short v c.args.section c.loop-i.i c.loop-i-test.true in
     let rows = rows_short v c.args.section c.loop-i.i c.loop-i.invariant.0 in
-    omega (arith, c.row_length-sum.ensures, row, rows)
+    omega (arith, row, rows)
 
 pub loop-i-preserved : goal.loop-i-preserved
 loop-i-preserved c =
     let inv = c.loop-i.invariant in
     let a = c.args in
-    let out = row_out a.section a.names.now a.nums.now a.ticks.now c.loop-i.i in
     let e = sym c.in_section.ensures in (
       search rules,
       inv.1,
       inv.2,
-      ⊎_elim
-          (λ w. w.2 ∙ rw (inv.3, w.1.ensures) (sym (length_in _ _ _ _ _ (e ∙ w.0.taken))))
-          (λ w. rw (out (e ∙ w.0.left)) (w.1 ∙ inv.3))
-          c.if-in_section.branch,
+      elim c.if-in_section.branch [
+        | then-in_section w ↦ w.sum-is ∙ rw (inv.3, w.row_length-sum.ensures) (sym (length_in _ _ _ _ _ (e ∙ w.if-in_section.true)))
+        | else-in_section w ↦ rw (row_out a.section a.names.now a.nums.now a.ticks.now c.loop-i.i (e ∙ w.if-in_section.false)) (w.sum-is ∙ inv.3)
+      ],
     )
 
 pub returns : goal.returns

@@ -1,12 +1,9 @@
 -- `outcome::section::rows_length` meets its contract. The invariant: the sum is the length of the lines of the first i rows. It does not wrap, since
 -- each line is short.
-use Rattle.std.proofs.Common.{◌≡◌, ◌-◌, ◌≤◌, length, sym, refl, ◌∙◌, ⊎_elim, arith, rules}
+use Rattle.std.proofs.Common.{◌≡◌, ◌-◌, ◌≤◌, length}
 use Rattle.bill.specs.Text.{rows_text}
-use Rattle.tables.specs.Entry.{name_rows, nums_size, names_index, name_count}
-use Rattle.ranges.proofs.Valid.{valid}
-use Rattle.sheet.specs.Sheet.{rows_to, rows_in}
-use Rattle.sheet.proofs.Rows.{length_in, row_out}
-use Rattle.sheet.proofs.Short.{row_short, rows_short}
+use Rattle.tables.specs.Entry.{name_rows, nums_size}
+use Rattle.sheet.specs.Sheet.{rows_to}
 use Rattle.outcome.proofs.section.rows_length.Given as goal
 
 abbrev pub invariant-loop-i : goal.invariant-loop-i

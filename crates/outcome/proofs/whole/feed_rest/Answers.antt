@@ -1,5 +1,4 @@
 -- `outcome::whole::feed_rest` meets its contract: an empty rest is no line, any other is one.
-use Rattle.std.proofs.Common.{rules}
 use Rattle.outcome.proofs.Wholes.{no_rest, one_rest}
 use Rattle.outcome.proofs.whole.feed_rest.Goals as goal
 

@@ -1,5 +1,4 @@
 -- `outcome::whole::outcome_after` meets its contract: what each of the three calls leaves goes into the next.
-use Rattle.std.proofs.Common.{rules}
 use Rattle.outcome.proofs.Wholes.{lines_asked}
 use Rattle.outcome.proofs.whole.outcome_after.Goals as goal
 

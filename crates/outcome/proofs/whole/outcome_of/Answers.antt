@@ -1,5 +1,4 @@
 -- `outcome::whole::outcome_of` meets its contract: what the fresh start leaves is what the lines are fed to.
-use Rattle.std.proofs.Common.{rules}
 use Rattle.outcome.proofs.Wholes.{trace_asked}
 use Rattle.outcome.proofs.whole.outcome_of.Goals as goal
 

@@ -1,5 +1,4 @@
 -- `run::chunk::carry_over` meets its contract: a rest that is too long is fed, and any other is moved to the front.
-use borrow.Author.Rules.{rules}
 use Rattle.run.proofs.Turns.{left_long, left_more}
 use Rattle.run.proofs.chunk.carry_over.Goals as goal
 

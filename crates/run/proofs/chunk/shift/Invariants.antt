@@ -1,10 +1,6 @@
 -- `run::chunk::shift` meets its contract. The loop's invariant: the first `i` of the bytes are at the front. The measure is what is left of them.
-use mathlib.Core.Path.{◌≡◌, refl}
-use Prim.Native.Nat.{◌-◌, ◌≤◌}
-use native.Mathlib.Omega.{arith}
-use lib.ListN.{length, length-set, take, drop}
+use Rattle.std.proofs.Common.{◌≡◌, ◌-◌, ◌≤◌, length, take, drop}
 use Rattle.text.specs.Put.{written}
-use Rattle.run.proofs.Shifts.{shift_more}
 use Rattle.run.proofs.chunk.shift.Given as goal
 
 abbrev pub invariant-loop-i : goal.invariant-loop-i

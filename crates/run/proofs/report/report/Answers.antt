@@ -1,6 +1,5 @@
 -- `run::report::report` meets its contract: what the one question answers is printed.
-use mathlib.Core.Path.{refl, ◌∙◌}
-use borrow.Author.Rules.{rules}
+use Rattle.std.proofs.Common.{refl, ◌∙◌}
 use Rattle.run.proofs.Reports.{report_refused, report_told}
 use Rattle.run.proofs.report.report.Goals as goal
 
