@@ -1,6 +1,5 @@
 // "a reader that holds the lent chunk and its place": it is asked for its line, with what the line's bytes tell. The work is done by `line_at`,
-// on the slice and the number. No function over such a struct is covered, so these two are proved by hand; callers use `next_line`, whose
-// parameters are plain.
+// on the slice and the number; callers use `next_line`, whose parameters are plain.
 ghost use Rattle.std.specs.Prelude.{◌≡◌};
 ghost use Rattle.scan.specs.Ahead.{ahead_of};
 
@@ -14,7 +13,7 @@ pub fn ahead<'a>(r: Reader<'a>, whole: bool) -> Ahead
     line_at(r.chunk, r.at, whole)
 }
 
-// What a reader finds in a plain slice from an index on: whoever calls it needs no walk by hand.
+// What a reader finds in a plain slice from an index on.
 pub fn next_line(s: &[u8], at: usize, whole: bool) -> Ahead
     ensures { result ≡ ahead_of whole s.now at }
 {

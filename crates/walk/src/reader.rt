@@ -1,6 +1,5 @@
 // "a reader that holds the lent chunk and its place": a thin struct that steps to the next line. The work is done by the functions of
-// `lines`, on the slice and the number. No function over such a struct is covered, so these four are proved by hand; callers use
-// `line_from`, whose parameters are plain.
+// `lines`, on the slice and the number; callers use `line_from`, whose parameters are plain.
 ghost use Rattle.std.specs.Prelude.{◌≡◌};
 ghost use Rattle.walk.specs.Lines.{next_from, start_from};
 
@@ -37,7 +36,7 @@ pub fn next<'a>(r: Reader<'a>) -> Next
     line_between(r.chunk, r.at, q.at)
 }
 
-// What a reader finds in a plain slice from an index on: whoever calls it needs no walk by hand.
+// What a reader finds in a plain slice from an index on.
 pub fn line_from(s: &[u8], at: usize) -> Next
     ensures { result ≡ next_from s.now at }
 {
