@@ -24,7 +24,9 @@ pub returns-then-core_broken : goal.returns-then-core_broken
 unfolding steps_plan
 returns-then-core_broken c =
     rw (
-      ← c.state_in.ensures, ← c.chart_step-m.ensures, c.in-To.is,
+      ← c.state_in.ensures,
+      ← c.chart_step-m.ensures,
+      c.in-To.is,
       ← c.never_activated.ensures,
       c.if-never_activated.false,
       ← c.not_next.ensures,
@@ -37,7 +39,9 @@ pub returns-then-count_broken : goal.returns-then-count_broken
 unfolding steps_plan
 returns-then-count_broken c =
     rw (
-      ← c.state_in.ensures, ← c.chart_step-m.ensures, c.in-To.is,
+      ← c.state_in.ensures,
+      ← c.chart_step-m.ensures,
+      c.in-To.is,
       ← c.never_activated.ensures,
       c.if-never_activated.false,
       ← c.not_next.ensures,
@@ -52,7 +56,9 @@ pub returns : goal.returns
 unfolding steps_plan
 returns c =
     rw (
-      ← c.state_in.ensures, ← c.chart_step-m.ensures, c.in-To.is,
+      ← c.state_in.ensures,
+      ← c.chart_step-m.ensures,
+      c.in-To.is,
       ← c.never_activated.ensures,
       c.if-never_activated.false,
       ← c.not_next.ensures,
