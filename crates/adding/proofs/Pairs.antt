@@ -24,6 +24,7 @@ use Rattle.adding.specs.AddCode.{BothRead, cores_met, Paired, Judged}
 
 -- the names of rows by their places are those of the section, in order
 in_order : (text places : List ℕ) (rs : List Row) → rows_at text places ≡ sorted_by by_name rs → map (name_at text) places ≡ sorted (names rs)
+unfolding names
 in_order text places rs e = sym (map-map by_name (row_at text) places) ∙ ap names e ∙ map_sorted by_name rs
 
 -- ---- the first two refusals of a pair

@@ -102,9 +102,11 @@ module _ {text starts : List ℕ} {f : Form} (k : Formed text starts f) where
   -- ---- the rows and the names
 
   pub core_names : names (map row_from (core_lines ls)) ≡ map (name_at text) (core_places starts f)
+  unfolding names
   core_names = rw (← k.core_lines_told) (simp map-map)
 
   pub process_names : names (map row_from (process_lines ls)) ≡ map (name_at text) (process_places starts f)
+  unfolding names
   process_names = rw (← k.process_lines_told) (simp map-map)
 
   module _ {cores processes : List ℕ} (s : sums_right f.span (map (line_from text) (core_places starts f)) (map (line_from text) (process_places starts f)) ≡ true)

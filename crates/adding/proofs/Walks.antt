@@ -27,11 +27,13 @@ use Rattle.adding.proofs.Steps.{step}
 -- ---- what is left of a section, by its names
 
 names_drop : (i : ℕ) (rs : List Row) → names (drop i rs) ≡ drop i (names rs)
+unfolding names
 names_drop zero rs = refl
 names_drop (suc i) [] = refl
 names_drop (suc i) (r ∷ rs) = names_drop i rs
 
 names_left : (text places : List ℕ) (i : ℕ) → names (drop i (rows_at text places)) ≡ drop i (map (name_at text) places)
+unfolding names
 names_left text places i = names_drop i (rows_at text places) ∙ ap (drop i) (map-map by_name (row_at text) places)
 
 -- ---- a step takes no more rows than there are

@@ -19,14 +19,17 @@ use Rattle.promises.specs.Sheets.{figure}
 use Rattle.promises.specs.Shifts.{core_figures, process_figures}
 
 pub core_rows_lem : (h : List Event) (cs : List Name) → core_rows cs h ≡ rows_of (core_figures h) cs
+unfolding names rows_of
 core_rows_lem h [] = refl
 core_rows_lem h (c ∷ cs) = rw (core_rows_lem h cs)
 
 pub process_rows_lem : (h : List Event) (ps : List Name) → process_rows ps h ≡ rows_of (process_figures h) ps
+unfolding names rows_of
 process_rows_lem h [] = refl
 process_rows_lem h (p ∷ ps) = rw (process_rows_lem h ps)
 
 pub rows_count : (f : Name → List ℕ) (ns : List Name) → length (rows_of f ns) ≡ length ns
+unfolding names rows_of
 rows_count f [] = refl
 rows_count f (n ∷ ns) = ap suc (rows_count f ns)
 
@@ -37,6 +40,7 @@ pub process_names : (h : List Event) (ps : List Name) → names (process_rows ps
 process_names h ps = rw (process_rows_lem h ps) (names_rows (process_figures h) ps)
 
 pub rows_named : (f : Name → List ℕ) (ns : List Name) → ((n : Name) → has n ns ≡ true → is_name n ≡ true) → all_named (rows_of f ns) ≡ true
+unfolding names rows_of
 rows_named f [] w = refl
 rows_named f (n ∷ ns) w = rw (w n (rw (order_self n)), rows_named f ns (λ m q. w m (rw q (or-true (is_same (order m n))))))
 

@@ -33,6 +33,7 @@ figures_pass p d (r ∷ rs) n h e = go (is_same (order n r.name)) (figures_pass 
     go false ih = ih
 
 pub rows_pass : (p : List ℕ → Bool) (f : Name → List ℕ) (ns : List Name) → ((n : Name) → p (f n) ≡ false) → some_row p (rows_of f ns) ≡ false
+unfolding names rows_of
 rows_pass p f [] h = refl
 rows_pass p f (n ∷ ns) h = rw (h n) (rows_pass p f ns h)
 
@@ -52,11 +53,13 @@ plus_above m k (x ∷ u) (y ∷ v) e f =
 
 -- rows of the names of both sections, with any figures
 named_both : (f : Name → List ℕ) (rs qs : List Row) → all_named rs ≡ true → all_named qs ≡ true → all_named (rows_of f (names rs ++ names qs)) ≡ true
+unfolding names rows_of
 named_both f [] [] e h = refl
 named_both f [] (q ∷ qs) e h = rw (and_l (is_name q.name) (all_named qs) h) (named_both f [] qs e (and_r (is_name q.name) (all_named qs) h))
 named_both f (r ∷ rs) qs e h = rw (and_l (is_name r.name) (all_named rs) e) (named_both f rs qs (and_r (is_name r.name) (all_named rs) e) h)
 
 length_names : (rs : List Row) → length (names rs) ≡ length rs
+unfolding names rows_of
 length_names [] = refl
 length_names (r ∷ rs) = ap suc (length_names rs)
 
@@ -74,7 +77,7 @@ module _ (x y : List ℕ) (rs qs : List Row) where
   once_add = rw (names_add x y rs qs) (twice_sorted (names rs ++ names qs))
 
   pub named_add : all_named rs ≡ true → all_named qs ≡ true → all_named (add_rows x y rs qs) ≡ true
-  unfolding add_rows
+  unfolding add_rows names rows_of
   named_add e f = all_sorted itself (λ r. is_name r.name) _ (names rs ++ names qs) (named_both _ rs qs e f)
 
   -- a test passed by what is given for a missing name and by each row, on either side, and kept by adding

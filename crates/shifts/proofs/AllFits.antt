@@ -7,8 +7,8 @@ use mathlib.Core.Option.{Option, none, some, none-ne-some}
 use Prim.Native.Nat.{ℕ}
 use Rattle.bill.specs.Reading.{Bill, bill_text}
 use Rattle.sorting.specs.Sets.{gather_by}
-use Rattle.shifts.specs.Sound.{too_many, any_of, sound_sheet}
-use Rattle.shifts.specs.Sum.{sum}
+use Rattle.shifts.specs.Sound.{names, too_many, any_of, sound_sheet}
+use Rattle.shifts.specs.Sum.{rows_of, sum}
 use Rattle.shifts.specs.Together.{all_rows, sum_of, all_tests, with_next, bills_of, text_of, together}
 use Rattle.shifts.proofs.Sums.{SumOf, alone_sum, both_sum}
 use Rattle.shifts.proofs.Fits.{Fit, fit_exactly, parts_fit}
@@ -63,7 +63,7 @@ some_sum x [] = (x, alone_sum x)
 some_sum x (y ∷ ys) = let w = some_sum y ys in (sum x w.0, both_sum x [] (y ∷ ys) x w.0 (alone_sum x) w.1)
 
 none_fit : Fit []
-unfolding all_tests all_rows too_many gather_by
+unfolding all_tests all_rows too_many gather_by names rows_of
 none_fit = (fit_exactly []).0 refl
 
 fewer_fit : (bs cs : List Bill) → Fit (bs ++ cs) → Fit bs × Fit cs

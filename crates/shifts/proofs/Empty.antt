@@ -19,7 +19,7 @@ use Rattle.bill.proofs.Readings.{read_print}
 use Rattle.sorting.specs.Sets.{under, rising}
 use Rattle.sorting.proofs.Meets.{meets_none}
 use Rattle.shifts.specs.Sound.{names, not_count, some_row, too_many, sound_sheet}
-use Rattle.shifts.specs.Sum.{plus, add_rows, no_core, no_process, sum, clash, refusal, Text, total_by, add_texts}
+use Rattle.shifts.specs.Sum.{rows_of, plus, add_rows, no_core, no_process, sum, clash, refusal, Text, total_by, add_texts}
 use Rattle.shifts.specs.Empty.{empty_bill, is_sorted}
 use Rattle.shifts.proofs.Nothing.{nothing}
 use Rattle.shifts.proofs.Merges.{add_step, add_end}
@@ -37,7 +37,7 @@ empty_bytes = refl
 -- ---- it may be added
 
 empty_fine : (n : ℕ) → 1 ≤ n → n ≤ 5 → Fine (empty_bill n)
-unfolding too_many
+unfolding too_many names rows_of
 empty_fine n low high = record {
   low = low;
   high = high;
@@ -66,7 +66,7 @@ plus_zeros (suc k) [] e = absurd (omega arith)
 plus_zeros (suc k) (x ∷ u) e = let z : x + 0 ≡ x = omega arith in rw (z, plus_zeros k u (omega arith))
 
 add_none : (x : List ℕ) (k : ℕ) (rs : List Row) → some_row (not_count k) rs ≡ false → rising (names rs) ≡ true → add_rows x (replicate k 0) rs [] ≡ rs
-unfolding rising
+unfolding rising names rows_of
 add_none x k [] c o = add_end x (replicate k 0)
 add_none x k (r ∷ rs) c o =
     let l = equal (length r.figures) k (or_l (not_count k r.figures) (some_row (not_count k) rs) c) in
@@ -92,7 +92,7 @@ module _ (b : Bill) (f : Fine b) (o : is_sorted b ≡ true) where
       spans = omega arith
 
   not_refused : refusal b (empty_bill b.scale) ≡ 0
-  unfolding clash
+  unfolding clash names rows_of
   not_refused = (addable_exactly b (empty_bill b.scale)).1 (record {
     scales = refl;
     apart = rw (meets_none (names b.sheet.cores));

@@ -22,7 +22,7 @@ use Rattle.sorting.proofs.Rising.{length_first, length_second}
 use Rattle.sorting.proofs.Meets.{meets_sorted}
 use Rattle.sorting.proofs.Counts.{sorted_most}
 use Rattle.shifts.specs.Sound.{names, too_many, any_of}
-use Rattle.shifts.specs.Sum.{by_name, sum, clash}
+use Rattle.shifts.specs.Sum.{rows_of, by_name, sum, clash}
 use Rattle.shifts.specs.Together.{names_in, figures_in, all_rows, span_of, first_scale, sum_of, others_than, all_tests}
 use Rattle.shifts.proofs.Rows.{names_rows}
 use Rattle.shifts.proofs.Fine.{Fine, all_fail, equal, no_other, few_cores, few_names}
@@ -52,7 +52,7 @@ fit_exactly bs = (there, back)
 -- ---- the counts
 
 count_all : (s : Section) (bs : List Bill) → length (all_rows s bs) ≡ length (sorted (names_in s bs))
-unfolding all_rows
+unfolding all_rows names rows_of
 count_all s bs = sym (length-map (all_rows s bs) by_name) ∙ ap length (names_rows (figures_in s bs) (sorted (names_in s bs)))
 
 -- the names are few where rows that are no fewer are
@@ -79,6 +79,7 @@ mixed_all bs b f =
 -- ---- one bill by itself
 
 pub alone_fit : (b : Bill) → Fine b → Fit (b ∷ [])
+unfolding names rows_of
 alone_fit b f = record {
   scales = rw (no_other b.scale b.scale refl);
   apart = sym (mixed_all (b ∷ []) b (alone_sum b)) ∙ f.apart;

@@ -58,6 +58,7 @@ insert_first m [] h = unfold insert_by in refl
 insert_first m (n ∷ ns) h = at_less m n ns (first_after m n ns h)
 
 rows_after : (m : Name) (f g : Name → List ℕ) (ns : List Name) → any (not_after m) ns ≡ false → ((n : Name) → order m n ≡ Less → f n ≡ g n) → rows_of f ns ≡ rows_of g ns
+unfolding names rows_of
 rows_after m f g [] h e = refl
 rows_after m f g (n ∷ ns) h e = rw (e n (first_after m n ns h), rows_after m f g ns (rest_after m n ns h) e)
 
@@ -77,7 +78,7 @@ from_none m x rs h k =
 
 -- its first row is of that name
 from_first : (m : Name) (x : List ℕ) (r : Row) (rs : List Row) → order m r.name ≡ Same → rising (names (r ∷ rs)) ≡ true → From m x (r ∷ rs) r.figures rs
-unfolding rising figures_of gather_by
+unfolding rising figures_of gather_by names rows_of
 from_first m x r rs e k =
     let q = order_same m r.name e in
     record {
@@ -105,7 +106,7 @@ module _ (m : Name) (x y : List ℕ) {rs qs rs' qs' : List Row} {f g : List ℕ}
   names_after = any_sorted (not_after m) (names rs') (names qs') ∙ rw (a.after, b.after)
 
   least_row : add_rows x y rs qs ≡ record { name = m; figures = plus f g } ∷ add_rows x y rs' qs'
-  unfolding add_rows
+  unfolding add_rows names rows_of
   least_row =
       rw (names_least, insert_first m (sorted (names rs' ++ names qs')) names_after, a.its, b.its)
       (ap (λ (l : List Row). record { name = m; figures = plus f g } ∷ l) (rows_after m _ _ (sorted (names rs' ++ names qs')) names_after (λ n e. ap₂ plus (a.others n e) (b.others n e))))
@@ -114,14 +115,14 @@ module _ (x y : List ℕ) where
   -- the first section has it alone
   left_first : (r : Row) (rs qs : List Row) → rising (names (r ∷ rs)) ≡ true → rising (names qs) ≡ true → under r.name (names qs) ≡ true →
       add_rows x y (r ∷ rs) qs ≡ record { name = r.name; figures = plus r.figures y } ∷ add_rows x y rs qs
-  unfolding gather_by
+  unfolding gather_by names rows_of
   left_first r rs qs h k e =
       least_row r.name x y (from_first r.name x r rs (order_self r.name) h) (from_none r.name y qs e k) (insert_again r.name (sorted (names rs ++ names qs)))
 
   -- both have it
   both_first : (r q : Row) (rs qs : List Row) → rising (names (r ∷ rs)) ≡ true → rising (names (q ∷ qs)) ≡ true → order r.name q.name ≡ Same →
       add_rows x y (r ∷ rs) (q ∷ qs) ≡ record { name = r.name; figures = plus r.figures q.figures } ∷ add_rows x y rs qs
-  unfolding gather_by
+  unfolding gather_by names rows_of
   both_first r q rs qs h k e =
       least_row r.name x y (from_first r.name x r rs (order_self r.name) h) (from_first r.name y q qs e k)
       (insert_again r.name (sorted (names rs ++ names (q ∷ qs))))
@@ -129,7 +130,7 @@ module _ (x y : List ℕ) where
   -- the second has it alone
   right_first : (q : Row) (rs qs : List Row) → rising (names rs) ≡ true → rising (names (q ∷ qs)) ≡ true → under q.name (names rs) ≡ true →
       add_rows x y rs (q ∷ qs) ≡ record { name = q.name; figures = plus x q.figures } ∷ add_rows x y rs qs
-  unfolding gather_by
+  unfolding gather_by names rows_of
   right_first q rs qs h k e =
       least_row q.name x y (from_none q.name x rs e h) (from_first q.name y q qs (order_self q.name) k)
       (rw (sorted_two (names rs) (names (q ∷ qs))) (insert_again q.name (sorted (names qs ++ names rs))))
@@ -137,6 +138,7 @@ module _ (x y : List ℕ) where
   pub add_step : (rs qs : List Row) → rising (names rs) ≡ true → rising (names qs) ≡ true → 0 < length rs + length qs →
       let o = next_of (names rs) (names qs) in
       add_rows x y rs qs ≡ next_row o x y rs qs ∷ add_rows x y (drop (left_step o) rs) (drop (right_step o) qs)
+  unfolding names rows_of
   add_step [] [] h k l = absurd (omega arith)
   add_step [] (q ∷ qs) h k l = right_first q [] qs h k refl
   add_step (r ∷ rs) [] h k l = left_first r rs [] h k refl
@@ -148,5 +150,5 @@ module _ (x y : List ℕ) where
       go More e = right_first q (r ∷ rs) qs h k (rw (turn r.name q.name More e))
 
   pub add_end : add_rows x y [] [] ≡ []
-  unfolding add_rows gather_by
+  unfolding add_rows gather_by names rows_of
   add_end = refl

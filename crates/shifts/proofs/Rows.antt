@@ -36,16 +36,17 @@ plus_length (x ∷ u) (y ∷ v) e = ap suc (plus_length u v (omega arith))
 -- ---- the figures of a name
 
 pub names_rows : (f : Name → List ℕ) (ns : List Name) → names (rows_of f ns) ≡ ns
+unfolding names rows_of
 names_rows f ns = map-map by_name _ ns ∙ map-id ns
 
 pub figures_missing : (d : List ℕ) (rs : List Row) (n : Name) → has n (names rs) ≡ false → figures_of d rs n ≡ d
-unfolding figures_of
+unfolding figures_of names rows_of
 figures_missing d [] n h = refl
 figures_missing d (r ∷ rs) n h =
     rw (or_l (is_same (order n r.name)) (has n (names rs)) h) (figures_missing d rs n (or_r (is_same (order n r.name)) (has n (names rs)) h))
 
 pub figures_rows : (d : List ℕ) (f : Name → List ℕ) (ns : List Name) (n : Name) → (has n ns ≡ false → d ≡ f n) → figures_of d (rows_of f ns) n ≡ f n
-unfolding figures_of
+unfolding figures_of names rows_of
 figures_rows d f [] n h = h refl
 figures_rows d f (m ∷ ns) n h = go (order n m) refl h (figures_rows d f ns n)
   where
@@ -65,14 +66,14 @@ same_two n m = rw (order_turned n m) (go (order n m))
     go More = refl
 
 rows_skip : (d : List ℕ) (r : Row) (rs : List Row) (ns : List Name) → has r.name ns ≡ false → rows_of (figures_of d (r ∷ rs)) ns ≡ rows_of (figures_of d rs) ns
-unfolding figures_of
+unfolding figures_of names rows_of
 rows_skip d r rs [] h = refl
 rows_skip d r rs (n ∷ ns) h =
     let z : is_same (order n r.name) ≡ false = same_two n r.name ∙ or_l (is_same (order r.name n)) (has r.name ns) h in
     rw (z, rows_skip d r rs ns (or_r (is_same (order r.name n)) (has r.name ns) h))
 
 pub rows_own : (d : List ℕ) (rs : List Row) → twice (names rs) ≡ false → rows_of (figures_of d rs) (names rs) ≡ rs
-unfolding figures_of
+unfolding figures_of names rows_of
 rows_own d [] z = refl
 rows_own d (r ∷ rs) z =
     rw (order_self r.name, rows_skip d r rs (names rs) (or_l (has r.name (names rs)) (twice (names rs)) z), rows_own d rs (or_r (has r.name (names rs)) (twice (names rs)) z))

@@ -20,7 +20,7 @@ use Rattle.shifts.specs.Sum.{by_name, plus, figures_of, rows_of, add_rows}
 module _ (d : List ℕ) (n : Name) where
   -- a row whose name isn't there goes in as if it stood first
   figures_insert : (r : Row) (rs : List Row) → has r.name (names rs) ≡ false → figures_of d (insert_by by_name r rs) n ≡ figures_of d (r ∷ rs) n
-  unfolding figures_of insert_by
+  unfolding figures_of insert_by names rows_of
   figures_insert r [] h = refl
   figures_insert r (q ∷ rs) h =
       go (order r.name q.name) refl h (order n r.name) refl (figures_insert r rs (or_r (is_same (order r.name q.name)) (has r.name (names rs)) h))
@@ -34,7 +34,7 @@ module _ (d : List ℕ) (n : Name) where
       go More e h More f ih = rw (e, f, ih, f)
 
   pub figures_sorted : (rs : List Row) → twice (names rs) ≡ false → figures_of d (sorted_by by_name rs) n ≡ figures_of d rs n
-  unfolding gather_by figures_of
+  unfolding gather_by figures_of names rows_of
   figures_sorted [] z = refl
   figures_sorted (r ∷ rs) z =
       let h = has_sorted by_name r.name rs ∙ or_l (has r.name (names rs)) (twice (names rs)) z in
@@ -44,7 +44,7 @@ module _ (d : List ℕ) (n : Name) where
 
 pub add_sorted : (x y : List ℕ) (rs qs : List Row) → twice (names rs) ≡ false → twice (names qs) ≡ false →
     add_rows x y (sorted_by by_name rs) (sorted_by by_name qs) ≡ add_rows x y rs qs
-unfolding add_rows
+unfolding add_rows names rows_of
 add_sorted x y rs qs z w =
     ap₂ rows_of (fun_ext (λ n. ap₂ plus (figures_sorted x n rs z) (figures_sorted y n qs w)))
     (ap₂ (λ (ns ms : List Name). sorted (ns ++ ms)) (map_sorted by_name rs) (map_sorted by_name qs) ∙ sorted_both (names rs) (names qs))

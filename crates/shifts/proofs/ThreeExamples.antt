@@ -19,8 +19,8 @@ use Rattle.bill.specs.Verdict.{accepted_text}
 use Rattle.bill.specs.Reading.{bill_text, scale_in, span_in, head_exact, count_in, count_exact, row_from, row_exact, bill_from, form_tests, read_sheet}
 use Rattle.sorting.specs.Order.{order}
 use Rattle.sorting.specs.Sets.{insert_by, gather_by}
-use Rattle.shifts.specs.Sound.{too_many, shape_tests, sum_tests, malformed, unsound, sound_sheet}
-use Rattle.shifts.specs.Sum.{figures_of, add_rows, sum, clash, refusal, Total, Text, Refusal, add_texts}
+use Rattle.shifts.specs.Sound.{names, too_many, shape_tests, sum_tests, malformed, unsound, sound_sheet}
+use Rattle.shifts.specs.Sum.{rows_of, figures_of, add_rows, sum, clash, refusal, Total, Text, Refusal, add_texts}
 use Rattle.shifts.specs.Many.{is_sound, alone}
 use Rattle.shifts.specs.Together.{all_rows, sum_of, all_tests, together}
 use Rattle.shifts.specs.Grouping.{Grouping, Sheet, Sum, comes_to, bytes_of}
@@ -97,5 +97,5 @@ other_reason =
     refused_by 22 (comes_to (Sum (Sum (Sheet t) (Sheet u)) (Sheet v))) && refused_by 23 (comes_to (Sum (Sheet t) (Sum (Sheet u) (Sheet v))))
 
 each : all right examples && other_reason ≡ true
-unfolding together all_tests sum_of all_rows alone is_sound add_texts sound_sheet read_sheet form_tests bill_from head_exact scale_in span_in count_in count_exact row_from row_exact starts_with same_bytes to_byte scale_of pick scale_word scale_number pieces unsound malformed shape_tests sum_tests too_many is_name all_name_bytes is_name_byte order refusal clash sum add_rows figures_of insert_by gather_by bill_text accepted_text scale_text digits_of sheet_text section_text rows_text row_text figures_text
+unfolding together all_tests sum_of all_rows alone is_sound add_texts sound_sheet read_sheet form_tests bill_from head_exact scale_in span_in count_in count_exact row_from row_exact starts_with same_bytes to_byte scale_of pick scale_word scale_number pieces unsound malformed shape_tests sum_tests too_many is_name all_name_bytes is_name_byte order refusal clash sum add_rows figures_of insert_by gather_by bill_text accepted_text scale_text digits_of sheet_text section_text rows_text row_text figures_text names rows_of
 each = refl

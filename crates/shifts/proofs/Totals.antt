@@ -23,6 +23,7 @@ use Rattle.shifts.proofs.Refusals.{addable_exactly}
 -- ---- the first figures add up: held ticks, and charges
 
 firsts_rows : (f : Name → List ℕ) (ns : List Name) → firsts (rows_of f ns) ≡ sum_over (λ n. first (f n)) ns
+unfolding names rows_of
 firsts_rows f [] = refl
 firsts_rows f (n ∷ ns) = ap (λ (k : ℕ). first (f n) + k) (firsts_rows f ns)
 

@@ -8,7 +8,7 @@ use Rattle.bill.specs.Reading.{Bill, read_sheet}
 use Rattle.sorting.specs.Order.{Name}
 use Rattle.sorting.specs.Sets.{meets, twice}
 
-abbrev pub names : List Row → List Name
+unfoldable pub names : List Row → List Name
 names [] = []
 names (r ∷ rs) = r.name ∷ names rs
 

@@ -25,7 +25,7 @@ unfoldable pub figures_of : List ℕ → List Row → Name → List ℕ
 figures_of missing [] n = missing
 figures_of missing (r ∷ rs) n = cond (is_same (order n r.name)) r.figures (figures_of missing rs n)
 
-abbrev pub rows_of : (Name → List ℕ) → List Name → List Row
+unfoldable pub rows_of : (Name → List ℕ) → List Name → List Row
 rows_of f [] = []
 rows_of f (n ∷ ns) = record { name = n; figures = f n } ∷ rows_of f ns
 
