@@ -9,21 +9,22 @@ ghost use Rattle.add.specs.Line.{refused_line, line_most, IsAnswer};
 
 use adding::sheet::SHEET_MOST;
 use ledger::total::{Answer, sum_of_arguments};
-use libc::{STDERR_FILENO, STDOUT_FILENO};
+use std::env::{Env, FillError};
+use std::io::{Stderr, Stdout};
 use text::put::{put_bytes, put_number};
 
 const LINE_MOST: usize = 32;
 
-fn complain(s: &[u8]) {
-    io::write_all(STDERR_FILENO, s);
+fn complain(stderr: Stderr, s: &[u8]) {
+    let _ = stderr.write_all(s);
 }
 
 // Writes the first n bytes, which are the answer, and nothing else is ever written to standard output.
-fn print(s: &[u8], n: usize)
+fn print(stdout: Stdout, stderr: Stderr, s: &[u8], n: usize)
     requires { IsAnswer n s.now }
 {
-    if !io::write_all(STDOUT_FILENO, &s[0..n]) {
-        complain(b"cannot write standard output\n");
+    if stdout.write_all(&s[0..n]).is_err() {
+        complain(stderr, b"cannot write standard output\n");
     }
 }
 
@@ -37,39 +38,50 @@ fn put_refused(number: u32, out: &mut [u8]) -> usize
     put_bytes(b"\n", out, two)
 }
 
-fn print_refused(number: u32)
+fn print_refused(stdout: Stdout, stderr: Stderr, number: u32)
     requires { IsRefusal number }
 {
     let mut line = [0u8; LINE_MOST];
     let n = put_refused(number, &mut line);
-    print(&line, n);
+    print(stdout, stderr, &line, n);
 }
 
 // Which sheet it is about, for the launcher, on standard error.
-fn tell(word: &[u8], sheet: usize) {
-    complain(word);
-    io::print_decimal(STDERR_FILENO, sheet as u64);
-    complain(b"\n");
+fn tell(stderr: Stderr, word: &[u8], sheet: usize) {
+    complain(stderr, word);
+    let _ = stderr.println(sheet);
 }
 
 // The output that is lent has room for every sum, so that nobody can call this.
-fn wrong_size()
+fn wrong_size(stderr: Stderr)
     requires { ⊥ }
 {
-    complain(b"memory of the wrong size\n");
+    complain(stderr, b"memory of the wrong size\n");
 }
 
-fn main() {
-    let mut out = [0u8; SHEET_MOST];
-    let answer = sum_of_arguments(os::arg_count(), &mut out);
-    match answer {
-        Answer::Text(n) => print(&out, n),
-        Answer::Refused(number, sheet) => {
-            print_refused(number);
-            tell(b"sheet ", sheet);
+// How many arguments there are, the program's own name among them.
+fn arg_count(env: &impl Env) -> usize {
+    for i in 0..usize::MAX {
+        if let Err(FillError::NotPresent) = env.arg(i, &mut []) {
+            return i;
         }
-        Answer::Unread(sheet) => tell(b"unread ", sheet),
-        Answer::TooFew => complain(b"fewer than two sheets\n"),
-        Answer::WrongSize => wrong_size(),
+    }
+    usize::MAX
+}
+
+fn main(rt: HostRuntime) {
+    let stdout = rt.stdout();
+    let stderr = rt.stderr();
+    let mut out = [0u8; SHEET_MOST];
+    let answer = sum_of_arguments(&rt, arg_count(&rt), &mut out);
+    match answer {
+        Answer::Text(n) => print(stdout, stderr, &out, n),
+        Answer::Refused(number, sheet) => {
+            print_refused(stdout, stderr, number);
+            tell(stderr, b"sheet ", sheet);
+        }
+        Answer::Unread(sheet) => tell(stderr, b"unread ", sheet),
+        Answer::TooFew => complain(stderr, b"fewer than two sheets\n"),
+        Answer::WrongSize => wrong_size(stderr),
     }
 }

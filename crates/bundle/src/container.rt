@@ -4,6 +4,7 @@ ghost use Rattle.std.specs.Prelude.{◌≡◌, ◌+◌, ◌<◌, ◌≤◌, leng
 ghost use Rattle.bundle.specs.Container.{length_in, entry_from, container_end};
 
 use crate::say::{say, say_trace};
+use std::io::Stdout;
 use text::bytes::{find, starts};
 use text::number::{Number, read_number};
 
@@ -68,16 +69,16 @@ fn entry_from(s: &[u8], at: usize) -> Entry
 }
 
 // Says the trace whose header stands between two indices, and whose bytes follow the header's end.
-fn say_entry(s: &[u8], at: usize, end: usize, size: usize)
+fn say_entry(stdout: Stdout, s: &[u8], at: usize, end: usize, size: usize)
     requires { (at ≤ end) × (end + 1 + size < length s.now) }
 {
     let start = end + 1;
     let stop = start + size;
-    say_trace(label_in(&s[at..end]), &s[start..stop]);
+    say_trace(stdout, label_in(&s[at..end]), &s[start..stop]);
 }
 
 // Says every trace of a container up to its end.
-fn say_traces(s: &[u8]) -> Ended
+fn say_traces(stdout: Stdout, s: &[u8]) -> Ended
     ensures { result ≡ container_end s.now }
 {
     let mut at = 0;
@@ -86,7 +87,7 @@ fn say_traces(s: &[u8]) -> Ended
         let Entry::Trace(end, size) = entry_from(s, at) else {
             return Ended::Broken(n, at);
         };
-        say_entry(s, at, end, size);
+        say_entry(stdout, s, at, end, size);
         at = end + size + 2;
         n += 1;
     }
@@ -94,18 +95,18 @@ fn say_traces(s: &[u8]) -> Ended
 }
 
 // Says that a container is broken.
-fn say_end(ended: Ended) {
+fn say_end(stdout: Stdout, ended: Ended) {
     let Ended::Broken(_, _) = ended else {
         return;
     };
-    say(b"container broken\n");
+    say(stdout, b"container broken\n");
 }
 
 // Says every trace of a container, and that it is broken where the rest can't be told apart; how it ended.
-pub fn say_all(s: &[u8]) -> Ended
+pub fn say_all(stdout: Stdout, s: &[u8]) -> Ended
     ensures { result ≡ container_end s.now }
 {
-    let ended = say_traces(s);
-    say_end(ended);
+    let ended = say_traces(stdout, s);
+    say_end(stdout, ended);
     ended
 }

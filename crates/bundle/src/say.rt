@@ -1,14 +1,14 @@
 // What is printed of one trace, taken as a whole: its label and its text.
 ghost use Rattle.std.specs.Prelude.{◌≤◌, length};
 
-use libc::STDOUT_FILENO;
 use outcome::now::SHEET_MOST;
 use outcome::whole::outcome_of;
 use run::report::{Printed, TEXT_MOST, put_outcome};
+use std::io::Stdout;
 use tables::entry::{NAMES_SIZE, NUMS_SIZE, TICKS_SIZE};
 
-pub(crate) fn say(s: &[u8]) {
-    io::write_all(STDOUT_FILENO, s);
+pub(crate) fn say(stdout: Stdout, s: &[u8]) {
+    let _ = stdout.write_all(s);
 }
 
 fn least(a: usize, b: usize) -> usize
@@ -35,11 +35,11 @@ fn put_text(trace: &[u8], out: &mut [u8]) -> usize
     least(n, out.len())
 }
 
-pub(crate) fn say_trace(label: &[u8], trace: &[u8]) {
+pub(crate) fn say_trace(stdout: Stdout, label: &[u8], trace: &[u8]) {
     let mut out = [0u8; TEXT_MOST];
-    say(b"trace ");
-    say(label);
-    say(b"\n");
+    say(stdout, b"trace ");
+    say(stdout, label);
+    say(stdout, b"\n");
     let n = put_text(trace, &mut out);
-    say(&out[0..n]);
+    say(stdout, &out[0..n]);
 }

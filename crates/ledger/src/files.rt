@@ -2,6 +2,12 @@
 ghost use Rattle.std.specs.Prelude.{◌<◌, length};
 ghost use Rattle.ledger.specs.Files.{OneFill, FileRead};
 
+use std::env::Env;
+use std::fs;
+use std::io::Read;
+use std::rt::Files;
+use std::str::from_utf8;
+
 // What one read came to: how many bytes, never 0; the end of the file; or an error.
 #[derive(Clone, Copy)]
 enum Got {
@@ -17,29 +23,28 @@ pub(crate) enum File {
     Unread,
 }
 
+// The longest name of a file.
+const PATH_MOST: usize = 4096;
+
 // One read behind the first `have` bytes of the buffer.
-fn fill(fd: i32, buf: &mut [u8], have: usize) -> Got
+fn fill<F: Read>(file: &mut F, buf: &mut [u8], have: usize) -> Got
     requires { have < length buf.old }
     ensures { OneFill result have buf.new }
 {
-    let got = libc::read(fd, &mut buf[have..]);
-    let n = io::count(got, &buf[have..]);
-    if n != 0 {
-        return Got::Bytes(n);
+    match file.read(&mut buf[have..]) {
+        Ok(0) => Got::End,
+        Ok(n) => Got::Bytes(n),
+        Err(_) => Got::Error,
     }
-    if got == 0 {
-        return Got::End;
-    }
-    Got::Error
 }
 
 // Reads until the file ends, the buffer is full or a read fails.
-fn read_open(fd: i32, buf: &mut [u8]) -> File
+fn read_open<F: Read>(file: &mut F, buf: &mut [u8]) -> File
     ensures { FileRead result buf.new }
 {
     let mut have: usize = 0;
     while have < buf.len() {
-        let got = fill(fd, buf, have);
+        let got = fill(file, buf, have);
         match got {
             Got::Bytes(n) => {
                 have += n;
@@ -55,26 +60,26 @@ fn read_open(fd: i32, buf: &mut [u8]) -> File
     File::Read(have)
 }
 
-fn read_path(path: &[u8], buf: &mut [u8]) -> File
+// The file of that name, which is UTF-8.
+fn read_path<R: Files>(rt: &R, path: &[u8], buf: &mut [u8]) -> File
     ensures { FileRead result buf.new }
 {
-    let fd = os::open_read(path);
-    if fd < 0 {
+    let Ok(name) = from_utf8(path) else {
         return File::Unread;
-    }
-    let file = read_open(fd, buf);
-    libc::close(fd);
-    file
+    };
+    let Ok(mut file) = fs::open(rt, name) else {
+        return File::Unread;
+    };
+    read_open(&mut file, buf)
 }
 
-// The file that argument i names. No file has an empty name, and an argument that is missing or too long comes as one.
-pub(crate) fn read_argument(i: usize, buf: &mut [u8]) -> File
+// The file that argument i names. No file has an empty name, and an argument that is missing or too long names none.
+pub(crate) fn read_argument<R: Env + Files>(rt: &R, i: usize, buf: &mut [u8]) -> File
     ensures { FileRead result buf.new }
 {
-    let mut path = io::buffer();
-    let n = os::arg(i, &mut path);
-    if n == 0 {
+    let mut path = [0u8; PATH_MOST];
+    let Ok(n) = rt.arg(i, &mut path) else {
         return File::Unread;
-    }
-    read_path(&path[..n], buf)
+    };
+    read_path(rt, &path[..n], buf)
 }

@@ -8,6 +8,8 @@ use crate::files::{File, read_argument};
 use adding::add::{Sum, add};
 use adding::sheet::SHEET_MOST;
 use adding::sound::sound;
+use std::env::Env;
+use std::rt::Files;
 use text::put::put_bytes;
 
 // What one more sheet came to: the new total's bytes; a refusal; or that the sheet could not be read.
@@ -33,11 +35,11 @@ pub enum Answer {
 const READ_MOST: usize = 24009;
 
 // Holds the first sheet where it may be added.
-fn first_sheet(held: &mut [u8], buf: &mut [u8]) -> Step
+fn first_sheet<R: Env + Files>(rt: &R, held: &mut [u8], buf: &mut [u8]) -> Step
     requires { (length held.old ≡ sheet_most) × (length buf.old ≡ read_most) }
     ensures { Stepped result alone held.new }
 {
-    let File::Read(n) = read_argument(1, buf) else {
+    let File::Read(n) = read_argument(rt, 1, buf) else {
         return Step::Unread;
     };
     if sound(&buf[0..n]) {
@@ -48,11 +50,11 @@ fn first_sheet(held: &mut [u8], buf: &mut [u8]) -> Step
 }
 
 // Adds the sheet that argument i names to the total so far, the first n bytes held.
-fn one_more(held: &mut [u8], n: usize, buf: &mut [u8], i: usize) -> Step
+fn one_more<R: Env + Files>(rt: &R, held: &mut [u8], n: usize, buf: &mut [u8], i: usize) -> Step
     requires { (n ≤ length held.old) × (length held.old ≡ sheet_most) × (length buf.old ≡ read_most) }
     ensures { Stepped result (add_texts (take n held.old)) held.new }
 {
-    let File::Read(m) = read_argument(i, buf) else {
+    let File::Read(m) = read_argument(rt, i, buf) else {
         return Step::Unread;
     };
     let mut out = [0u8; SHEET_MOST];
@@ -67,14 +69,21 @@ fn one_more(held: &mut [u8], n: usize, buf: &mut [u8], i: usize) -> Step
 }
 
 // Adds the sheets that the arguments from 2 on name to the first one, the first n bytes held, and puts the sum of all.
-fn add_others(count: usize, held: &mut [u8], first: usize, buf: &mut [u8], out: &mut [u8]) -> Answer
+fn add_others<R: Env + Files>(
+    rt: &R,
+    count: usize,
+    held: &mut [u8],
+    first: usize,
+    buf: &mut [u8],
+    out: &mut [u8],
+) -> Answer
     requires { Holding 2 first held.old × (3 ≤ count) × (length held.old ≡ sheet_most) × (length buf.old ≡ read_most) × (sheet_most ≤ length out.old) }
     ensures { Ended result count out.old out.new }
 {
     let mut n = first;
     let mut i: usize = 2;
     while i < count {
-        let step = one_more(held, n, buf, i);
+        let step = one_more(rt, held, n, buf, i);
         match step {
             Step::Held(k) => {
                 n = k;
@@ -93,20 +102,26 @@ fn add_others(count: usize, held: &mut [u8], first: usize, buf: &mut [u8], out: 
 }
 
 // Adds all sheets, where there are two or more.
-fn add_sheets(count: usize, held: &mut [u8], buf: &mut [u8], out: &mut [u8]) -> Answer
+fn add_sheets<R: Env + Files>(
+    rt: &R,
+    count: usize,
+    held: &mut [u8],
+    buf: &mut [u8],
+    out: &mut [u8],
+) -> Answer
     requires { (3 ≤ count) × (length held.old ≡ sheet_most) × (length buf.old ≡ read_most) × (sheet_most ≤ length out.old) }
     ensures { Ended result count out.old out.new }
 {
-    let step = first_sheet(held, buf);
+    let step = first_sheet(rt, held, buf);
     match step {
-        Step::Held(n) => add_others(count, held, n, buf, out),
+        Step::Held(n) => add_others(rt, count, held, n, buf, out),
         Step::Refused(number) => Answer::Refused(number, 1),
         Step::Unread => Answer::Unread(1),
     }
 }
 
 // The sum of the sheets that a program's arguments name, at the front of the output; `count` is how many arguments it has, its own name among them.
-pub fn sum_of_arguments(count: usize, out: &mut [u8]) -> Answer
+pub fn sum_of_arguments<R: Env + Files>(rt: &R, count: usize, out: &mut [u8]) -> Answer
     ensures { Answered result count out.old out.new }
 {
     if out.len() < SHEET_MOST {
@@ -117,5 +132,5 @@ pub fn sum_of_arguments(count: usize, out: &mut [u8]) -> Answer
     }
     let mut held = [0u8; SHEET_MOST];
     let mut buf = [0u8; READ_MOST];
-    add_sheets(count, &mut held, &mut buf, out)
+    add_sheets(rt, count, &mut held, &mut buf, out)
 }

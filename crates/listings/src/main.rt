@@ -2,10 +2,10 @@
 #![tactic(auto)]
 
 use bundle::container::say_all;
-use libc::STDIN_FILENO;
+use intake::read_full;
 
-fn main() {
+fn main(rt: HostRuntime) {
     let mut input = [0u8; 8192];
-    let n = io::read_full(STDIN_FILENO, &mut input);
-    say_all(&input[..n]);
+    let n = read_full(&mut rt.stdin(), &mut input);
+    say_all(rt.stdout(), &input[..n]);
 }

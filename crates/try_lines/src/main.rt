@@ -5,101 +5,118 @@
 
 ghost use Rattle.std.specs.Prelude.{◌≤◌, length};
 
-use libc::{STDIN_FILENO, STDOUT_FILENO};
+use intake::read_full;
 use line::event::Event;
 use line::reading::Reading;
 use line::writing::Written;
+use std::io::Stdout;
 use text::bytes::find;
 use words::action::Action;
 use words::kind::Kind;
 use words::scale::Scale;
 
-fn say(s: &[u8]) {
-    io::write_all(STDOUT_FILENO, s);
+fn say(stdout: Stdout, s: &[u8]) {
+    let _ = stdout.write_all(s);
 }
 
-fn say_number(n: u64) {
-    io::print_decimal(STDOUT_FILENO, n);
+fn say_number(stdout: Stdout, n: u64) {
+    let _ = stdout.print(n);
 }
 
-fn say_scale(scale: Scale) {
+fn say_scale(stdout: Stdout, scale: Scale) {
     match scale {
-        Scale::Picoseconds => say(b"0 scale ps\n"),
-        Scale::Nanoseconds => say(b"0 scale ns\n"),
-        Scale::Microseconds => say(b"0 scale us\n"),
-        Scale::Milliseconds => say(b"0 scale ms\n"),
-        Scale::Seconds => say(b"0 scale s\n"),
+        Scale::Picoseconds => say(stdout, b"0 scale ps\n"),
+        Scale::Nanoseconds => say(stdout, b"0 scale ns\n"),
+        Scale::Microseconds => say(stdout, b"0 scale us\n"),
+        Scale::Milliseconds => say(stdout, b"0 scale ms\n"),
+        Scale::Seconds => say(stdout, b"0 scale s\n"),
     }
 }
 
 // The first n bytes of s.
-fn say_front(s: &[u8], n: usize) {
+fn say_front(stdout: Stdout, s: &[u8], n: usize) {
     if n <= s.len() {
-        say(&s[0..n]);
+        say(stdout, &s[0..n]);
     }
 }
 
 // What `write` answers to a record, and the line it makes.
-fn say_written(event: Event, source: &[u8], target: &[u8], note: &[u8], out: &mut [u8]) {
+fn say_written(
+    stdout: Stdout,
+    event: Event,
+    source: &[u8],
+    target: &[u8],
+    note: &[u8],
+    out: &mut [u8],
+) {
     match line::write(event, source, target, note, out) {
         Written::Done(n) => {
-            say(b"0 ");
-            say_front(out, n);
+            say(stdout, b"0 ");
+            say_front(stdout, out, n);
         }
-        Written::NotWritten(no) => say_number(no as u64),
+        Written::NotWritten(no) => say_number(stdout, no as u64),
     }
 }
 
 // An event line: its answer, what `write` makes of it, and its parts.
-fn say_event(l: &[u8], event: Event, count: u32) {
+fn say_event(stdout: Stdout, l: &[u8], event: Event, count: u32) {
     let mut out = [0u8; 300];
-    say(b"0 event written ");
+    say(stdout, b"0 event written ");
     say_written(
+        stdout,
         event,
         line::field(l, 2),
         line::field(l, 5),
         line::field(l, 8),
         &mut out,
     );
-    say(b" source ");
-    say(line::field(l, 2));
-    say(b" target ");
-    say(line::field(l, 5));
-    say(b" note ");
-    say(line::field(l, 8));
-    say(b" count ");
-    say_number(count as u64);
-    say(b"\n");
+    say(stdout, b" source ");
+    say(stdout, line::field(l, 2));
+    say(stdout, b" target ");
+    say(stdout, line::field(l, 5));
+    say(stdout, b" note ");
+    say(stdout, line::field(l, 8));
+    say(stdout, b" count ");
+    say_number(stdout, count as u64);
+    say(stdout, b"\n");
 }
 
 // What one line is.
-fn say_line(l: &[u8]) {
+fn say_line(stdout: Stdout, l: &[u8]) {
     match line::read(l) {
-        Reading::Version => say(b"0 version\n"),
-        Reading::Comment => say(b"0 comment\n"),
-        Reading::TimeScale(scale) => say_scale(scale),
-        Reading::Creator => say(b"0 creator\n"),
-        Reading::CreationDate => say(b"0 creation date\n"),
-        Reading::EventLine(event, count) => say_event(l, event, count),
+        Reading::Version => say(stdout, b"0 version\n"),
+        Reading::Comment => say(stdout, b"0 comment\n"),
+        Reading::TimeScale(scale) => say_scale(stdout, scale),
+        Reading::Creator => say(stdout, b"0 creator\n"),
+        Reading::CreationDate => say(stdout, b"0 creation date\n"),
+        Reading::EventLine(event, count) => say_event(stdout, l, event, count),
         Reading::Refused(no) => {
-            say_number(no as u64);
-            say(b"\n");
+            say_number(stdout, no as u64);
+            say(stdout, b"\n");
         }
     }
 }
 
 // Every line of s.
-fn say_lines(s: &[u8]) {
+fn say_lines(stdout: Stdout, s: &[u8]) {
     let mut at = 0;
     while at < s.len() {
         let end = find(s, b'\n', at);
-        say_line(&s[at..end]);
+        say_line(stdout, &s[at..end]);
         at = end + 1;
     }
 }
 
 // A record of one event, with A as source and target.
-fn say_record(time: u64, instance: u32, kind: Kind, action: Action, note: &[u8], out: &mut [u8]) {
+fn say_record(
+    stdout: Stdout,
+    time: u64,
+    instance: u32,
+    kind: Kind,
+    action: Action,
+    note: &[u8],
+    out: &mut [u8],
+) {
     let event = Event {
         time,
         source_instance: instance,
@@ -107,18 +124,19 @@ fn say_record(time: u64, instance: u32, kind: Kind, action: Action, note: &[u8],
         target_instance: 0,
         action,
     };
-    say(b"record ");
-    say_written(event, b"A", b"A", note, out);
-    say(b"\n");
+    say(stdout, b"record ");
+    say_written(stdout, event, b"A", b"A", note, out);
+    say(stdout, b"\n");
 }
 
 // Records that no line gives: each of the writer's refusals, and outputs that just hold the line or are one byte too short.
-fn say_records() {
+fn say_records(stdout: Stdout) {
     let mut room = [0u8; 64];
     let mut tight = [0u8; 23];
     let mut longer = [0u8; 27];
     let mut short = [0u8; 26];
     say_record(
+        stdout,
         72057594037927936,
         0,
         Kind::Task,
@@ -127,6 +145,7 @@ fn say_records() {
         &mut room,
     );
     say_record(
+        stdout,
         72057594037927935,
         0,
         Kind::Task,
@@ -134,22 +153,62 @@ fn say_records() {
         b"",
         &mut room,
     );
-    say_record(0, 0, Kind::Task, Action::Lock, b"", &mut room);
-    say_record(0, 0, Kind::Task, Action::Lock, b"a b", &mut room);
-    say_record(0, 1, Kind::Task, Action::Start, b"", &mut room);
-    say_record(0, 0, Kind::Semaphore, Action::Lock, b"", &mut room);
-    say_record(0, 0, Kind::Semaphore, Action::Lock, b"01", &mut room);
-    say_record(0, 0, Kind::Signal, Action::Read, b"-0.5", &mut tight);
-    say_record(0, 0, Kind::Signal, Action::Read, b"-0.50", &mut tight);
-    say_record(0, 4294967295, Kind::Signal, Action::Read, b"", &mut longer);
-    say_record(0, 4294967295, Kind::Signal, Action::Read, b"", &mut short);
-    say_record(0, 1, Kind::Task, Action::Start, b"", &mut short);
+    say_record(stdout, 0, 0, Kind::Task, Action::Lock, b"", &mut room);
+    say_record(stdout, 0, 0, Kind::Task, Action::Lock, b"a b", &mut room);
+    say_record(stdout, 0, 1, Kind::Task, Action::Start, b"", &mut room);
+    say_record(stdout, 0, 0, Kind::Semaphore, Action::Lock, b"", &mut room);
+    say_record(
+        stdout,
+        0,
+        0,
+        Kind::Semaphore,
+        Action::Lock,
+        b"01",
+        &mut room,
+    );
+    say_record(
+        stdout,
+        0,
+        0,
+        Kind::Signal,
+        Action::Read,
+        b"-0.5",
+        &mut tight,
+    );
+    say_record(
+        stdout,
+        0,
+        0,
+        Kind::Signal,
+        Action::Read,
+        b"-0.50",
+        &mut tight,
+    );
+    say_record(
+        stdout,
+        0,
+        4294967295,
+        Kind::Signal,
+        Action::Read,
+        b"",
+        &mut longer,
+    );
+    say_record(
+        stdout,
+        0,
+        4294967295,
+        Kind::Signal,
+        Action::Read,
+        b"",
+        &mut short,
+    );
+    say_record(stdout, 0, 1, Kind::Task, Action::Start, b"", &mut short);
 }
 
-fn main() {
+fn main(rt: HostRuntime) {
     let mut input = [0u8; 65536];
-    let n = io::read_full(STDIN_FILENO, &mut input);
-    say_lines(&input[0..n]);
-    say_line(b"# a comment with byte 10 \n inside");
-    say_records();
+    let n = read_full(&mut rt.stdin(), &mut input);
+    say_lines(rt.stdout(), &input[0..n]);
+    say_line(rt.stdout(), b"# a comment with byte 10 \n inside");
+    say_records(rt.stdout());
 }

@@ -7,7 +7,8 @@ ghost use Rattle.try_sheets.specs.Steps.{Step};
 
 use adding::add::{Sum, add};
 use adding::sheet::SHEET_MOST;
-use libc::{STDIN_FILENO, STDOUT_FILENO};
+use intake::read_full;
+use std::io::Stdout;
 use text::bytes::find;
 use text::number::{Number, read_number};
 
@@ -38,26 +39,26 @@ fn number_to(s: &[u8], end: u8, at: usize) -> Told
     }
 }
 
-fn say(s: &[u8]) {
-    io::write_all(STDOUT_FILENO, s);
+fn say(stdout: Stdout, s: &[u8]) {
+    let _ = stdout.write_all(s);
 }
 
 // The first n bytes, where there are as many.
-fn say_front(s: &[u8], n: usize) {
+fn say_front(stdout: Stdout, s: &[u8], n: usize) {
     if s.len() < n {
         return;
     }
-    say(&s[0..n]);
+    say(stdout, &s[0..n]);
 }
 
-fn say_refused(number: u32) {
-    say(b"refused ");
-    io::print_decimal(STDOUT_FILENO, number as u64);
-    say(b"\n");
+fn say_refused(stdout: Stdout, number: u32) {
+    say(stdout, b"refused ");
+    let _ = stdout.print(number as u64);
+    say(stdout, b"\n");
 }
 
 // Adds a pair into an output that is a byte shorter than n, and says how that is refused.
-fn say_short(a: &[u8], b: &[u8], n: usize) {
+fn say_short(stdout: Stdout, a: &[u8], b: &[u8], n: usize) {
     if n == 0 {
         return;
     }
@@ -69,24 +70,24 @@ fn say_short(a: &[u8], b: &[u8], n: usize) {
     let Sum::Refused(number) = sum else {
         return;
     };
-    say_refused(number);
+    say_refused(stdout, number);
 }
 
 // Adds a pair and says what came of it; a sum is asked for once more, with an output that is a byte too short.
-fn say_sum(a: &[u8], b: &[u8]) {
+fn say_sum(stdout: Stdout, a: &[u8], b: &[u8]) {
     let mut out = [0u8; SHEET_MOST];
     let sum = add(a, b, &mut out);
     match sum {
         Sum::Added(n) => {
-            say_front(&out, n);
-            say_short(a, b, n);
+            say_front(stdout, &out, n);
+            say_short(stdout, a, b, n);
         }
-        Sum::Refused(number) => say_refused(number),
+        Sum::Refused(number) => say_refused(stdout, number),
     }
 }
 
 // Says the pair whose header stands at the index `at`, and answers where the next one begins; the end where there is none.
-fn say_pair(s: &[u8], at: usize) -> usize
+fn say_pair(stdout: Stdout, s: &[u8], at: usize) -> usize
     requires { at < length s.now }
     ensures { (at < result) × (result ≤ length s.now) }
 {
@@ -99,19 +100,19 @@ fn say_pair(s: &[u8], at: usize) -> usize
     if n < end {
         return n;
     }
-    say_sum(&s[from..middle], &s[middle..end]);
+    say_sum(stdout, &s[from..middle], &s[middle..end]);
     end
 }
 
-fn say_pairs(s: &[u8]) {
+fn say_pairs(stdout: Stdout, s: &[u8]) {
     let mut at = 0;
     while at < s.len() {
-        at = say_pair(s, at);
+        at = say_pair(stdout, s, at);
     }
 }
 
-fn main() {
+fn main(rt: HostRuntime) {
     let mut input = [0u8; 65536];
-    let n = io::read_full(STDIN_FILENO, &mut input);
-    say_pairs(&input[..n]);
+    let n = read_full(&mut rt.stdin(), &mut input);
+    say_pairs(rt.stdout(), &input[..n]);
 }

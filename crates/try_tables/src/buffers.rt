@@ -4,6 +4,7 @@ ghost use Rattle.std.specs.Prelude.{◌≤◌};
 
 use crate::say::say_done;
 use crate::step::Numbers;
+use std::io::Stdout;
 use tables::entry::{NAMES_SIZE, NUMS_SIZE, TICKS_SIZE};
 
 // One entry more than a table has, so that one too many can be lent.
@@ -46,11 +47,11 @@ pub(crate) fn zeros() -> Buffers {
 }
 
 // Tells of a size that a buffer has no room for; of that buffer all is lent then.
-pub(crate) fn resized(t: Buffers, n: Numbers) -> Buffers {
+pub(crate) fn resized(stdout: Stdout, t: Buffers, n: Numbers) -> Buffers {
     let names = n.first <= NAMES_ROOM as u64;
     let nums = n.second <= NUMS_ROOM as u64;
     let ticks = n.third <= TICKS_ROOM as u64;
-    say_done(names & nums & ticks);
+    say_done(stdout, names & nums & ticks);
     let mut r = t;
     r.names_lent = n.first as usize;
     r.nums_lent = n.second as usize;

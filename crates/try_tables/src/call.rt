@@ -8,16 +8,18 @@ use crate::word::{CHUNK, FEED, FRESH, TRACE};
 use judge::feed::{feed, feed_chunk};
 use outcome::now::{Outcome, outcome_now};
 use outcome::whole::outcome_of;
+use std::io::Stdout;
 use tables::fresh::fresh;
 
 // Prints an outcome, and returns how long the sheet is.
-fn told(o: Outcome) -> usize {
-    say_outcome(o);
+fn told(stdout: Stdout, o: Outcome) -> usize {
+    say_outcome(stdout, o);
     o.length
 }
 
 // Calls the function that a word names, prints what it answers, and returns how many bytes of the output are the sheet.
 fn call_named(
+    stdout: Stdout,
     names: &mut [u8],
     nums: &mut [u32],
     ticks: &mut [u64],
@@ -26,26 +28,26 @@ fn call_named(
     text: &[u8],
 ) -> usize {
     if word == FRESH {
-        say_answer(fresh(names, nums, ticks));
+        say_answer(stdout, fresh(names, nums, ticks));
         return 0;
     }
     if word == FEED {
-        say_answer(feed(names, nums, ticks, text));
+        say_answer(stdout, feed(names, nums, ticks, text));
         return 0;
     }
     if word == CHUNK {
-        say_fed(feed_chunk(names, nums, ticks, text));
+        say_fed(stdout, feed_chunk(names, nums, ticks, text));
         return 0;
     }
     if word == TRACE {
-        return told(outcome_of(names, nums, ticks, rest_of(text), out));
+        return told(stdout, outcome_of(names, nums, ticks, rest_of(text), out));
     }
-    told(outcome_now(names, nums, ticks, out))
+    told(stdout, outcome_now(names, nums, ticks, out))
 }
 
 // Lends the first entries of copies of the buffers, and compares the copies with the buffers, the entries that were not lent too: none of those may
 // change either. So it is with the output, of which as many bytes are lent as the step says.
-pub(crate) fn run_call(t: Buffers, word: u64, step: &[u8]) -> Buffers {
+pub(crate) fn run_call(stdout: Stdout, t: Buffers, word: u64, step: &[u8]) -> Buffers {
     let mut names = t.names;
     let mut nums = t.nums;
     let mut ticks = t.ticks;
@@ -55,8 +57,9 @@ pub(crate) fn run_call(t: Buffers, word: u64, step: &[u8]) -> Buffers {
     let b = at_most(t.nums_lent, NUMS_ROOM);
     let c = at_most(t.ticks_lent, TICKS_ROOM);
     let d = at_most(n.first as usize, OUTPUT_ROOM);
-    say(first_of(step));
+    say(stdout, first_of(step));
     let length = call_named(
+        stdout,
         &mut names[0..a],
         &mut nums[0..b],
         &mut ticks[0..c],
@@ -72,7 +75,7 @@ pub(crate) fn run_call(t: Buffers, word: u64, step: &[u8]) -> Buffers {
         nums_lent: b,
         ticks_lent: c,
     };
-    say_change(same_buffers(t, after));
-    say_output(out, length, word);
+    say_change(stdout, same_buffers(t, after));
+    say_output(stdout, out, length, word);
     after
 }

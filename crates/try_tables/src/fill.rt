@@ -3,6 +3,7 @@ use crate::buffers::{Buffers, NAMES_ROOM, NUMS_ROOM, TICKS_ROOM};
 use crate::say::say_done;
 use crate::step::Numbers;
 use crate::word::{NAMES, NUMS, TICKS};
+use std::io::Stdout;
 use text::put::room;
 
 // Stores v in n entries from an entry on; false where there are no such entries.
@@ -43,7 +44,7 @@ fn fill_ticks(s: &mut [u64; TICKS_ROOM], from: usize, n: usize, v: u64) -> bool 
 }
 
 // Stores what a step says in the buffer that its word names; a value is taken modulo the width of its entry.
-pub(crate) fn store(t: Buffers, word: u64, n: Numbers) -> Buffers {
+pub(crate) fn store(stdout: Stdout, t: Buffers, word: u64, n: Numbers) -> Buffers {
     let mut r = t;
     let from = n.first as usize;
     let many = n.third as usize;
@@ -55,6 +56,6 @@ pub(crate) fn store(t: Buffers, word: u64, n: Numbers) -> Buffers {
     } else if word == TICKS {
         done = fill_ticks(&mut r.ticks, from, many, n.second);
     }
-    say_done(done);
+    say_done(stdout, done);
     r
 }

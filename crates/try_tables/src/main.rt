@@ -30,44 +30,45 @@ use crate::fill::store;
 use crate::say::say_line;
 use crate::step::{end_lines, first_of, numbers_of};
 use crate::word::{REMARK, SIZES, is_call, word_number};
-use libc::STDIN_FILENO;
+use intake::read_full;
+use std::io::Stdout;
 use text::bytes::find;
 
 // Runs a step, and returns the buffers after it.
-fn run_step(t: Buffers, step: &[u8]) -> Buffers {
+fn run_step(stdout: Stdout, t: Buffers, step: &[u8]) -> Buffers {
     let word = word_number(first_of(step));
     if word == REMARK {
-        say_line(step);
+        say_line(stdout, step);
         return t;
     }
     if word == SIZES {
-        return resized(t, numbers_of(step));
+        return resized(stdout, t, numbers_of(step));
     }
     if is_call(word) {
-        return run_call(t, word, step);
+        return run_call(stdout, t, word, step);
     }
-    store(t, word, numbers_of(step))
+    store(stdout, t, word, numbers_of(step))
 }
 
 // Runs the step that a line holds.
-fn run_line(t: Buffers, line: &mut [u8]) -> Buffers {
+fn run_line(stdout: Stdout, t: Buffers, line: &mut [u8]) -> Buffers {
     end_lines(line);
-    run_step(t, line)
+    run_step(stdout, t, line)
 }
 
 // Runs every line of a script, on buffers that begin as zeros.
-fn run_script(s: &mut [u8]) {
+fn run_script(stdout: Stdout, s: &mut [u8]) {
     let mut t = zeros();
     let mut at = 0;
     while at < s.len() {
         let end = find(s, b'\n', at);
-        t = run_line(t, &mut s[at..end]);
+        t = run_line(stdout, t, &mut s[at..end]);
         at = end + 1;
     }
 }
 
-fn main() {
+fn main(rt: HostRuntime) {
     let mut input = [0u8; 65536];
-    let n = io::read_full(STDIN_FILENO, &mut input);
-    run_script(&mut input[0..n]);
+    let n = read_full(&mut rt.stdin(), &mut input);
+    run_script(rt.stdout(), &mut input[0..n]);
 }

@@ -3,6 +3,7 @@ use crate::buffers::at_most;
 use crate::say::say;
 use crate::word::SHEET;
 use outcome::now::SHEET_MOST;
+use std::io::Stdout;
 use text::bytes::same;
 
 // One byte more than any sheet has, so that one is left that is not lent.
@@ -14,14 +15,14 @@ pub(crate) fn blank() -> [u8; OUTPUT_ROOM] {
 }
 
 // Ends the line that tells of a call: no byte past the sheet may change, those that were not lent too. Then the sheet, where it is to be printed.
-pub(crate) fn say_output(out: [u8; OUTPUT_ROOM], length: usize, word: u64) {
+pub(crate) fn say_output(stdout: Stdout, out: [u8; OUTPUT_ROOM], length: usize, word: u64) {
     let before = blank();
     let end = at_most(length, OUTPUT_ROOM);
     if !same(&out[end..], &before[end..]) {
-        say(b" output changed");
+        say(stdout, b" output changed");
     }
-    say(b"\n");
+    say(stdout, b"\n");
     if word == SHEET {
-        say(&out[0..end]);
+        say(stdout, &out[0..end]);
     }
 }
