@@ -1,5 +1,4 @@
 -- `decide::cores::names_row` meets its contract: a state below 2 names no row, and any other the row that is 2 less.
-use borrow.Author.Rules.{rules}
 use Rattle.decide.proofs.Counts.{row_named, row_unnamed}
 use Rattle.decide.proofs.cores.names_row.Goals as goal
 

@@ -1,10 +1,4 @@
 -- `decide::plan::decide_steps` meets its contract: the chart first, then the tests in the order of their numbers.
-use borrow.Author.Rules.{rules}
-use mathlib.Core.Path.{◌≡◌, sym, ◌∙◌}
-use Rattle.rules.specs.Charts.{chart_of}
-use Rattle.steps.specs.Rows.{move_by}
-use Rattle.steps.specs.declared.chart.Move.TheVariants.{To}
-use Rattle.decide.specs.Known.{state_in}
 use Rattle.decide.specs.PlanCode.{steps_plan}
 use Rattle.decide.proofs.plan.decide_steps.Goals as goal
 
@@ -24,7 +18,9 @@ pub returns-then-core_broken : goal.returns-then-core_broken
 unfolding steps_plan
 returns-then-core_broken c =
     rw (
-      ← c.state_in.ensures, ← c.chart_step-m.ensures, c.in-To.is,
+      ← c.state_in.ensures,
+      ← c.chart_step-m.ensures,
+      c.in-To.is,
       ← c.never_activated.ensures,
       c.if-never_activated.false,
       ← c.not_next.ensures,
@@ -37,7 +33,9 @@ pub returns-then-count_broken : goal.returns-then-count_broken
 unfolding steps_plan
 returns-then-count_broken c =
     rw (
-      ← c.state_in.ensures, ← c.chart_step-m.ensures, c.in-To.is,
+      ← c.state_in.ensures,
+      ← c.chart_step-m.ensures,
+      c.in-To.is,
       ← c.never_activated.ensures,
       c.if-never_activated.false,
       ← c.not_next.ensures,
@@ -52,7 +50,9 @@ pub returns : goal.returns
 unfolding steps_plan
 returns c =
     rw (
-      ← c.state_in.ensures, ← c.chart_step-m.ensures, c.in-To.is,
+      ← c.state_in.ensures,
+      ← c.chart_step-m.ensures,
+      c.in-To.is,
       ← c.never_activated.ensures,
       c.if-never_activated.false,
       ← c.not_next.ensures,

@@ -1,7 +1,5 @@
 -- `decide::room::no_room` meets its contract: a row at most is added to the names and to the cores, so that no sum wraps.
-use Prim.Native.Nat.{◌≤◌}
 use native.Mathlib.Omega.{arith}
-use borrow.Author.Rules.{rules}
 use borrow.Author.Tests.{lt-ltb, le-ltb, lt-leb, le-leb}
 use Rattle.text.specs.Sizes.{name_limit, core_limit}
 use Rattle.rules.specs.Limits.{instance_limit}

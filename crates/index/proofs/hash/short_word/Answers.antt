@@ -1,5 +1,5 @@
 -- `index::hash::short_word` meets its contract: the bytes that a name does not have count 0.
-use Rattle.std.proofs.Common.{◌≤◌, length, arith, rules}
+use Rattle.std.proofs.Common.{◌≤◌, length, arith}
 use Rattle.index.specs.Hash.{word}
 use Rattle.index.proofs.Folds.{past}
 use Rattle.index.proofs.hash.short_word.Goals as goal

@@ -1,10 +1,5 @@
-use mathlib.Core.Path.{◌≡◌}
-use Prim.Native.Nat.{◌+◌, ◌-◌, ◌≤◌}
 use native.Mathlib.Omega.{arith}
-use lib.ListN.{drop}
 use borrow.Author.Rules.{rules}
-use Rattle.tables.specs.Entry.{place_rows}
-use Rattle.index.specs.Taken.{taken_places}
 use Rattle.index.proofs.Tally.{turn_taken, turn_free, taken_end}
 use Rattle.ranges.proofs.placed.taken_places.Goals as goal
 use Rattle.ranges.proofs.placed.taken_places.Goals.{then-index-p-ne0, else-index-p-ne0}
@@ -13,8 +8,8 @@ pub loop-p-preserved : goal.loop-p-preserved
 loop-p-preserved c =
     let index = c.args.index.now in
     elim c.if-index-p-ne0.branch [
-    | then-index-p-ne0 w ↦ (search rules, (search rules, omega (arith, turn_taken index c.loop-p.p (omega arith) w.if-index-p-ne0.true)))
-    | else-index-p-ne0 w ↦ (search rules, (search rules, omega (arith, turn_free index c.loop-p.p (omega arith) w.if-index-p-ne0.false)))
+      | then-index-p-ne0 w ↦ (search rules, (search rules, omega (arith, turn_taken index c.loop-p.p (omega arith) w.if-index-p-ne0.true)))
+      | else-index-p-ne0 w ↦ (search rules, (search rules, omega (arith, turn_free index c.loop-p.p (omega arith) w.if-index-p-ne0.false)))
     ]
 
 pub returns : goal.returns

@@ -1,5 +1,4 @@
 -- `place::first_answer` meets its contract: each arm gives the definition's number.
-use borrow.Author.Rules.{rules}
 use borrow.Author.Tests.{eq-eqb, ne_eqb}
 use Rattle.steps.proofs.place.first_answer.Goals as goal
 

@@ -1,5 +1,4 @@
 -- `place::later_answer` meets its contract: each arm gives the definition's number.
-use borrow.Author.Rules.{rules}
 use Rattle.steps.proofs.place.later_answer.Goals as goal
 
 pub returns-in-Version : goal.returns-in-Version

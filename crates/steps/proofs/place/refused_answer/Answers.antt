@@ -1,5 +1,4 @@
 -- `place::refused_answer` meets its contract: the test made is the definition's.
-use borrow.Author.Rules.{rules}
 use borrow.Author.Tests.{le-leb, lt-leb}
 use Rattle.steps.proofs.place.refused_answer.Goals as goal
 
