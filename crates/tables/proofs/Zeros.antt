@@ -20,22 +20,6 @@ pub record Zeroed (d s : List ℕ) (i : ℕ) : Type 0 where
   pub front : s ≡ replicate i 0 ++ drop i d
   pub as_long : length s ≡ length d
 
-pub zero_none : (d : List ℕ) → Zeroed d d 0
-zero_none d = record { inside = omega arith; front = fill_none d 0; as_long = refl }
-
-pub zero_more : {d s : List ℕ} {i : ℕ} → Zeroed d s i → i < length d → Zeroed d (set s i 0) (i + 1)
-zero_more {d} {s} {i} z h =
-    record {
-      inside = omega arith;
-      front = ap (λ (l : List ℕ). set l i 0) z.front ∙ fill_more i 0 d h;
-      as_long = simp length-set z.as_long;
-    }
-
-pub zero_all : {d s : List ℕ} {i : ℕ} → Zeroed d s i → length d ≤ i → s ≡ replicate (length d) 0
-zero_all {d} {s} {i} z h =
-    let e : i ≡ length d = omega arith in
-    z.front ∙ rw (e, drop-length d) (append-nil (replicate (length d) 0))
-
 -- ---- tables of zeros
 
 abbrev pub zeros : ℕ → List ℕ
