@@ -1,13 +1,11 @@
 -- A fresh start: the loop that zeroes a table, tables of zeros, and what `fresh` answers.
-use mathlib.Core.Path.{◌≡◌, refl, ap, ◌∙◌}
+use mathlib.Core.Path.{◌≡◌, refl, ap}
 use mathlib.Core.Bool.{Bool, true, false, cond}
-use mathlib.Core.List.{List, ◌++◌, append-nil}
+use mathlib.Core.List.{List, ◌++◌}
 use mathlib.Core.Logic.{◌⊎◌, inl, inr, ⊎_elim}
-use Prim.Native.Nat.{ℕ, zero, suc, ◌+◌, ◌≤◌, ◌<◌}
+use Prim.Native.Nat.{ℕ, zero, suc, ◌≤◌}
 use native.Mathlib.Omega.{arith}
-use lib.ListN.{length, get_or, set, drop, replicate, length-set, length-replicate}
-use lib.Seq.{drop-length}
-use borrow.Author.Fill.{fill_none, fill_more}
+use lib.ListN.{length, get_or, drop, replicate, length-replicate}
 use Rattle.tables.specs.Entry.{names_size, nums_size, ticks_size}
 use Rattle.tables.specs.Sized.{is_sized}
 use Rattle.tables.specs.Fresh.{Cleared, cleared, cleared_of}

@@ -1,10 +1,7 @@
 -- `decide::room::no_room` meets its contract: a row at most is added to the names and to the cores, so that no sum wraps.
-use native.Mathlib.Omega.{arith}
 use borrow.Author.Tests.{lt-ltb, le-ltb, lt-leb, le-leb}
 use Rattle.text.specs.Sizes.{name_limit, core_limit}
 use Rattle.rules.specs.Limits.{instance_limit}
-use Rattle.tables.specs.Entry.{names_index, cores_index}
-use Rattle.lookup.proofs.Added.{one_at_most, one_core}
 use Rattle.decide.specs.PlanCode.{no_room_in}
 use Rattle.decide.proofs.room.no_room.Goals as goal
 

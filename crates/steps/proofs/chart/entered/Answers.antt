@@ -1,6 +1,5 @@
-use mathlib.Core.Path.{refl, sym, ◌∙◌}
+use mathlib.Core.Path.{sym, ◌∙◌}
 use native.Mathlib.Omega.{arith}
-use borrow.Author.Rules.{rules}
 use Rattle.steps.proofs.Rows.{row_turn, row_end}
 use Rattle.steps.proofs.chart.entered.Goals as goal
 
