@@ -15,9 +15,6 @@ use Rattle.text.proofs.Words.{eq_same, other_byte, back_turn}
 module _ (s t : List ℕ) where
   -- ---- eight bytes looked at together
 
-  pub eight_start : (at : ℕ) → drop (at + 0) s ≡ drop (at + 0) t → drop at s ≡ drop at t
-  eight_start at d = let n : at + 0 ≡ at = omega arith in rw n at d
-
   -- where two bytes differ, so do the lists
   pub eight_other : (i : ℕ) (differ : Bool) → (differ ≡ true → same_bytes s t ≡ false) → differ || not (eqb (get_or s i 0) (get_or t i 0)) ≡ true → same_bytes s t ≡ false
   eight_other i true so e = so refl

@@ -1,13 +1,11 @@
 -- A fresh start: the loop that zeroes a table, tables of zeros, and what `fresh` answers.
-use mathlib.Core.Path.{◌≡◌, refl, ap, ◌∙◌}
+use mathlib.Core.Path.{◌≡◌, refl, ap}
 use mathlib.Core.Bool.{Bool, true, false, cond}
-use mathlib.Core.List.{List, ◌++◌, append-nil}
+use mathlib.Core.List.{List, ◌++◌}
 use mathlib.Core.Logic.{◌⊎◌, inl, inr, ⊎_elim}
-use Prim.Native.Nat.{ℕ, zero, suc, ◌+◌, ◌≤◌, ◌<◌}
+use Prim.Native.Nat.{ℕ, zero, suc, ◌≤◌}
 use native.Mathlib.Omega.{arith}
-use lib.ListN.{length, get_or, set, drop, replicate, length-set, length-replicate}
-use lib.Seq.{drop-length}
-use borrow.Author.Fill.{fill_none, fill_more}
+use lib.ListN.{length, get_or, drop, replicate, length-replicate}
 use Rattle.tables.specs.Entry.{names_size, nums_size, ticks_size}
 use Rattle.tables.specs.Sized.{is_sized}
 use Rattle.tables.specs.Fresh.{Cleared, cleared, cleared_of}
@@ -19,22 +17,6 @@ pub record Zeroed (d s : List ℕ) (i : ℕ) : Type 0 where
   pub inside : i ≤ length d
   pub front : s ≡ replicate i 0 ++ drop i d
   pub as_long : length s ≡ length d
-
-pub zero_none : (d : List ℕ) → Zeroed d d 0
-zero_none d = record { inside = omega arith; front = fill_none d 0; as_long = refl }
-
-pub zero_more : {d s : List ℕ} {i : ℕ} → Zeroed d s i → i < length d → Zeroed d (set s i 0) (i + 1)
-zero_more {d} {s} {i} z h =
-    record {
-      inside = omega arith;
-      front = ap (λ (l : List ℕ). set l i 0) z.front ∙ fill_more i 0 d h;
-      as_long = simp length-set z.as_long;
-    }
-
-pub zero_all : {d s : List ℕ} {i : ℕ} → Zeroed d s i → length d ≤ i → s ≡ replicate (length d) 0
-zero_all {d} {s} {i} z h =
-    let e : i ≡ length d = omega arith in
-    z.front ∙ rw (e, drop-length d) (append-nil (replicate (length d) 0))
 
 -- ---- tables of zeros
 

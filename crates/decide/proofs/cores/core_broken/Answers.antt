@@ -1,5 +1,4 @@
 -- `decide::cores::core_broken` meets its contract: a line of no class breaks nothing, and any other by what is looked up for it.
-use borrow.Author.Rules.{rules}
 use borrow.Author.Tests.{eq-eqb, ne_eqb}
 use Rattle.rules.specs.Core.{no_core}
 use Rattle.decide.specs.PlanCode.{core_broken_in}

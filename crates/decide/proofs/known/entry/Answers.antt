@@ -1,5 +1,4 @@
 -- `decide::known::entry` meets its contract: 0 without a row or for a row past the column, else the entry.
-use borrow.Author.Rules.{rules}
 use borrow.Author.Tests.{lt-ltb, le-ltb}
 use Rattle.decide.specs.Known.{entry_of}
 use Rattle.decide.proofs.known.entry.Goals as goal

@@ -1,5 +1,4 @@
 -- `decide::known::state_in` meets its contract: a semaphore's state stands with its name, an instance's with the instance.
-use borrow.Author.Rules.{rules}
 use borrow.Author.Tests.{eq-eqb, ne_eqb}
 use Rattle.rules.specs.Words.{semaphore}
 use Rattle.decide.specs.Known.{state_in}

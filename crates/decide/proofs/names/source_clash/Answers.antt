@@ -1,5 +1,4 @@
 -- `decide::names::source_clash` meets its contract: at each exit the tests passed say what the definition's tests say.
-use borrow.Author.Rules.{rules}
 use borrow.Author.Tests.{eq-eqb, ne_eqb}
 use Rattle.rules.specs.Core.{no_core}
 use Rattle.decide.specs.PlanCode.{source_clash_in}

@@ -1,6 +1,4 @@
 -- `decide::names::target_clash` meets its contract: only a tracked target can clash.
-use borrow.Author.Rules.{rules}
-use borrow.Author.Tests.{not-true, not-false}
 use Rattle.decide.specs.PlanCode.{target_clash_in}
 use Rattle.decide.proofs.names.target_clash.Goals as goal
 

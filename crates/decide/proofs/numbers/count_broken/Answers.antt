@@ -1,6 +1,5 @@
 -- `decide::numbers::count_broken` meets its contract: at each exit the tests passed say what the definition's tests say.
-use borrow.Author.Rules.{rules}
-use borrow.Author.Tests.{eq-eqb, ne_eqb, not-true, not-false}
+use borrow.Author.Tests.{eq-eqb, ne_eqb}
 use Rattle.rules.specs.Words.{semaphore}
 use Rattle.decide.specs.PlanCode.{count_broken_in}
 use Rattle.decide.proofs.numbers.count_broken.Goals as goal

@@ -1,5 +1,4 @@
 -- `decide::numbers::count_fits` meets its contract: three words fix the count, and the others have a least one.
-use borrow.Author.Rules.{rules}
 use borrow.Author.Tests.{ne_eqb}
 use Rattle.rules.specs.Refusals.{count_allowed}
 use Rattle.rules.specs.Words.{free, unlock, lock}

@@ -1,5 +1,4 @@
 -- `decide::numbers::count_follows` meets its contract: at each exit the tests passed say which case of the definition it is.
-use borrow.Author.Rules.{rules}
 use borrow.Author.Tests.{eq-eqb, ne_eqb}
 use Rattle.decide.specs.PlanCode.{count_follows_in}
 use Rattle.rules.specs.Words.{increment, decrement}

@@ -1,12 +1,6 @@
 -- `decide::numbers::is_next` meets its contract: of the first activation what the rows say of the number, and else the last number plus 1.
 use Rattle.std.proofs.Common.{sym, ◌∙◌}
-use mathlib.Core.Path.{◌≡◌}
-use mathlib.Core.Bool.{true, false}
-use lib.Dec.{eqb}
-use borrow.Author.Rules.{rules}
 use borrow.Author.Tests.{not-true, not-false}
-use Rattle.tables.proofs.Chains.{passed, failed}
-use Rattle.decide.specs.Known.{numbered_in}
 use Rattle.decide.specs.PlanCode.{is_next_in}
 use Rattle.decide.proofs.numbers.is_next.Goals as goal
 

@@ -1,12 +1,8 @@
 -- `decide::numbers::never_activated` meets its contract: at each exit the tests passed say what the definition's tests say.
-use mathlib.Core.Path.{◌≡◌, sym, ap, ◌∙◌}
-use mathlib.Core.Bool.{true, not}
-use lib.Dec.{eqb}
-use borrow.Author.Rules.{rules}
+use mathlib.Core.Path.{sym, ap, ◌∙◌}
+use mathlib.Core.Bool.{not}
 use borrow.Author.Tests.{eq-eqb, ne_eqb}
-use Rattle.rules.specs.History.{has_instances, activates}
-use Rattle.tables.proofs.Chains.{pass, stop, passed, failed}
-use Rattle.decide.specs.Known.{state_in}
+use Rattle.tables.proofs.Chains.{pass, stop}
 use Rattle.decide.specs.PlanCode.{never_activated_in}
 use Rattle.decide.proofs.numbers.never_activated.Goals as goal
 

@@ -2,8 +2,7 @@
 use Rattle.std.proofs.Common.{sym, ◌∙◌}
 use mathlib.Core.Bool.{not}
 use mathlib.Core.Path.{ap}
-use borrow.Author.Rules.{rules}
-use Rattle.tables.proofs.Chains.{pass, stop, passed, failed}
+use Rattle.tables.proofs.Chains.{pass, stop}
 use Rattle.decide.specs.PlanCode.{not_next_in}
 use Rattle.decide.proofs.numbers.not_next.Goals as goal
 

@@ -1,7 +1,6 @@
 -- `decide::numbers::reaches_first` meets its contract: without a number none is reached, and else the first one is compared.
 use Rattle.std.proofs.Common.{sym, ◌∙◌}
-use borrow.Author.Rules.{rules}
-use Rattle.tables.proofs.Chains.{pass, stop, passed, failed}
+use Rattle.tables.proofs.Chains.{pass, stop}
 use Rattle.decide.specs.PlanCode.{reaches_first}
 use Rattle.decide.proofs.numbers.reaches_first.Goals as goal
 

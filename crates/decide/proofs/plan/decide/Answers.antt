@@ -1,7 +1,5 @@
 -- `decide::plan::decide` meets its contract: 15 by the sizes, else what tables of the right sizes say.
 use Rattle.std.proofs.Common.{sym, ◌∙◌}
-use borrow.Author.Rules.{rules}
-use Rattle.tables.proofs.Chains.{passed, failed}
 use Rattle.tables.proofs.Sizes.{sizes_mean}
 use Rattle.decide.specs.Decide.{decided}
 use Rattle.decide.proofs.plan.decide.Goals as goal

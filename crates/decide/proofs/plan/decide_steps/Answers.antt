@@ -1,10 +1,4 @@
 -- `decide::plan::decide_steps` meets its contract: the chart first, then the tests in the order of their numbers.
-use borrow.Author.Rules.{rules}
-use mathlib.Core.Path.{◌≡◌, sym, ◌∙◌}
-use Rattle.rules.specs.Charts.{chart_of}
-use Rattle.steps.specs.Rows.{move_by}
-use Rattle.steps.specs.declared.chart.Move.TheVariants.{To}
-use Rattle.decide.specs.Known.{state_in}
 use Rattle.decide.specs.PlanCode.{steps_plan}
 use Rattle.decide.proofs.plan.decide_steps.Goals as goal
 

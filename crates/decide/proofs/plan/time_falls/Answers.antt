@@ -1,5 +1,4 @@
 -- `decide::plan::time_falls` meets its contract: no time falls before the first event line.
-use borrow.Author.Rules.{rules}
 use borrow.Author.Tests.{eq-eqb, ne_eqb}
 use Rattle.decide.specs.PlanCode.{time_falls_in}
 use Rattle.decide.proofs.plan.time_falls.Goals as goal

@@ -1,6 +1,5 @@
 -- `forms::date::days_in` meets its contract: the code's table is the definition's, but for February, which the year decides.
 use mathlib.Core.Path.{sym}
-use borrow.Author.Rules.{rules}
 use Rattle.forms.specs.Date.{days_in}
 use Rattle.forms.proofs.Dates.{no_month, other_month}
 use Rattle.forms.proofs.date.days_in.Goals as goal

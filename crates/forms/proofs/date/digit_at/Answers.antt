@@ -1,6 +1,5 @@
 -- `forms::date::digit_at` meets its contract: a byte is below 256, and one below `0` leaves no digit.
 use native.Mathlib.Omega.{arith}
-use borrow.Author.Rules.{rules}
 use Rattle.forms.specs.Date.{digit_at}
 use Rattle.forms.proofs.date.digit_at.Goals as goal
 

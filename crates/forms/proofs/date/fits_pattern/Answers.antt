@@ -1,9 +1,5 @@
-use mathlib.Core.Path.{◌≡◌, refl, sym, ◌∙◌}
-use Prim.Native.Nat.{◌-◌, ◌≤◌}
+use mathlib.Core.Path.{sym, ◌∙◌}
 use native.Mathlib.Omega.{arith}
-use borrow.Author.Tests.{not-true, not-false}
-use lib.ListN.{length, drop}
-use Rattle.forms.specs.Date.{fits_pattern}
 use Rattle.forms.proofs.Dates.{fits_other, fits_turn, fits_end}
 use Rattle.forms.proofs.date.fits_pattern.Goals as goal
 

@@ -1,11 +1,8 @@
 -- `forms::date::fits_pattern` meets its contract. The invariant: the slice fits the pattern where what is left of it from `i` fits what is left of the pattern.
-use mathlib.Core.Path.{◌≡◌, refl, sym, ◌∙◌}
+use mathlib.Core.Path.{◌≡◌}
 use Prim.Native.Nat.{◌-◌, ◌≤◌}
-use native.Mathlib.Omega.{arith}
-use borrow.Author.Tests.{not-true, not-false}
 use lib.ListN.{length, drop}
 use Rattle.forms.specs.Date.{fits_pattern}
-use Rattle.forms.proofs.Dates.{fits_other, fits_turn, fits_end}
 use Rattle.forms.proofs.date.fits_pattern.Given as goal
 
 abbrev pub invariant-loop-i : goal.invariant-loop-i

@@ -1,5 +1,4 @@
 -- `forms::date::real_day` meets its contract: the numbers read are those of the definition.
-use borrow.Author.Rules.{rules}
 use borrow.Author.Tests.{le-leb, lt-leb}
 use Rattle.forms.specs.Date.{is_day}
 use Rattle.forms.proofs.date.real_day.Goals as goal

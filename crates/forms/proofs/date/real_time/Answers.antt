@@ -1,5 +1,4 @@
 -- `forms::date::real_time` meets its contract: at each exit the tests passed say what the definition's tests say.
-use borrow.Author.Rules.{rules}
 use borrow.Author.Tests.{le-leb, lt-leb}
 use Rattle.forms.specs.Date.{is_time}
 use Rattle.forms.proofs.date.real_time.Goals as goal

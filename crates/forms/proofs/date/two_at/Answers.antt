@@ -1,6 +1,5 @@
 -- `forms::date::two_at` meets its contract: the two digits are those of the definition, each below 256.
 use native.Mathlib.Omega.{arith}
-use borrow.Author.Rules.{rules}
 use Rattle.forms.specs.Date.{two_at}
 use Rattle.forms.proofs.date.two_at.Goals as goal
 

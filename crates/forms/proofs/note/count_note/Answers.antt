@@ -1,7 +1,6 @@
 -- `forms::note::count_note` meets its contract: the number read is at most the greatest count, so that the cast keeps it.
 use mathlib.Core.Path.{sym, ◌∙◌}
 use native.Mathlib.Omega.{arith}
-use borrow.Author.Rules.{rules}
 use Rattle.text.proofs.Digits.{read_written}
 use Rattle.forms.specs.Note.{count_note}
 use Rattle.forms.proofs.note.count_note.Goals as goal

@@ -1,7 +1,5 @@
 -- `forms::note::decimal` meets its contract: the three exits are a value with no dot, a wrong front, and what stands after the dot.
 use mathlib.Core.Path.{◌∙◌}
-use borrow.Author.Rules.{rules}
-use borrow.Author.Tests.{not-true, not-false}
 use borrow.Author.Rules.{part_to_end}
 use Rattle.forms.proofs.Notes.{no_dot, at_dot}
 use Rattle.forms.proofs.note.decimal.Goals as goal

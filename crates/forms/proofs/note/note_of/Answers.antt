@@ -1,6 +1,5 @@
 -- `forms::note::note_of` meets its contract: an empty note is no note, and each arm says what the definition says at its type.
 use mathlib.Core.Path.{sym, ◌∙◌}
-use borrow.Author.Rules.{rules}
 use Rattle.forms.proofs.Notes.{empty_note, some_note}
 use Rattle.forms.proofs.note.note_of.Goals as goal
 

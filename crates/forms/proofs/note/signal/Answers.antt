@@ -1,6 +1,5 @@
 -- `forms::note::signal` meets its contract: the three exits are the cases of a value's first byte.
 use mathlib.Core.Path.{sym, ◌∙◌}
-use borrow.Author.Rules.{rules}
 use borrow.Author.Rules.{part_to_end}
 use Rattle.forms.proofs.Notes.{empty_signal, minus_signal, plain_signal}
 use Rattle.forms.proofs.note.signal.Goals as goal

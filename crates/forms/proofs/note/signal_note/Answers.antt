@@ -1,5 +1,4 @@
 -- `forms::note::signal_note` meets its contract: the test made is the definition's.
-use borrow.Author.Rules.{rules}
 use Rattle.forms.specs.Note.{signal_note}
 use Rattle.forms.proofs.note.signal_note.Goals as goal
 

@@ -1,7 +1,4 @@
 -- `forms::rule::note_broken` meets its contract: at set_event a note is required, and at any other event each arm says what its type asks.
-use mathlib.Core.Path.{◌≡◌}
-use borrow.Author.Rules.{rules}
-use Rattle.forms.specs.Rule.{presence_at, presence_broken, note_broken}
 use Rattle.forms.proofs.Rules.{note_set, note_other}
 use Rattle.forms.proofs.rule.note_broken.Goals as goal
 

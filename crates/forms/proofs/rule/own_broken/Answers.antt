@@ -1,8 +1,7 @@
 -- `forms::rule::own_broken` meets its contract: at each exit the tests passed say what the definition's tests say.
 use mathlib.Core.Path.{ap}
 use mathlib.Core.Bool.{not, and-true, and-false}
-use borrow.Author.Rules.{rules}
-use borrow.Author.Tests.{eq-eqb, ne_eqb, not-true, not-false}
+use borrow.Author.Tests.{eq-eqb, ne_eqb}
 use Rattle.forms.specs.Rule.{own_broken}
 use Rattle.forms.proofs.rule.own_broken.Goals as goal
 

@@ -1,5 +1,4 @@
 -- `forms::rule::rule_broken` meets its contract: the rules tested are the definition's.
-use borrow.Author.Rules.{rules}
 use Rattle.forms.specs.Rule.{rule_broken}
 use Rattle.forms.proofs.rule.rule_broken.Goals as goal
 

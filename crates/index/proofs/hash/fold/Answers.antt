@@ -1,4 +1,4 @@
-use Rattle.std.proofs.Common.{◌≡◌, ◌-◌, ◌/◌, ◌%◌, ◌<◌, length, refl, ◌∙◌, arith, rules}
+use Rattle.std.proofs.Common.{refl, ◌∙◌, arith}
 use Rattle.index.specs.Hash.{fours}
 use Rattle.index.proofs.Folds.{fold_short, fold_turn, fold_end}
 use Rattle.index.proofs.hash.fold.Goals as goal

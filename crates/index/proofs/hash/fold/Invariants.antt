@@ -1,7 +1,6 @@
 -- `index::hash::fold` meets its contract. The invariant: the fours before `i` are folded, and a byte is left.
-use Rattle.std.proofs.Common.{◌≡◌, ◌-◌, ◌/◌, ◌%◌, ◌<◌, length, refl, ◌∙◌, arith, rules}
+use Rattle.std.proofs.Common.{◌≡◌, ◌-◌, ◌/◌, ◌%◌, ◌<◌, length}
 use Rattle.index.specs.Hash.{fours}
-use Rattle.index.proofs.Folds.{fold_short, fold_turn, fold_end}
 use Rattle.index.proofs.hash.fold.Given as goal
 
 abbrev pub invariant-loop-i : goal.invariant-loop-i

@@ -1,5 +1,5 @@
 -- `index::hash::home_of` meets its contract: the upper bits of the fold.
-use Rattle.std.proofs.Common.{◌/◌, ◌^◌, ap, rules}
+use Rattle.std.proofs.Common.{◌/◌, ◌^◌, ap}
 use Rattle.index.specs.Hash.{home_of}
 use Rattle.index.proofs.hash.home_of.Goals as goal
 

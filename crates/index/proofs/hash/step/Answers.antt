@@ -1,5 +1,4 @@
 -- `index::hash::step` meets its contract: so many times the sum that wrapped.
-use Rattle.std.proofs.Common.{rules}
 use Rattle.index.proofs.Folds.{step_wraps}
 use Rattle.index.proofs.hash.step.Goals as goal
 

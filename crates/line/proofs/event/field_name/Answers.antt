@@ -1,8 +1,7 @@
 -- `line::event::field_name` meets its contract: the whole test, or the length alone where the bytes are known to be a name's.
 use mathlib.Core.Bool.{and-true}
 use native.Mathlib.Omega.{arith}
-use borrow.Author.Rules.{rules}
-use borrow.Author.Tests.{le-leb, lt-leb, not-false}
+use borrow.Author.Tests.{le-leb, lt-leb}
 use lib.ListN.{length}
 use Rattle.text.specs.Name.{is_name}
 use Rattle.line.proofs.event.field_name.Goals as goal

@@ -1,6 +1,5 @@
 -- `line::event::part` meets its contract.
 use native.Mathlib.Numerals.{add-one}
-use borrow.Author.Rules.{rules}
 use Rattle.fields.specs.Part.{part_from}
 use Rattle.line.proofs.event.part.Goals as goal
 

@@ -4,7 +4,7 @@ use mathlib.Core.Path.{◌≡◌}
 use Prim.Native.Nat.{◌-◌}
 use native.Mathlib.Omega.{arith}
 use borrow.Author.Rules.{rules}
-use Rattle.line.proofs.Events.{InOrder, in_order, time_ends, event_few, event_many, event_fields}
+use Rattle.line.proofs.Events.{in_order, time_ends, event_few, event_many, event_fields}
 use Rattle.line.proofs.Plain.{plain_fields}
 use Rattle.line.proofs.event.read_event.Goals as goal
 

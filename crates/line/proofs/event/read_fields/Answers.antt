@@ -1,9 +1,5 @@
 -- `line::event::read_fields` meets its contract: the names, then the numbers, then type and event, then what a known pair says.
-use mathlib.Core.Path.{◌≡◌, sym, ◌∙◌}
-use mathlib.Core.Bool.{true}
-use borrow.Author.Rules.{rules}
-use borrow.Author.Tests.{not-true, not-false}
-use Rattle.line.specs.Event.{has_names, fields_reading}
+use Rattle.line.specs.Event.{fields_reading}
 use Rattle.line.proofs.event.read_fields.Goals as goal
 
 pub returns-then-not-names : goal.returns-then-not-names

@@ -1,8 +1,4 @@
 -- `line::event::read_known` meets its contract: the note's form, then the rules.
-use mathlib.Core.Path.{◌≡◌, sym, ◌∙◌}
-use borrow.Author.Rules.{rules}
-use Rattle.forms.specs.declared.note.Note.TheVariants.{Means}
-use Rattle.forms.specs.Note.{note_of}
 use Rattle.line.specs.Event.{known_reading}
 use Rattle.line.proofs.event.read_known.Goals as goal
 

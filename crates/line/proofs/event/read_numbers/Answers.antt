@@ -1,13 +1,8 @@
 -- `line::event::read_numbers` meets its contract: the numbers are read in turn, and the first that is none decides. An instance is at most
 -- the greatest one, so that the cast keeps it.
-use mathlib.Core.Path.{◌≡◌, sym, ◌∙◌}
+use mathlib.Core.Path.{sym, ◌∙◌}
 use native.Mathlib.Omega.{arith}
-use borrow.Author.Rules.{rules}
-use Rattle.text.specs.Number.{number_of}
-use Rattle.text.specs.declared.number.Number.TheVariants.{Value}
-use Rattle.text.specs.Sizes.{max_time}
 use Rattle.text.proofs.Digits.{read_written}
-use Rattle.forms.specs.Note.{max_instance}
 use Rattle.line.specs.Event.{numbers_of}
 use Rattle.line.proofs.event.read_numbers.Goals as goal
 

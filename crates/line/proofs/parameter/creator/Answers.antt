@@ -1,6 +1,4 @@
 -- `line::parameter::creator` meets its contract: the tests made are the definition's.
-use borrow.Author.Rules.{rules}
-use borrow.Author.Tests.{not-true, not-false}
 use Rattle.line.specs.Parameter.{is_creator}
 use Rattle.line.proofs.parameter.creator.Goals as goal
 

@@ -1,5 +1,4 @@
 -- `line::parameter::read_other` meets its contract: the tests made are the definition's, in its order.
-use borrow.Author.Rules.{rules}
 use Rattle.line.specs.Parameter.{other_reading}
 use Rattle.line.proofs.parameter.read_other.Goals as goal
 

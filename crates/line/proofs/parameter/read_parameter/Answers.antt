@@ -1,5 +1,4 @@
 -- `line::parameter::read_parameter` meets its contract: the tests made are the definition's, in its order.
-use borrow.Author.Rules.{rules}
 use Rattle.line.specs.Parameter.{is_version, is_comment, parameter_reading}
 use Rattle.line.proofs.parameter.read_parameter.Goals as goal
 

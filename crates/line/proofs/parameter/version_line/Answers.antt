@@ -1,5 +1,4 @@
 -- `line::parameter::version_line` meets its contract: the tests made are the definition's.
-use borrow.Author.Rules.{rules}
 use Rattle.line.specs.Parameter.{is_version_line}
 use Rattle.line.proofs.parameter.version_line.Goals as goal
 

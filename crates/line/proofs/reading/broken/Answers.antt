@@ -1,6 +1,5 @@
 -- `line::reading::broken` meets its contract: a plain line has no break, and any other is looked through.
 use mathlib.Core.Path.{sym}
-use borrow.Author.Rules.{rules}
 use Rattle.line.proofs.Plain.{plain_whole}
 use Rattle.line.proofs.reading.broken.Goals as goal
 

@@ -1,6 +1,5 @@
 -- `line::reading::event_line` meets its contract: an empty line is an event line, and the first byte tells of any other.
 use mathlib.Core.Path.{sym}
-use borrow.Author.Rules.{rules}
 use Rattle.line.proofs.Lines.{empty_event, first_event}
 use Rattle.line.proofs.reading.event_line.Goals as goal
 

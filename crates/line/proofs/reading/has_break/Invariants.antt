@@ -1,11 +1,8 @@
 -- `line::reading::has_break` meets its contract. The invariant: a break stands in the line where one stands in what is left from `i`.
-use mathlib.Core.Path.{◌≡◌, refl, sym, ◌∙◌}
+use mathlib.Core.Path.{◌≡◌}
 use Prim.Native.Nat.{◌-◌, ◌≤◌}
-use native.Mathlib.Omega.{arith}
-use borrow.Author.Tests.{eq-eqb, ne_eqb}
 use lib.ListN.{length, drop}
 use Rattle.line.specs.Reading.{has_break}
-use Rattle.line.proofs.Lines.{break_turn, break_end}
 use Rattle.line.proofs.reading.has_break.Given as goal
 
 abbrev pub invariant-loop-i : goal.invariant-loop-i

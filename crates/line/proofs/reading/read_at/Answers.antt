@@ -1,10 +1,6 @@
 -- `line::reading::read_at` meets its contract: the length, then a break inside, then an event line or one that starts with `#`.
-use mathlib.Core.Path.{◌≡◌}
-use mathlib.Core.Bool.{false, ◌||◌}
-use lib.Dec.{ltb}
-use lib.ListN.{length}
 use borrow.Author.Tests.{lt-ltb, le-ltb}
-use Rattle.line.specs.Reading.{line_most, has_break, read_line}
+use Rattle.line.specs.Reading.{line_most, read_line}
 use Rattle.line.proofs.reading.read_at.Goals as goal
 
 pub returns-then-line-gt-LINE_MOST : goal.returns-then-line-gt-LINE_MOST

@@ -1,7 +1,6 @@
 -- `line::reading::read_next` meets its contract: what is told of the line before it is read is true of it.
 use mathlib.Core.Path.{sym, ◌∙◌}
 use native.Mathlib.Omega.{arith}
-use borrow.Author.Rules.{rules}
 use Rattle.fields.specs.Part.{part_from}
 use Rattle.scan.proofs.Nexts.{LineIs, line_is, rest_is}
 use Rattle.line.proofs.Lines.{next_over, next_read}

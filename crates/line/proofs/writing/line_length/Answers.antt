@@ -1,13 +1,8 @@
 -- `line::writing::line_length` meets its contract: the numbers, the words and the names with six commas, and the note with one more. No sum
 -- wraps, since the numbers and words have few bytes and names at most 64.
 use mathlib.Core.Path.{ap}
-use Prim.Native.Nat.{◌+◌, ◌≤◌}
 use native.Mathlib.Omega.{arith}
-use borrow.Author.Rules.{rules}
 use lib.ListN.{length}
-use Rattle.text.specs.Number.{digits_of}
-use Rattle.words.specs.Kind.{kind_word}
-use Rattle.words.specs.Action.{word_of}
 use Rattle.line.proofs.Texts.{words_short, length_text, note_none, note_some}
 use Rattle.line.proofs.writing.line_length.Goals as goal
 

@@ -1,5 +1,4 @@
 -- `line::writing::put_kind_field` meets its contract: the word of the type, and the comma after it, are put one after the other.
-use borrow.Author.Rules.{rules}
 use Rattle.text.proofs.Writes.{put_two}
 use Rattle.line.specs.Writing.{name_field}
 use Rattle.line.proofs.writing.put_kind_field.Goals as goal

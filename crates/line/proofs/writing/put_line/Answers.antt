@@ -1,12 +1,8 @@
 -- `line::writing::put_line` meets its contract: the fields are put one after another, and each has room since the line has.
-use mathlib.Core.List.{List}
-use Prim.Native.Nat.{ℕ}
 use native.Mathlib.Nat.{zero-add}
-use lib.ListN.{drop}
-use borrow.Author.Rules.{rules}
-use Rattle.text.proofs.Writes.{put_then, put_length}
+use Rattle.text.proofs.Writes.{put_then}
 use Rattle.line.specs.Writing.{text_of}
-use Rattle.line.proofs.Texts.{fields_of, Room, all_room, first_room, next_room}
+use Rattle.line.proofs.Texts.{all_room, first_room, next_room}
 use Rattle.line.proofs.writing.put_line.Goals as goal
 
 pub put_number_field-a2-requires : goal.put_number_field-a2-requires

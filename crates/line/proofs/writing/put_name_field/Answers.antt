@@ -1,5 +1,4 @@
 -- `line::writing::put_name_field` meets its contract: the name, and the comma after it, are put one after the other.
-use borrow.Author.Rules.{rules}
 use Rattle.text.proofs.Writes.{put_two}
 use Rattle.line.specs.Writing.{name_field}
 use Rattle.line.proofs.writing.put_name_field.Goals as goal

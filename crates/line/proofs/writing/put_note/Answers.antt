@@ -1,6 +1,5 @@
 -- `line::writing::put_note` meets its contract: for an empty note nothing is put, and otherwise a comma and the note.
 use mathlib.Core.Path.{sym}
-use borrow.Author.Rules.{rules}
 use Rattle.text.proofs.Writes.{put_two}
 use Rattle.line.proofs.Texts.{note_none, note_some, put_none}
 use Rattle.line.proofs.writing.put_note.Goals as goal

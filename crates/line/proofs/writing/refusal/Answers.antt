@@ -1,14 +1,7 @@
 -- `line::writing::refusal` meets its contract: the tests are made in the order in which the lowest number wins. The instances have their
 -- size by their type.
-use mathlib.Core.Path.{◌≡◌}
 use native.Mathlib.Omega.{arith}
-use borrow.Author.Rules.{rules}
-use borrow.Author.Tests.{not-true, not-false}
-use Rattle.words.specs.Action.{is_of}
-use Rattle.forms.specs.Note.{note_of, is_wrong}
-use Rattle.forms.specs.Rule.{rule_broken}
-use Rattle.line.specs.Writing.{has_sizes, record_refusal}
-use Rattle.line.proofs.Texts.{refused_by, record_refusal_lem}
+use Rattle.line.proofs.Texts.{record_refusal_lem}
 use Rattle.line.proofs.writing.refusal.Goals as goal
 
 pub returns-then-not-sizes : goal.returns-then-not-sizes

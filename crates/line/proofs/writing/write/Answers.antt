@@ -1,6 +1,5 @@
 -- `line::writing::write` meets its contract: a refused record and one that does not fit leave the output as it was, and any other is put.
 use mathlib.Core.Path.{sym, ◌∙◌}
-use borrow.Author.Rules.{rules}
 use Rattle.line.specs.Writing.{write_line}
 use Rattle.line.proofs.Texts.{accepted_sizes, sized_lengths, write_refused, write_full, write_done}
 use Rattle.line.proofs.writing.write.Goals as goal

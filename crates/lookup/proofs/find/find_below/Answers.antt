@@ -1,9 +1,7 @@
-use mathlib.Core.Path.{◌≡◌, refl, sym, ◌∙◌}
-use Prim.Native.Nat.{◌-◌, ◌%◌, ◌≤◌}
+use mathlib.Core.Path.{sym, ◌∙◌}
+use Prim.Native.Nat.{◌-◌}
 use native.Mathlib.Omega.{arith}
 use borrow.Author.Rules.{rules}
-use Rattle.tables.specs.Entry.{instance_rows}
-use Rattle.lookup.specs.Find.{instance_is, last_below}
 use Rattle.lookup.proofs.Found.{last_end}
 use Rattle.lookup.proofs.Gathered.{last_marked, last_unmarked}
 use Rattle.lookup.proofs.find.find_below.Goals as goal

@@ -1,12 +1,8 @@
 -- `lookup::find::find_below` meets its contract. The invariant: the instance's last row below `to` is its last row below `at`.
-use mathlib.Core.Path.{◌≡◌, refl, sym, ◌∙◌}
-use Prim.Native.Nat.{◌-◌, ◌%◌, ◌≤◌}
-use native.Mathlib.Omega.{arith}
-use borrow.Author.Rules.{rules}
+use mathlib.Core.Path.{◌≡◌}
+use Prim.Native.Nat.{◌%◌, ◌≤◌}
 use Rattle.tables.specs.Entry.{instance_rows}
 use Rattle.lookup.specs.Find.{instance_is, last_below}
-use Rattle.lookup.proofs.Found.{last_end}
-use Rattle.lookup.proofs.Gathered.{last_marked, last_unmarked}
 use Rattle.lookup.proofs.find.find_below.Given as goal
 
 abbrev pub invariant-loop-at : goal.invariant-loop-at

@@ -1,9 +1,6 @@
-use mathlib.Core.Path.{◌≡◌, sym, ◌∙◌}
-use native.Mathlib.Omega.{arith}
-use borrow.Author.Rules.{rules}
+use mathlib.Core.Path.{sym, ◌∙◌}
 use borrow.Author.Tests.{ne_eqb}
-use Rattle.tables.specs.Entry.{instances_index}
-use Rattle.lookup.specs.Find.{reaches_in, last_below, find_from}
+use Rattle.lookup.specs.Find.{find_from}
 use Rattle.lookup.proofs.Found.{last_hit, last_miss, last_end, from_found}
 use Rattle.lookup.proofs.find.find_from.Goals as goal
 

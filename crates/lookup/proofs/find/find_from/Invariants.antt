@@ -1,11 +1,6 @@
 -- `lookup::find::find_from` meets its contract. The invariant: the last row that reaches the number is the last such row below `j`.
-use mathlib.Core.Path.{◌≡◌, sym, ◌∙◌}
-use native.Mathlib.Omega.{arith}
-use borrow.Author.Rules.{rules}
-use borrow.Author.Tests.{ne_eqb}
-use Rattle.tables.specs.Entry.{instances_index}
+use mathlib.Core.Path.{◌≡◌}
 use Rattle.lookup.specs.Find.{reaches_in, last_below, find_from}
-use Rattle.lookup.proofs.Found.{last_hit, last_miss, last_end, from_found}
 use Rattle.lookup.proofs.find.find_from.Given as goal
 
 abbrev pub invariant-loop-j : goal.invariant-loop-j

@@ -3,13 +3,10 @@
 use mathlib.Core.Path.{sym, ◌∙◌}
 use Prim.Native.Nat.{◌-◌, ◌*◌, ◌/◌}
 use native.Mathlib.Omega.{arith}
-use borrow.Author.Rules.{rules}
 use borrow.Author.Tests.{ne_eqb}
-use lib.Pow.{pow_pos}
-use Rattle.tables.specs.Entry.{instances_index}
 use Rattle.lookup.specs.Find.{find_instance}
 use Rattle.lookup.proofs.Found.{last_end}
-use Rattle.lookup.proofs.Gathered.{weight_of, front_marked, last_marked, last_unmarked, instance_below}
+use Rattle.lookup.proofs.Gathered.{front_marked, last_marked, last_unmarked, instance_below}
 use Rattle.lookup.proofs.find.find_instance.Goals as goal
 
 pub returns-then-nums-ne-NUMS_SIZE : goal.returns-then-nums-ne-NUMS_SIZE

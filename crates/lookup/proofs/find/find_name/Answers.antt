@@ -1,7 +1,6 @@
 -- `lookup::find::find_name` meets its contract: in tables of another size nothing is found, in others the search from the name's home is the answer.
 use mathlib.Core.Path.{sym, ap, ◌∙◌}
 use native.Mathlib.Omega.{arith}
-use borrow.Author.Rules.{rules}
 use borrow.Author.Tests.{eq-eqb, ne_eqb}
 use Rattle.tables.specs.Entry.{places}
 use Rattle.index.specs.Index.{sought}

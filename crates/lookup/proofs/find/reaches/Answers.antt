@@ -1,6 +1,5 @@
 -- `lookup::find::reaches` meets its contract: at each exit the tests passed say what the definition's tests say.
 use mathlib.Core.Path.{refl}
-use borrow.Author.Rules.{rules}
 use borrow.Author.Tests.{lt-ltb, le-ltb, lt-leb, le-leb}
 use Rattle.tables.proofs.Chains.{pass, stop}
 use Rattle.lookup.specs.Find.{reaches_in}

@@ -1,12 +1,6 @@
-use mathlib.Core.Path.{◌≡◌, sym, ◌∙◌}
-use Prim.Native.Nat.{◌-◌}
+use mathlib.Core.Path.{sym, ◌∙◌}
 use native.Mathlib.Omega.{arith}
-use borrow.Author.Rules.{rules}
-use Rattle.tables.specs.Entry.{place_rows}
-use Rattle.index.specs.Index.{place, sought}
-use Rattle.index.proofs.Right.{place_lt}
-use Rattle.lookup.specs.Find.{ends_at, row_met}
-use Rattle.lookup.proofs.Seeks.{met_from, seek_begin, seek_free, seek_hit, seek_miss, seek_end}
+use Rattle.lookup.proofs.Seeks.{seek_begin, seek_free, seek_hit, seek_miss, seek_end}
 use Rattle.lookup.proofs.find.seek.Goals as goal
 
 pub loop-d-init : goal.loop-d-init

@@ -1,13 +1,10 @@
 -- `lookup::find::seek` meets its contract. The invariant: what is found is what is found from the distance `d` on.
-use mathlib.Core.Path.{◌≡◌, sym, ◌∙◌}
+use mathlib.Core.Path.{◌≡◌}
 use Prim.Native.Nat.{◌-◌}
-use native.Mathlib.Omega.{arith}
-use borrow.Author.Rules.{rules}
 use Rattle.tables.specs.Entry.{place_rows}
-use Rattle.index.specs.Index.{place, sought}
-use Rattle.index.proofs.Right.{place_lt}
+use Rattle.index.specs.Index.{sought}
 use Rattle.lookup.specs.Find.{ends_at, row_met}
-use Rattle.lookup.proofs.Seeks.{met_from, seek_begin, seek_free, seek_hit, seek_miss, seek_end}
+use Rattle.lookup.proofs.Seeks.{met_from}
 use Rattle.lookup.proofs.find.seek.Given as goal
 
 abbrev pub invariant-loop-d : goal.invariant-loop-d

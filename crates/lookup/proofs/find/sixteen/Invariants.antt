@@ -1,13 +1,8 @@
 -- `lookup::find::sixteen` meets its contract. The invariant: `m` has the marks of the rows passed, and `w` is the weight of the next.
-use mathlib.Core.Path.{◌≡◌, refl}
-use Prim.Native.Nat.{◌+◌, ◌-◌, ◌^◌, ◌≤◌}
-use native.Mathlib.Omega.{arith}
-use borrow.Author.Rules.{rules}
-use lib.Pow.{pow_mono}
+use mathlib.Core.Path.{◌≡◌}
+use Prim.Native.Nat.{◌-◌, ◌^◌, ◌≤◌}
 use Rattle.marks.specs.Marks.{marks_from}
-use Rattle.marks.proofs.Lasts.{marks_lt}
 use Rattle.lookup.specs.Find.{instance_is}
-use Rattle.lookup.proofs.Gathered.{weight_next, row_marked}
 use Rattle.lookup.proofs.find.sixteen.Given as goal
 
 abbrev pub invariant-loop-k : goal.invariant-loop-k

@@ -1,11 +1,7 @@
-use mathlib.Core.Path.{◌≡◌}
-use mathlib.Core.Bool.{true, false}
-use Prim.Native.Nat.{◌+◌, ◌-◌, ◌≤◌}
+use Prim.Native.Nat.{◌+◌}
 use native.Mathlib.Omega.{arith}
 use borrow.Author.Rules.{rules}
-use lib.ListN.{length, drop}
-use Rattle.text.specs.Bytes.{same_bytes}
-use Rattle.lookup.proofs.Compared.{eight_start, eight_other, eight_turn}
+use Rattle.lookup.proofs.Compared.{eight_other, eight_turn}
 use Rattle.lookup.proofs.row.eight_differ.Goals as goal
 
 pub loop-k-preserved : goal.loop-k-preserved

@@ -3,11 +3,8 @@
 use mathlib.Core.Path.{◌≡◌}
 use mathlib.Core.Bool.{true, false}
 use Prim.Native.Nat.{◌+◌, ◌-◌, ◌≤◌}
-use native.Mathlib.Omega.{arith}
-use borrow.Author.Rules.{rules}
-use lib.ListN.{length, drop}
+use lib.ListN.{drop}
 use Rattle.text.specs.Bytes.{same_bytes}
-use Rattle.lookup.proofs.Compared.{eight_start, eight_other, eight_turn}
 use Rattle.lookup.proofs.row.eight_differ.Given as goal
 
 abbrev pub invariant-loop-k : goal.invariant-loop-k

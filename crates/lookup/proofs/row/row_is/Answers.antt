@@ -1,9 +1,6 @@
 -- `lookup::row::row_is` meets its contract: at each exit the tests passed say what the definition's tests say.
 use mathlib.Core.Path.{sym, ◌∙◌}
-use Prim.Native.Nat.{◌+◌}
 use native.Mathlib.Omega.{arith}
-use borrow.Author.Rules.{rules}
-use Rattle.tables.specs.Entry.{length_column}
 use Rattle.lookup.proofs.Found.{other_row, as_long}
 use Rattle.lookup.proofs.row.row_is.Goals as goal
 

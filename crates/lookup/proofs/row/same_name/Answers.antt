@@ -1,9 +1,4 @@
-use mathlib.Core.Path.{◌≡◌, sym}
-use Prim.Native.Nat.{◌+◌, ◌-◌, ◌≤◌}
 use native.Mathlib.Omega.{arith}
-use borrow.Author.Rules.{rules}
-use lib.ListN.{length, drop}
-use Rattle.text.proofs.Words.{back_start}
 use Rattle.lookup.proofs.Compared.{same_later, eight_end}
 use Rattle.lookup.proofs.row.same_name.Goals as goal
 

@@ -1,11 +1,7 @@
 -- `lookup::row::same_name` meets its contract. The invariant: from i + 8 on the slices are the same.
-use mathlib.Core.Path.{◌≡◌, sym}
-use Prim.Native.Nat.{◌+◌, ◌-◌, ◌≤◌}
-use native.Mathlib.Omega.{arith}
-use borrow.Author.Rules.{rules}
+use mathlib.Core.Path.{◌≡◌}
+use Prim.Native.Nat.{◌+◌, ◌≤◌}
 use lib.ListN.{length, drop}
-use Rattle.text.proofs.Words.{back_start}
-use Rattle.lookup.proofs.Compared.{same_later, eight_end}
 use Rattle.lookup.proofs.row.same_name.Given as goal
 
 abbrev pub invariant-loop-i : goal.invariant-loop-i

@@ -1,6 +1,5 @@
 -- `ranges::placed::home_at` meets its contract: the part of the names that is lent is the row's name.
 use mathlib.Core.Path.{ap, ◌∙◌}
-use borrow.Author.Rules.{rules}
 use Rattle.tables.proofs.NameBytes.{lent_name}
 use Rattle.index.specs.Hash.{home_of}
 use Rattle.index.specs.Index.{home_at}

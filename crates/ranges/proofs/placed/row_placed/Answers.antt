@@ -1,10 +1,7 @@
-use mathlib.Core.Path.{◌≡◌, refl, sym, ap, ◌∙◌}
-use Prim.Native.Nat.{◌-◌}
+use mathlib.Core.Path.{refl, sym, ap, ◌∙◌}
 use native.Mathlib.Numerals.{add-one}
 use native.Mathlib.Omega.{arith}
 use lib.Dec.{eqb}
-use borrow.Author.Rules.{rules}
-use Rattle.marks.specs.First.{first_of}
 use Rattle.marks.proofs.Firsts.{first_hit, first_miss, first_end}
 use Rattle.tables.specs.Entry.{place_rows}
 use Rattle.index.specs.Index.{place, entry}

@@ -1,10 +1,5 @@
-use mathlib.Core.Path.{◌≡◌}
-use Prim.Native.Nat.{◌+◌, ◌-◌, ◌≤◌}
 use native.Mathlib.Omega.{arith}
-use lib.ListN.{drop}
 use borrow.Author.Rules.{rules}
-use Rattle.tables.specs.Entry.{place_rows}
-use Rattle.index.specs.Taken.{taken_places}
 use Rattle.index.proofs.Tally.{turn_taken, turn_free, taken_end}
 use Rattle.ranges.proofs.placed.taken_places.Goals as goal
 use Rattle.ranges.proofs.placed.taken_places.Goals.{then-index-p-ne0, else-index-p-ne0}

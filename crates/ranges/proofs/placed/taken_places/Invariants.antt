@@ -1,13 +1,9 @@
 -- `ranges::placed::taken_places` meets its contract. The invariant: the places taken are those counted and those from `p` on.
 use mathlib.Core.Path.{◌≡◌}
-use mathlib.Core.Logic.{⊎_elim}
 use Prim.Native.Nat.{◌+◌, ◌-◌, ◌≤◌}
-use native.Mathlib.Omega.{arith}
 use lib.ListN.{drop}
-use borrow.Author.Rules.{rules}
 use Rattle.tables.specs.Entry.{place_rows}
 use Rattle.index.specs.Taken.{taken_places}
-use Rattle.index.proofs.Tally.{turn_taken, turn_free, taken_end}
 use Rattle.ranges.proofs.placed.taken_places.Given as goal
 
 abbrev pub invariant-loop-p : goal.invariant-loop-p

@@ -1,5 +1,4 @@
 -- `ranges::range::core_ok` meets its contract: below 2 the state is idle or none, and from 2 on it names a holder.
-use borrow.Author.Rules.{rules}
 use borrow.Author.Tests.{lt-ltb, le-ltb}
 use Rattle.ranges.specs.Range.{core_ok}
 use Rattle.ranges.proofs.range.core_ok.Goals as goal

@@ -1,6 +1,5 @@
 -- `ranges::range::counts_ok` meets its contract: its tests are the definition's.
 use mathlib.Core.Path.{refl}
-use borrow.Author.Rules.{rules}
 use Rattle.ranges.specs.Range.{counts_ok}
 use Rattle.ranges.proofs.range.counts_ok.Goals as goal
 

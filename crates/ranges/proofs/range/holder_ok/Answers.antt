@@ -1,5 +1,4 @@
 -- `ranges::range::holder_ok` meets its contract: at each exit the tests passed say what the definition's tests say.
-use borrow.Author.Rules.{rules}
 use borrow.Author.Tests.{lt-ltb, le-ltb}
 use Rattle.tables.proofs.Chains.{pass, stop}
 use Rattle.ranges.specs.Range.{holder_ok}

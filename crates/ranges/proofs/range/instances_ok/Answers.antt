@@ -1,12 +1,8 @@
 use Rattle.std.proofs.Common.{◌∙◌}
-use mathlib.Core.Path.{◌≡◌, sym}
-use mathlib.Core.Bool.{true}
-use Prim.Native.Nat.{ℕ, ◌-◌, ◌≤◌, ◌<◌}
+use mathlib.Core.Path.{sym}
 use native.Mathlib.Omega.{arith}
 use borrow.Author.Count.{below_none, below_more}
 use borrow.Author.Rules.{rules}
-use Rattle.tables.proofs.Chains.{passed, failed}
-use Rattle.ranges.specs.Range.{instance_ok}
 use Rattle.ranges.proofs.UpTo.{up_all, up_not}
 use Rattle.ranges.proofs.range.instances_ok.Goals as goal
 

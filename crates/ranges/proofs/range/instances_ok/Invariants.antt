@@ -1,13 +1,8 @@
 -- `ranges::range::instances_ok` meets its contract. The invariant: every row before `j` passes.
-use mathlib.Core.Path.{◌≡◌, sym}
+use mathlib.Core.Path.{◌≡◌}
 use mathlib.Core.Bool.{true}
 use Prim.Native.Nat.{ℕ, ◌-◌, ◌≤◌, ◌<◌}
-use native.Mathlib.Omega.{arith}
-use borrow.Author.Count.{below_none, below_more}
-use borrow.Author.Rules.{rules}
-use Rattle.tables.proofs.Chains.{passed, failed}
 use Rattle.ranges.specs.Range.{instance_ok}
-use Rattle.ranges.proofs.UpTo.{up_all, up_not}
 use Rattle.ranges.proofs.range.instances_ok.Given as goal
 
 abbrev pub invariant-loop-j : goal.invariant-loop-j

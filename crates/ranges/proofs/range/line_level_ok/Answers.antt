@@ -1,6 +1,5 @@
 -- `ranges::range::line_level_ok` meets its contract: its tests are the definition's.
 use mathlib.Core.Path.{refl}
-use borrow.Author.Rules.{rules}
 use Rattle.ranges.specs.Range.{line_level_ok}
 use Rattle.ranges.proofs.range.line_level_ok.Goals as goal
 

@@ -1,5 +1,4 @@
 -- `ranges::range::name_ok` meets its contract: its tests and those of the functions called are the definition's.
-use borrow.Author.Rules.{rules}
 use Rattle.ranges.specs.Range.{name_ok}
 use Rattle.ranges.proofs.range.name_ok.Goals as goal
 

@@ -1,13 +1,10 @@
-use mathlib.Core.Path.{◌≡◌, sym, ap, ◌∙◌}
-use mathlib.Core.Bool.{true}
-use Prim.Native.Nat.{ℕ, ◌-◌, ◌≤◌, ◌<◌}
+use mathlib.Core.Path.{sym, ap, ◌∙◌}
 use native.Mathlib.Omega.{arith}
 use borrow.Author.Count.{below_none, below_more}
 use borrow.Author.Rules.{rules}
-use Rattle.tables.proofs.Chains.{pass, stop, passed, failed}
+use Rattle.tables.proofs.Chains.{pass, stop}
 use Rattle.index.proofs.Folds.{home_at_lt}
-use Rattle.ranges.specs.Range.{name_ok}
-use Rattle.ranges.specs.IndexCode.{row_placed, name_tests}
+use Rattle.ranges.specs.IndexCode.{row_placed}
 use Rattle.ranges.proofs.UpTo.{up_all, up_not}
 use Rattle.ranges.proofs.Valid.{name_mean}
 use Rattle.ranges.proofs.range.names_ok.Goals as goal

@@ -1,6 +1,5 @@
 -- `ranges::state::state_ok` meets its contract: a process has the states of its chart, and of the other kinds a runnable alone has any.
 use mathlib.Core.Path.{sym, ◌∙◌}
-use borrow.Author.Rules.{rules}
 use Rattle.ranges.proofs.States.{of_process, of_others}
 use Rattle.ranges.proofs.state.state_ok.Goals as goal
 

@@ -1,5 +1,4 @@
 -- `chart::chart_step` meets its contract: each type has its own chart, and any other none.
-use borrow.Author.Rules.{rules}
 use borrow.Author.Tests.{eq-eqb, ne_eqb}
 use Rattle.rules.specs.Charts.{is_process, chart_of}
 use Rattle.steps.specs.Rows.{move_by}

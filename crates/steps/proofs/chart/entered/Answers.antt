@@ -1,16 +1,7 @@
-use mathlib.Core.Path.{◌≡◌, refl, sym, ◌∙◌}
-use mathlib.Core.Bool.{cond}
-use mathlib.Core.List.{[]}
-use Prim.Native.Nat.{◌+◌, ◌-◌, ◌≤◌}
+use mathlib.Core.Path.{sym, ◌∙◌}
 use native.Mathlib.Omega.{arith}
-use borrow.Author.Rules.{rules}
-use lib.ListN.{length, get_or, drop}
-use Rattle.steps.specs.Rows.{entered_in}
 use Rattle.steps.proofs.Rows.{row_turn, row_end}
 use Rattle.steps.proofs.chart.entered.Goals as goal
-
-pub loop-at-init : goal.loop-at-init
-loop-at-init c = (search rules, refl)
 
 pub returns-then-row_serves : goal.returns-then-row_serves
 returns-then-row_serves c = sym (c.loop-at.invariant.1 ∙ row_turn _ c.loop-at.at _ _ c.loop-at-test.true ∙ rw (← c.row_serves.ensures, c.if-row_serves.true))

@@ -1,13 +1,8 @@
 -- `chart::entered` meets its contract. The loop's invariant: the search over all rows answers as the search over those from `at` on.
-use mathlib.Core.Path.{◌≡◌, refl, sym, ◌∙◌}
-use mathlib.Core.Bool.{cond}
-use mathlib.Core.List.{[]}
-use Prim.Native.Nat.{◌+◌, ◌-◌, ◌≤◌}
-use native.Mathlib.Omega.{arith}
-use borrow.Author.Rules.{rules}
-use lib.ListN.{length, get_or, drop}
+use mathlib.Core.Path.{◌≡◌}
+use Prim.Native.Nat.{◌-◌, ◌≤◌}
+use lib.ListN.{length, drop}
 use Rattle.steps.specs.Rows.{entered_in}
-use Rattle.steps.proofs.Rows.{row_turn, row_end}
 use Rattle.steps.proofs.chart.entered.Given as goal
 
 abbrev pub invariant-loop-at : goal.invariant-loop-at

@@ -1,5 +1,4 @@
 -- `chart::row_serves` meets its contract: the three answers are the three ways through the test of a row.
-use borrow.Author.Rules.{rules}
 use borrow.Author.Tests.{eq-eqb, ne_eqb}
 use Rattle.steps.specs.Rows.{row_serves}
 use Rattle.steps.proofs.chart.row_serves.Goals as goal

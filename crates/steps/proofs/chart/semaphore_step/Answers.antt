@@ -1,6 +1,5 @@
 -- `chart::semaphore_step` meets its contract. The rows of the code are those of the definition's chart: the checker compares them entry by entry.
 use mathlib.Core.Path.{refl, ◌∙◌}
-use borrow.Author.Rules.{rules}
 use Rattle.rules.specs.Charts.{semaphore_chart}
 use Rattle.steps.specs.Rows.{flat, plain}
 use Rattle.steps.proofs.Rows.{moves}

@@ -1,5 +1,4 @@
 -- `chart::step` meets its contract: the three answers are those of the definition, by what the two searches found.
-use borrow.Author.Rules.{rules}
 use borrow.Author.Tests.{eq-eqb, ne_eqb}
 use Rattle.steps.specs.Rows.{move_in}
 use Rattle.steps.proofs.chart.step.Goals as goal

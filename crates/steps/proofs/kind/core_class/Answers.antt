@@ -1,8 +1,7 @@
 -- `steps::kind::core_class` meets its contract: an event of another type does nothing to a core, and one of T or I what its class says.
-use mathlib.Core.Path.{◌≡◌, sym, ◌∙◌}
-use borrow.Author.Tests.{not-true, not-false, eq-eqb, ne_eqb}
+use mathlib.Core.Path.{sym, ◌∙◌}
+use borrow.Author.Tests.{eq-eqb, ne_eqb}
 use Rattle.words.specs.Class.{polling}
-use Rattle.rules.specs.Core.{core_class}
 use Rattle.steps.proofs.CoreClasses.{by_class, class_off, class_says}
 use Rattle.steps.proofs.kind.core_class.Goals as goal
 

@@ -1,5 +1,4 @@
 -- `place::answer_in_place` meets its contract: the tests made are the definition's, in its order.
-use borrow.Author.Rules.{rules}
 use borrow.Author.Tests.{le-leb, lt-leb, eq-eqb, ne_eqb}
 use Rattle.steps.specs.PlaceCode.{answer_by_reading}
 use Rattle.steps.proofs.place.answer_in_place.Goals as goal

@@ -1,7 +1,6 @@
 -- `tables::fresh::fresh` meets its contract: 15 by the sizes, with nothing written, else every entry of the three tables is 0.
 use Rattle.std.proofs.Common.{sym, ◌∙◌}
 use Rattle.tables.specs.Fresh.{cleared_of}
-use Rattle.tables.proofs.Chains.{passed, failed}
 use Rattle.tables.proofs.Zeros.{clear_all}
 use Rattle.tables.proofs.fresh.fresh.Goals as goal
 
