@@ -1,5 +1,5 @@
 -- `outcome::at_end::verdict_in` meets its contract: the tests made are the definition's, in its order.
-use Rattle.std.proofs.Common.{rules, eq-eqb, ne_eqb}
+use Rattle.std.proofs.Common.{eq-eqb, ne_eqb}
 use Rattle.outcome.specs.AtEnd.{verdict_in}
 use Rattle.outcome.proofs.at_end.verdict_in.Goals as goal
 

@@ -1,5 +1,5 @@
 -- `outcome::figure::held_ticks` meets its contract: what is open is added where the core is held.
-use Rattle.std.proofs.Common.{rules, le-ltb, lt-ltb}
+use Rattle.std.proofs.Common.{le-ltb, lt-ltb}
 use Rattle.sheet.specs.Figure.{held_in}
 use Rattle.outcome.proofs.figure.held_ticks.Goals as goal
 

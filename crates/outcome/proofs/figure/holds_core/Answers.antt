@@ -1,5 +1,5 @@
 -- `outcome::figure::holds_core` meets its contract: the two tests are the definition's.
-use Rattle.std.proofs.Common.{◌+◌, refl, arith, rules}
+use Rattle.std.proofs.Common.{◌+◌, refl, arith}
 use Rattle.tables.specs.Entry.{standing_column}
 use Rattle.sheet.specs.Figure.{holds_core}
 use Rattle.outcome.proofs.figure.holds_core.Goals as goal

@@ -1,5 +1,5 @@
 -- `outcome::figure::idle_ticks` meets its contract: what is open is added where the core is idle.
-use Rattle.std.proofs.Common.{rules, eq-eqb, ne_eqb}
+use Rattle.std.proofs.Common.{eq-eqb, ne_eqb}
 use Rattle.sheet.specs.Figure.{idle_in}
 use Rattle.outcome.proofs.figure.idle_ticks.Goals as goal
 

@@ -8,16 +8,10 @@ use Rattle.outcome.proofs.now.outcome_now.Goals as goal
 pub returns-then-t-ne0 : goal.returns-then-t-ne0
 returns-then-t-ne0 c = tables_refused _ _ c.table_answer-t.ensures c.if-t-ne0.true c.refused.ensures
 
-pub sheet_length-length-requires : goal.sheet_length-length-requires
-sheet_length-length-requires c = sym c.table_answer-t.ensures ∙ c.if-t-ne0.false
-
 pub returns-then-out-length : goal.returns-then-out-length
 returns-then-out-length c =
     let own = sym c.table_answer-t.ensures ∙ c.if-t-ne0.false in
     too_short _ _ own (rw c.sheet_length-length.ensures at c.if-out-length.true) c.refused-then-out-length.ensures
-
-pub put_sheet-requires : goal.put_sheet-requires
-put_sheet-requires c = (sym c.table_answer-t.ensures ∙ c.if-t-ne0.false, rw c.sheet_length-length.ensures at c.if-out-length.false)
 
 pub verdict_in-verdict-requires : goal.verdict_in-verdict-requires
 verdict_in-verdict-requires c =

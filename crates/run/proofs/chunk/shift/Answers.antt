@@ -1,4 +1,4 @@
-use Rattle.std.proofs.Common.{◌≡◌, refl, arith, length-set}
+use Rattle.std.proofs.Common.{refl, arith, length-set}
 use Rattle.text.specs.Put.{written}
 use Rattle.run.proofs.Shifts.{shift_more}
 use Rattle.run.proofs.chunk.shift.Goals as goal
