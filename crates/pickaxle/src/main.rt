@@ -23,13 +23,6 @@ fn print(stdout: Stdout, stderr: Stderr, s: &[u8], n: usize)
     }
 }
 
-// What is lent has the right sizes, so that nobody can call this.
-fn wrong_sizes(stderr: Stderr)
-    requires { ⊥ }
-{
-    complain(stderr, b"pickaxle: memory of the wrong size\n");
-}
-
 fn main(rt: HostRuntime) {
     let mut names = [0u8; NAMES_SIZE];
     let mut nums = [0u32; NUMS_SIZE];
@@ -44,6 +37,7 @@ fn main(rt: HostRuntime) {
     match answer {
         Answer::Text(n, _) => print(rt.stdout(), stderr, &out, n),
         Answer::Unread => complain(stderr, b"pickaxle: cannot read standard input\n"),
-        Answer::Refused(_) => wrong_sizes(stderr),
+        // what is lent has the right sizes
+        Answer::Refused(_) => unreachable!(),
     }
 }

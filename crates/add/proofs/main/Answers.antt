@@ -10,5 +10,5 @@ print-requires c = inl (sum_told _ _ _ (search rules) c.sum_of_arguments-answer.
 pub print_refused-requires : goal.print_refused-requires
 print_refused-requires c = refusal_told _ _ _ (search rules) c.sum_of_arguments-answer.ensures c.in-Refused.is
 
-pub wrong_size-requires : goal.wrong_size-requires
-wrong_size-requires c = size_right _ _ _ (search rules) c.sum_of_arguments-answer.ensures c.in-WrongSize.is
+pub unreachable-requires : goal.unreachable-requires
+unreachable-requires c = size_right _ _ _ (search rules) c.sum_of_arguments-answer.ensures c.in-WrongSize.is

@@ -6,5 +6,5 @@ use Rattle.pickaxle.proofs.main.Goals as goal
 pub print-requires : goal.print-requires
 print-requires c = text_told _ _ (search rules) c.text_of_input-answer.ensures c.in-Text.is
 
-pub wrong_sizes-requires : goal.wrong_sizes-requires
-wrong_sizes-requires c = sizes_taken _ _ (search rules) c.text_of_input-answer.ensures c.in-Refused.is
+pub unreachable-requires : goal.unreachable-requires
+unreachable-requires c = sizes_taken _ _ (search rules) c.text_of_input-answer.ensures c.in-Refused.is
