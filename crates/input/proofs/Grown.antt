@@ -2,7 +2,7 @@
 use mathlib.Core.Path.{◌≡◌, refl, sym, ap, ◌∙◌}
 use mathlib.Core.Bool.{Bool, true, false, cond}
 use mathlib.Core.List.{List, [], ◌∷◌, ◌++◌}
-use Prim.Native.Nat.{ℕ, zero, suc, ◌+◌, ◌≤◌, ◌<◌}
+use Prim.Native.Nat.{ℕ, zero, suc, ◌+◌, ◌≤◌}
 use native.Mathlib.Omega.{arith}
 use lib.Dec.{ltb}
 use lib.ListN.{length, take, length-append}
@@ -12,9 +12,9 @@ use Rattle.judge.specs.Feed.{Tables, fed_chunk}
 use Rattle.run.specs.Chunk.{carried_most, Progress, going, stopped, read_on, at_input_end}
 use Rattle.promises.specs.Fed.{joined}
 use Rattle.input.specs.declared.reads.Step.{Step}
-use Rattle.input.specs.declared.reads.Step.TheVariants.{More, Stop, End, Error}
-use Rattle.input.specs.declared.reads.Input.TheVariants.{Read, Failed, Refused}
-use Rattle.input.specs.Reads.{buffer_size, ARead, OneMore, Stepped, AllReads, ReadSoFar, Came, BrokeOff, input_refusal, Taken}
+use Rattle.input.specs.declared.reads.Step.TheVariants.{More, Stop}
+use Rattle.input.specs.declared.reads.Input.TheVariants.{Read}
+use Rattle.input.specs.Reads.{ARead, OneMore, Stepped, AllReads, ReadSoFar, Came, input_refusal, Taken}
 
 -- ---- a list of reads that grows at its end
 
@@ -46,9 +46,6 @@ reads_more (q ∷ rs) r s a = (s.0, reads_more rs r s.1 a)
 
 -- ---- what a turn came to, by the answer
 
-read_size : {k have : ℕ} {t : Tables} {b : List ℕ} {p : Progress} → OneMore k have t b p → (0 < k) × (k ≤ buffer_size)
-read_size m = let a = m.each in let e = m.counted in (omega arith, omega arith)
-
 module _ (have : ℕ) (t : Tables) (b : List ℕ) (u : Tables) (c : List ℕ) {r : Step} {k : ℕ} where
   as_more : {left : ℕ} → r ≡ More k left → Stepped r have t b u c → (left ≤ carried_most) × OneMore k have t b (going u (take left c))
   as_more e w = rw e at w
@@ -56,21 +53,11 @@ module _ (have : ℕ) (t : Tables) (b : List ℕ) (u : Tables) (c : List ℕ) {r
   as_stop : r ≡ Stop k → Stepped r have t b u c → OneMore k have t b (stopped u)
   as_stop e w = rw e at w
 
-  pub more_size : {left : ℕ} → r ≡ More k left → Stepped r have t b u c → (0 < k) × (k ≤ buffer_size)
-  more_size e w = read_size (as_more e w).1
-
-  pub stop_size : r ≡ Stop k → Stepped r have t b u c → (0 < k) × (k ≤ buffer_size)
-  stop_size e w = read_size (as_stop e w)
-
 -- ---- the reads so far, of n bytes, with the first `have` bytes of the buffer carried over
 
 pub none_yet : (t : Tables) → ReadSoFar 0 t t []
 unfolding read_on
 none_yet t = record { reads = []; each = tt; counted = refl; goes_on = refl }
-
--- where reading breaks off
-pub broke_off : {n : ℕ} {t u : Tables} {rest : List ℕ} → ReadSoFar n t u rest → BrokeOff t u
-broke_off {n} {rest = rest} s = record { bytes = n; rest = rest; before = s }
 
 module _ {n : ℕ} {t u : Tables} (have : ℕ) (b : List ℕ) (s : ReadSoFar n t u (take have b)) (v : Tables) (c : List ℕ) where
   -- and one more, of k bytes
@@ -97,22 +84,8 @@ module _ {n : ℕ} {t u : Tables} (have : ℕ) (b : List ℕ) (s : ReadSoFar n t
       let m = as_stop have u b v c e w in
       record { reads = more m; each = more_each m; counted = more_counted m; left = ap at_input_end (sym (more_come m)) }
 
-  pub came_all : {r : Step} → r ≡ End → Stepped r have u b v c → Came n t v
-  came_all e w =
-      let l : v ≡ at_input_end (going u (take have b)) = rw e at w in
-      record { reads = s.reads; each = s.each; counted = s.counted; left = l ∙ ap at_input_end (sym s.goes_on) }
-
-  pub came_broken : {r : Step} → r ≡ Error → Stepped r have u b v c → BrokeOff t v
-  came_broken e w = let l : v ≡ u = rw e at w in rw l (broke_off s)
-
 -- ---- the answer
 
 module _ {t : Tables} {b : List ℕ} {u : Tables} {c : List ℕ} where
   pub taken_read : {n : ℕ} → input_refusal t b ≡ 0 → Came n t u → Taken (Read n) t b u c
   taken_read e w = record { number = sym e; leaves = w }
-
-  pub taken_failed : input_refusal t b ≡ 0 → BrokeOff t u → Taken Failed t b u c
-  taken_failed e w = record { number = e; leaves = w }
-
-pub taken_refused : {n : ℕ} {t : Tables} {b : List ℕ} → n ≡ input_refusal t b → (n ≡ 0 → ⊥) → Taken (Refused n) t b t b
-taken_refused e h = record { number = e; leaves = (omega arith, (refl, refl)) }

@@ -1,5 +1,5 @@
 -- The text of what came in reads is at the front of the output, and it always fits.
-use mathlib.Core.Path.{◌≡◌, refl, sym, ap, subst, ◌∙◌}
+use mathlib.Core.Path.{◌≡◌, sym, ap, subst, ◌∙◌}
 use mathlib.Core.List.{List}
 use Prim.Native.Nat.{ℕ, ◌≤◌}
 use native.Mathlib.Omega.{arith}
@@ -93,9 +93,6 @@ module _ {l m : Lent} (right : lent_refusal l ≡ 0) where
 
   pub answered_unread : BrokeOff fresh_tables m.tables → m.output ≡ l.output → Answered Unread l m
   answered_unread w q = record { number = right; leaves = (w, q) }
-
-pub answered_refused : {n : ℕ} {l : Lent} → n ≡ lent_refusal l → (n ≡ 0 → ⊥) → Answered (NotTaken n) l l
-answered_refused e h = record { number = e; leaves = (omega arith, refl) }
 
 -- ---- what may be written
 

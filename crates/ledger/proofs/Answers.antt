@@ -1,13 +1,13 @@
 -- The answer for all sheets, by what is held at the end; and what of it may be written.
-use mathlib.Core.Path.{◌≡◌, refl, sym, ap, ◌∙◌}
+use mathlib.Core.Path.{◌≡◌, sym, ap, ◌∙◌}
 use mathlib.Core.Bool.{false}
 use mathlib.Core.List.{List}
-use Prim.Native.Nat.{ℕ, ◌-◌, ◌≤◌, ◌<◌}
+use Prim.Native.Nat.{ℕ, ◌-◌, ◌≤◌}
 use native.Mathlib.Omega.{arith}
 use lib.Dec.{eqb, ltb}
 use lib.ListN.{length, take}
 use lib.Seq.{length-take-le}
-use borrow.Author.Tests.{lt-ltb, le-ltb, ne_eqb}
+use borrow.Author.Tests.{le-ltb, ne_eqb}
 use Rattle.text.specs.Put.{Put, after, put}
 use Rattle.text.proofs.Writes.{put_fits}
 use Rattle.shifts.specs.Sizes.{sheet_most}
@@ -16,19 +16,11 @@ use Rattle.ledger.specs.declared.total.Answer.{Answer}
 use Rattle.ledger.specs.declared.total.Answer.TheVariants.{Text as Told, Refused, Unread, TooFew, WrongSize}
 use Rattle.ledger.specs.Totals.{RefusedAt, Summed, Answered, Holding, Ended}
 
--- ---- before a sheet is read
-
-pub wrong_size : (count : ℕ) (l : List ℕ) → length l < sheet_most → Answered WrongSize count l l
-wrong_size count l h = record { number = sym (lt-ltb (length l) sheet_most h); enough = tt; leaves = refl }
+-- ---- by the sheets
 
 module _ (count : ℕ) (l : List ℕ) (room : sheet_most ≤ length l) where
   long : false ≡ ltb (length l) sheet_most
   long = sym (le-ltb (length l) sheet_most room)
-
-  pub too_few : count < 3 → Answered TooFew count l l
-  too_few h = record { number = long; enough = h; leaves = refl }
-
-  -- ---- by the sheets
 
   other : (n k : ℕ) → RefusedAt n k → eqb n 15 ≡ ltb (length l) sheet_most
   other n k w = let c = w.came in ne_eqb n 15 (λ e. omega (arith, from_21 c.first c.others c.total)) ∙ long

@@ -1,5 +1,4 @@
 -- The laws of sheets that arguments name.
-pub mod Fills
 pub mod Steps
 pub mod Grown
 pub mod Answers

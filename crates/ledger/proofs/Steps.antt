@@ -16,15 +16,9 @@ use Rattle.shifts.proofs.Many.{sound_short, sum_short}
 use Rattle.adding.specs.declared.add.Sum.{Sum}
 use Rattle.adding.specs.declared.add.Sum.TheVariants.{Added, Refused}
 use Rattle.adding.specs.Adding.{Summed, summed, into_output, add_into}
-use Rattle.ledger.specs.declared.files.File.{File}
-use Rattle.ledger.specs.declared.files.File.TheVariants.{Read}
-use Rattle.ledger.specs.Files.{FileRead}
 use Rattle.ledger.specs.Totals.{read_most, ASheet, Comes}
 
 -- ---- a file at the front of the buffer
-
-pub file_fits : (c : List ℕ) {f : File} {n : ℕ} → f ≡ Read n → FileRead f c → n ≤ length c
-file_fits c e w = rw e at w
 
 a_sheet : (c : List ℕ) (n : ℕ) → n ≤ length c → length c ≡ read_most → ((i : ℕ) → get_or c i 0 < 256) → ASheet (take (n - 0) c)
 a_sheet c n h e bytes =

@@ -4,9 +4,6 @@ use Rattle.run.proofs.Carried.{more_short}
 use Rattle.input.proofs.Steps.{at_end_lem, one_more, one_last}
 use Rattle.input.proofs.reads.one_read.Goals as goal
 
-pub overflow_add-have : goal.overflow_add-have
-overflow_add-have g c = omega (arith, c.in-Bytes.ensures.1.room)
-
 pub returns-in_default : goal.returns-in_default
 returns-in_default g c = one_last c.in-Bytes.ensures.1 c.in-Bytes.ensures.0 (omega arith) (λ i. search rules) _ c.take_chunk.ensures c.in_default.is
 
