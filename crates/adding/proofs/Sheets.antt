@@ -21,7 +21,7 @@ use Rattle.sorting.specs.Sets.{sorted_by}
 use Rattle.sorting.proofs.Keys.{rename_sorted, rising_keys, all_sorted}
 use Rattle.shifts.specs.Sound.{names, firsts, not_total, some_row, too_many}
 use Rattle.shifts.specs.Sum.{by_name}
-use Rattle.shifts.proofs.Fine.{Fine, is_sound}
+use Rattle.shifts.proofs.Fine.{Fine, is_sound_lem}
 use Rattle.shifts.proofs.Small.{above, small}
 use Rattle.adding.specs.declared.form.Form.{Form}
 use Rattle.adding.specs.declared.sheet.Sheet.{Sheet}
@@ -186,7 +186,7 @@ module _ {text starts : List ℕ} {f : Form} (k : Formed text starts f) where
     unfolding bill_from
     booked h g = record {
       bill = bill_from ls;
-      sound = is_sound text (bill_from ls) reads fine;
+      sound = is_sound_lem text (bill_from ls) reads fine;
       scale = sym head.scale_is;
       span = sym head.span_is;
       cores_fit = omega (arith, first.few);

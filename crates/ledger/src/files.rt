@@ -23,7 +23,7 @@ pub(crate) enum File {
     Unread,
 }
 
-// The longest name of a file.
+// Room for the name of a file.
 const PATH_MOST: usize = 4096;
 
 // One read behind the first `have` bytes of the buffer.

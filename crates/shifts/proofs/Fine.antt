@@ -124,20 +124,20 @@ module _ (t : List ℕ) (b : Bill) where
   unfolding sound_sheet
   sound_is e = let w = only_sound (read_sheet t) b e in (w.0, fine b w.1)
 
-  pub is_sound : read_sheet t ≡ some b → Fine b → sound_sheet t ≡ some b
+  pub is_sound_lem : read_sheet t ≡ some b → Fine b → sound_sheet t ≡ some b
   unfolding sound_sheet
-  is_sound r f = rw (r, fine_sound b f)
+  is_sound_lem r f = rw (r, fine_sound b f)
 
 -- what is printed of a bill that may be added
 pub fine_printed : (b : Bill) → Fine b → sound_sheet (bill_text b) ≡ some b
-fine_printed b f = is_sound (bill_text b) b (print_read b f.low f.high f.core_names f.process_names) f
+fine_printed b f = is_sound_lem (bill_text b) b (print_read b f.low f.high f.core_names f.process_names) f
 
 -- a text may not be added exactly if it shows no such bill
 pub unsound_is : (t : List ℕ) → (sound_sheet t ≡ none) ↔ ((b : Bill) → read_sheet t ≡ some b → Fine b → ⊥)
 unsound_is t = (there, by_bill (sound_sheet t) refl)
   where
     there : sound_sheet t ≡ none → (b : Bill) → read_sheet t ≡ some b → Fine b → ⊥
-    there e b r f = let s = is_sound t b r f in let z : ◌≡◌ {A = ℕ} 0 1 = cc in omega arith
+    there e b r f = let s = is_sound_lem t b r f in let z : ◌≡◌ {A = ℕ} 0 1 = cc in omega arith
 
     by_bill : (o : Option Bill) → sound_sheet t ≡ o → ((b : Bill) → read_sheet t ≡ some b → Fine b → ⊥) → o ≡ none
     by_bill none e h = refl
