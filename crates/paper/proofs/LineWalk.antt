@@ -11,14 +11,9 @@ use Rattle.text.specs.Number.{number_of}
 use Rattle.text.specs.declared.number.Number.{Number}
 use Rattle.text.specs.declared.number.Number.TheVariants.{Value, Bad}
 use Rattle.text.specs.Pieces.{pieces}
-use Rattle.text.proofs.Finds.{find_ge, find_le}
 use Rattle.text.proofs.PiecesFrom.{From, pieces_next, pieces_end, piece_here}
 use Rattle.bill.specs.Reading.{word_of}
 use Rattle.paper.specs.Lines.{line_from, amount_in}
-
--- a byte that is looked for from within the bytes on is found within them, or their end is
-pub found_within : (b : ℕ) (s : List ℕ) (from p : ℕ) → p ≡ find_from b s from → from ≤ length s → (from ≤ p) × (p ≤ length s)
-found_within b s from p e h = (rw e (find_ge b s from), rw e (find_le b s from (length s) (omega arith) h))
 
 -- ---- a line
 

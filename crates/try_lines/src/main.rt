@@ -129,80 +129,36 @@ fn say_record(
     say(stdout, b"\n");
 }
 
+fn say_start(stdout: Stdout, time: u64, instance: u32, out: &mut [u8]) {
+    say_record(stdout, time, instance, Kind::Task, Action::Start, b"", out);
+}
+
+fn say_lock(stdout: Stdout, kind: Kind, note: &[u8], out: &mut [u8]) {
+    say_record(stdout, 0, 0, kind, Action::Lock, note, out);
+}
+
+fn say_read(stdout: Stdout, instance: u32, note: &[u8], out: &mut [u8]) {
+    say_record(stdout, 0, instance, Kind::Signal, Action::Read, note, out);
+}
+
 // Records that no line gives: each of the writer's refusals, and outputs that just hold the line or are one byte too short.
 fn say_records(stdout: Stdout) {
     let mut room = [0u8; 64];
     let mut tight = [0u8; 23];
     let mut longer = [0u8; 27];
     let mut short = [0u8; 26];
-    say_record(
-        stdout,
-        72057594037927936,
-        0,
-        Kind::Task,
-        Action::Start,
-        b"",
-        &mut room,
-    );
-    say_record(
-        stdout,
-        72057594037927935,
-        0,
-        Kind::Task,
-        Action::Start,
-        b"",
-        &mut room,
-    );
-    say_record(stdout, 0, 0, Kind::Task, Action::Lock, b"", &mut room);
-    say_record(stdout, 0, 0, Kind::Task, Action::Lock, b"a b", &mut room);
-    say_record(stdout, 0, 1, Kind::Task, Action::Start, b"", &mut room);
-    say_record(stdout, 0, 0, Kind::Semaphore, Action::Lock, b"", &mut room);
-    say_record(
-        stdout,
-        0,
-        0,
-        Kind::Semaphore,
-        Action::Lock,
-        b"01",
-        &mut room,
-    );
-    say_record(
-        stdout,
-        0,
-        0,
-        Kind::Signal,
-        Action::Read,
-        b"-0.5",
-        &mut tight,
-    );
-    say_record(
-        stdout,
-        0,
-        0,
-        Kind::Signal,
-        Action::Read,
-        b"-0.50",
-        &mut tight,
-    );
-    say_record(
-        stdout,
-        0,
-        4294967295,
-        Kind::Signal,
-        Action::Read,
-        b"",
-        &mut longer,
-    );
-    say_record(
-        stdout,
-        0,
-        4294967295,
-        Kind::Signal,
-        Action::Read,
-        b"",
-        &mut short,
-    );
-    say_record(stdout, 0, 1, Kind::Task, Action::Start, b"", &mut short);
+    say_start(stdout, 72057594037927936, 0, &mut room);
+    say_start(stdout, 72057594037927935, 0, &mut room);
+    say_lock(stdout, Kind::Task, b"", &mut room);
+    say_lock(stdout, Kind::Task, b"a b", &mut room);
+    say_start(stdout, 0, 1, &mut room);
+    say_lock(stdout, Kind::Semaphore, b"", &mut room);
+    say_lock(stdout, Kind::Semaphore, b"01", &mut room);
+    say_read(stdout, 0, b"-0.5", &mut tight);
+    say_read(stdout, 0, b"-0.50", &mut tight);
+    say_read(stdout, 4294967295, b"", &mut longer);
+    say_read(stdout, 4294967295, b"", &mut short);
+    say_start(stdout, 0, 1, &mut short);
 }
 
 fn main(rt: HostRuntime) {

@@ -1,8 +1,6 @@
 -- `try_lines::say_lines` is safe and ends: the next line begins after the byte 10 that was found.
 use Prim.Native.Nat.{◌+◌, ◌-◌, ◌≤◌}
-use native.Mathlib.Omega.{arith}
 use lib.ListN.{length}
-use Rattle.text.proofs.Finds.{find_ge, find_le}
 use Rattle.try_lines.proofs.say_lines.Given as goal
 
 abbrev pub invariant-loop-at : goal.invariant-loop-at

@@ -1,10 +1,7 @@
 -- `try_tables::run_script` is safe and ends: the next line begins after the byte 10 that was found, and a step keeps the script's length.
 use mathlib.Core.Path.{◌≡◌}
 use Prim.Native.Nat.{◌+◌, ◌-◌, ◌≤◌}
-use native.Mathlib.Omega.{arith}
-use borrow.Author.Rules.{rules}
 use lib.ListN.{length}
-use Rattle.text.proofs.Finds.{find_ge, find_le}
 use Rattle.try_tables.proofs.run_script.Given as goal
 
 abbrev pub invariant-loop-at : goal.invariant-loop-at

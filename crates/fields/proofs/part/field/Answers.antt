@@ -1,10 +1,8 @@
 use mathlib.Core.Path.{refl, sym}
-use Prim.Native.Nat.{◌≤◌}
 use native.Mathlib.Omega.{arith}
 use borrow.Author.Rules.{rules}
-use lib.ListN.{length}
 use Rattle.fields.specs.Part.{field_of, field_at, part_from}
-use Rattle.text.proofs.Finds.{find_ge, find_le}
+use Rattle.text.proofs.Finds.{found_within}
 use Rattle.fields.proofs.Parts.{field_turn, field_stop, field_found, at_turn, at_stop, at_found}
 use Rattle.fields.proofs.part.field.Goals as goal
 
@@ -28,13 +26,13 @@ loop-j-preserved c =
     (omega arith, omega arith, omega arith, next, at_turn _ _ _ _ c.find-c.ensures l.invariant.0 l.invariant.4)
 
 pub slice_bounds-result-count-2 : goal.slice_bounds-result-count-2
-slice_bounds-result-count-2 c = ((let fact : (c.loop-j.a ≤ c.find-b.result) × (c.find-b.result ≤ length c.args.line.now) = let line = c.args.line.now in (rw c.find-b.ensures (find_ge 44 line c.loop-j.a), rw c.find-b.ensures (find_le 44 line c.loop-j.a (length line) (omega arith) c.loop-j.invariant.2)) in fact)).0
+slice_bounds-result-count-2 c = (found_within 44 c.args.line.now c.loop-j.a c.find-b.result c.find-b.ensures c.loop-j.invariant.2).0
 
 pub slice_bounds-result-start-2 : goal.slice_bounds-result-start-2
-slice_bounds-result-start-2 c = let h = (let fact : (c.loop-j.a ≤ c.find-b.result) × (c.find-b.result ≤ length c.args.line.now) = let line = c.args.line.now in (rw c.find-b.ensures (find_ge 44 line c.loop-j.a), rw c.find-b.ensures (find_le 44 line c.loop-j.a (length line) (omega arith) c.loop-j.invariant.2)) in fact) in search rules
+slice_bounds-result-start-2 c = let h = found_within 44 c.args.line.now c.loop-j.a c.find-b.result c.find-b.ensures c.loop-j.invariant.2 in search rules
 
 pub slice_bounds-result-end-2 : goal.slice_bounds-result-end-2
-slice_bounds-result-end-2 c = let h = (let fact : (c.loop-j.a ≤ c.find-b.result) × (c.find-b.result ≤ length c.args.line.now) = let line = c.args.line.now in (rw c.find-b.ensures (find_ge 44 line c.loop-j.a), rw c.find-b.ensures (find_le 44 line c.loop-j.a (length line) (omega arith) c.loop-j.invariant.2)) in fact) in search rules
+slice_bounds-result-end-2 c = let h = found_within 44 c.args.line.now c.loop-j.a c.find-b.result c.find-b.ensures c.loop-j.invariant.2 in search rules
 
 pub returns : goal.returns
 unfolding part_from

@@ -1,7 +1,8 @@
 -- `paper::line::line_at` meets its contract: from past the end there is nothing, and otherwise the line ends where the next end of line is found.
 use mathlib.Core.Path.{sym}
 use borrow.Author.Rules.{rules}
-use Rattle.paper.proofs.LineWalk.{line_past, line_here, found_within}
+use Rattle.text.proofs.Finds.{found_within}
+use Rattle.paper.proofs.LineWalk.{line_past, line_here}
 use Rattle.paper.proofs.line.line_at.Goals as goal
 
 pub returns-then-text-p : goal.returns-then-text-p

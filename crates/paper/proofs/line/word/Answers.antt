@@ -1,7 +1,8 @@
 use mathlib.Core.Path.{sym}
 use native.Mathlib.Omega.{arith}
 use borrow.Author.Rules.{rules}
-use Rattle.paper.proofs.LineWalk.{found_within, word_missing, word_next, word_here}
+use Rattle.text.proofs.Finds.{found_within}
+use Rattle.paper.proofs.LineWalk.{word_missing, word_next, word_here}
 use Rattle.paper.proofs.line.word.Goals as goal
 
 pub returns-then-n-e : goal.returns-then-n-e

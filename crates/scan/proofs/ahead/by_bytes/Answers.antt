@@ -10,13 +10,13 @@ unfolding ahead_of
 returns-in_default c = rw (sym c.next_at-next.ensures ∙ c.in_default.is)
 
 pub slice_bounds-line-count : goal.slice_bounds-line-count
-slice_bounds-line-count c = omega (arith, (let fact : let a = c.args in (a.at ≤ c.in-Line.end) × (c.in-Line.end ≤ length a.s.now) = line_inside _ _ _ _ _ (sym c.next_at-next.ensures ∙ c.in-Line.is) in fact))
+slice_bounds-line-count c = omega (arith, line_inside c.args.s.now c.args.at c.in-Line.end c.in-Line.start c.args.whole (sym c.next_at-next.ensures ∙ c.in-Line.is))
 
 pub slice_bounds-line-start : goal.slice_bounds-line-start
-slice_bounds-line-start c = omega (arith, (let fact : let a = c.args in (a.at ≤ c.in-Line.end) × (c.in-Line.end ≤ length a.s.now) = line_inside _ _ _ _ _ (sym c.next_at-next.ensures ∙ c.in-Line.is) in fact))
+slice_bounds-line-start c = omega (arith, line_inside c.args.s.now c.args.at c.in-Line.end c.in-Line.start c.args.whole (sym c.next_at-next.ensures ∙ c.in-Line.is))
 
 pub slice_bounds-line-end : goal.slice_bounds-line-end
-slice_bounds-line-end c = omega (arith, (let fact : let a = c.args in (a.at ≤ c.in-Line.end) × (c.in-Line.end ≤ length a.s.now) = line_inside _ _ _ _ _ (sym c.next_at-next.ensures ∙ c.in-Line.is) in fact))
+slice_bounds-line-end c = omega (arith, line_inside c.args.s.now c.args.at c.in-Line.end c.in-Line.start c.args.whole (sym c.next_at-next.ensures ∙ c.in-Line.is))
 
 pub returns : goal.returns
 unfolding ahead_of part_from
