@@ -1,8 +1,8 @@
 -- What adding answers, whatever bytes it is handed: one of its numbers, and where that is not 0 the output is as it was.
+use Rattle.std.proofs.Common.{Option, None, Some}
 use mathlib.Core.Path.{◌≡◌, refl}
 use mathlib.Core.Bool.{Bool, true, false, not, cond}
 use mathlib.Core.List.{List}
-use mathlib.Core.Option.{Option, none, some}
 use Prim.Native.Nat.{ℕ, zero, suc, ◌+◌}
 use lib.Dec.{eqb, leb, ltb}
 use lib.ListN.{length}
@@ -44,9 +44,9 @@ unfolding add_texts
 total_numbered t u = go (sound_sheet t) (sound_sheet u)
   where
     go : (o p : Option Bill) → Numbered (add_sound o p)
-    go none p = refl
-    go (some a) none = refl
-    go (some a) (some b) = by_number (refusal a b) (sum a b) (refusal_numbered a b)
+    go None p = refl
+    go (Some a) None = refl
+    go (Some a) (Some b) = by_number (refusal a b) (sum a b) (refusal_numbered a b)
 
 -- ---- into any output
 

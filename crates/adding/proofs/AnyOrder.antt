@@ -1,9 +1,9 @@
 -- Calls of adding: in either order the same answer and the same output, in any grouping and any order of many sheets the same bytes where each output has room for
 -- every sum, and the empty sheet changes no sorted one.
+use Rattle.std.proofs.Common.{Some}
 use mathlib.Core.Path.{◌≡◌, refl, sym, ap, ◌∙◌}
 use mathlib.Core.Bool.{true}
 use mathlib.Core.List.{List, Perm}
-use mathlib.Core.Option.{some}
 use Prim.Native.Nat.{ℕ, ◌≤◌}
 use native.Mathlib.Omega.{arith}
 use lib.ListN.{length}
@@ -65,7 +65,7 @@ calls_any_way x y h k p = rw (calls_told x h, calls_told y k) (any_way (grouping
 
 -- ---- a sorted sheet and the empty one
 
-module _ (t out : List ℕ) (b : Bill) (s : sound_sheet t ≡ some b) (o : is_sorted b ≡ true) (fits : length t ≤ length out) where
+module _ (t out : List ℕ) (b : Bill) (s : sound_sheet t ≡ Some b) (o : is_sorted b ≡ true) (fits : length t ≤ length out) where
   pub call_empty_after : add_into t (bill_text (empty_bill b.scale)) out ≡ summed (Added (length t)) (written out 0 t)
   unfolding add_into
   call_empty_after = rw (empty_after t b s o, le-leb (length t) (length out) fits)

@@ -1,16 +1,14 @@
 -- The form of a sheet by its lines: what is told so far, and at each exit that the text may not be added.
+use Rattle.std.proofs.Common.{None, Some, Option}
 use mathlib.Core.Path.{◌≡◌, sym, ap, ◌∙◌}
 use mathlib.Core.Bool.{Bool, true, false}
 use mathlib.Core.List.{List, []}
-use mathlib.Core.Option.{none}
 use Prim.Native.Nat.{ℕ, zero, suc, ◌+◌, ◌-◌, ◌≤◌, ◌<◌}
 use native.Mathlib.Omega.{arith}
 use lib.Dec.{eqb}
 use lib.ListN.{length, get_or, drop}
 use lib.Seq.{drop-drop, get_or-drop}
 use borrow.Author.Tests.{eqb-true, eqb-false, le-leb, lt-ltb}
-use Rattle.text.specs.declared.number.Number.{Number}
-use Rattle.text.specs.declared.number.Number.TheVariants.{Value, Bad}
 use Rattle.text.specs.Pieces.{pieces, ended}
 use Rattle.text.specs.Sizes.{name_limit, core_limit}
 use Rattle.text.proofs.Bools.{clash}
@@ -18,7 +16,6 @@ use Rattle.bill.specs.declared.section.Section.TheVariants.{Cores, Processes}
 use Rattle.bill.specs.Text.{title}
 use Rattle.bill.specs.Reading.{from_processes, at_end}
 use Rattle.shifts.specs.Sound.{sound_sheet}
-use Rattle.paper.specs.declared.head.Head.TheVariants.{Line, Other}
 use Rattle.adding.specs.declared.form.Form.{Form}
 use Rattle.paper.specs.Lines.{line_from}
 use Rattle.adding.specs.PlaceCode.{lines_most, few_lines, Placed, Lined}
@@ -28,7 +25,7 @@ use Rattle.adding.proofs.SheetLines.{line_count, line_is, part_is, end_is}
 use Rattle.adding.proofs.SheetTests.{CountTold, count_told, Passing, not_passing}
 
 -- no form
-pub unformed : (text starts : List ℕ) (f : Form) → f.ok ≡ false → sound_sheet text ≡ none → FormedAs f.ok text starts f
+pub unformed : (text starts : List ℕ) (f : Form) → f.ok ≡ false → sound_sheet text ≡ None → FormedAs f.ok text starts f
 unformed text starts f e s = rw e s
 
 -- ---- the lines
@@ -39,7 +36,7 @@ few_lines_lem text p =
     let n = length (ended (pieces 10 text)) in
     rw (p.rest, lt-ltb 0 n (omega (arith, p.whole)), le-leb n lines_most (omega (arith, p.whole, p.few)))
 
-pub too_few : (text starts : List ℕ) (n : ℕ) → Lined text starts n → n < 3 → sound_sheet text ≡ none
+pub too_few : (text starts : List ℕ) (n : ℕ) → Lined text starts n → n < 3 → sound_sheet text ≡ None
 too_few text starts zero e h = not_passing text (λ p. clash (few_lines text) (few_lines_lem text p) e)
 too_few text starts (suc n) k h = not_passing text (λ p. omega (arith, p.whole, line_count k))
 
@@ -51,12 +48,12 @@ module _ (text starts : List ℕ) (n : ℕ) (l : Lined text starts n) (h : 3 ≤
   first_line : get_or (pieces 10 text) 0 [] ≡ line_from text (get_or starts 0 0)
   first_line = line_is (placed text starts n l h) 0 (omega arith)
 
-  pub no_head : head_of (line_from text (get_or starts 0 0)) ≡ Other → sound_sheet text ≡ none
+  pub no_head : head_of (line_from text (get_or starts 0 0)) ≡ None → sound_sheet text ≡ None
   no_head e = not_passing text (λ p.
       let q = sym p.head ∙ ap head_of first_line ∙ e in
       let z : ◌≡◌ {A = ℕ} 0 1 = cc in omega arith)
 
-  pub begun : (scale span : ℕ) → head_of (line_from text (get_or starts 0 0)) ≡ Line scale span → Begun text starts n scale span
+  pub begun : (scale span : ℕ) → head_of (line_from text (get_or starts 0 0)) ≡ Some (scale, span) → Begun text starts n scale span
   begun scale span e = record { placed = placed text starts n l h; three = h; head = ap head_of first_line ∙ e }
 
 -- ---- the counts
@@ -65,19 +62,19 @@ module _ (text starts : List ℕ) (n scale span : ℕ) (b : Begun text starts n 
   title_line : get_or (pieces 10 text) 1 [] ≡ line_from text (get_or starts 1 0)
   title_line = line_is b.placed 1 (omega (arith, b.three))
 
-  pub no_cores : count_of (title Cores) (line_from text (get_or starts 1 0)) core_limit ≡ Bad → sound_sheet text ≡ none
+  pub no_cores : count_of (title Cores) (line_from text (get_or starts 1 0)) core_limit ≡ None → sound_sheet text ≡ None
   no_cores e = not_passing text (λ p.
       let q = sym p.first ∙ ap (λ l. count_of (title Cores) l core_limit) title_line ∙ e in
       let z : ◌≡◌ {A = ℕ} 0 1 = cc in omega arith)
 
-  module _ (k : ℕ) (e : count_of (title Cores) (line_from text (get_or starts 1 0)) core_limit ≡ Value k) where
-    first : count_of (title Cores) (get_or (pieces 10 text) 1 []) core_limit ≡ Value k
+  module _ (k : ℕ) (e : count_of (title Cores) (line_from text (get_or starts 1 0)) core_limit ≡ Some k) where
+    first : count_of (title Cores) (get_or (pieces 10 text) 1 []) core_limit ≡ Some k
     first = ap (λ l. count_of (title Cores) l core_limit) title_line ∙ e
 
     pub cores_told : CountTold (title Cores) (get_or (pieces 10 text) 1 []) core_limit k
     cores_told = count_told (title Cores) (get_or (pieces 10 text) 1 []) core_limit k first
 
-    pub cores_cut_off : n < 3 + k → sound_sheet text ≡ none
+    pub cores_cut_off : n < 3 + k → sound_sheet text ≡ None
     cores_cut_off h = not_passing text (λ p. omega (arith, p.whole, line_count b.placed, cores_told.count_is))
 
     module _ (h : 3 + k ≤ n) where
@@ -86,18 +83,18 @@ module _ (text starts : List ℕ) (n scale span : ℕ) (b : Begun text starts n 
           let z : 2 + k + 0 ≡ 2 + k = omega arith in
           rw (cores_told.count_is, drop-drop, get_or-drop, z) (line_is b.placed (2 + k) (omega arith))
 
-      second : (r : Number) → count_of (title Processes) (line_from text (get_or starts (2 + k) 0)) (name_limit - k) ≡ r → count_of (title Processes) (get_or (from_processes (pieces 10 text)) 0 []) (name_limit - k) ≡ r
+      second : (r : Option ℕ) → count_of (title Processes) (line_from text (get_or starts (2 + k) 0)) (name_limit - k) ≡ r → count_of (title Processes) (get_or (from_processes (pieces 10 text)) 0 []) (name_limit - k) ≡ r
       second r d = ap (λ l. count_of (title Processes) l (name_limit - k)) second_line ∙ d
 
-      pub no_processes : count_of (title Processes) (line_from text (get_or starts (2 + k) 0)) (name_limit - k) ≡ Bad → sound_sheet text ≡ none
+      pub no_processes : count_of (title Processes) (line_from text (get_or starts (2 + k) 0)) (name_limit - k) ≡ None → sound_sheet text ≡ None
       no_processes d = not_passing text (λ p.
           let most = ap (λ j. count_of (title Processes) (get_or (from_processes (pieces 10 text)) 0 []) (name_limit - j)) cores_told.count_is in
-          let q = sym p.second ∙ most ∙ second Bad d in
+          let q = sym p.second ∙ most ∙ second None d in
           let z : ◌≡◌ {A = ℕ} 0 1 = cc in omega arith)
 
-      module _ (m : ℕ) (d : count_of (title Processes) (line_from text (get_or starts (2 + k) 0)) (name_limit - k) ≡ Value m) where
+      module _ (m : ℕ) (d : count_of (title Processes) (line_from text (get_or starts (2 + k) 0)) (name_limit - k) ≡ Some m) where
         pub processes_told : CountTold (title Processes) (get_or (from_processes (pieces 10 text)) 0 []) (name_limit - k) m
-        processes_told = count_told (title Processes) (get_or (from_processes (pieces 10 text)) 0 []) (name_limit - k) m (second (Value m) d)
+        processes_told = count_told (title Processes) (get_or (from_processes (pieces 10 text)) 0 []) (name_limit - k) m (second (Some m) d)
 
         abbrev form : Bool → Form
         form t = record { ok = t; scale = scale; span = span; cores = k; processes = m }
@@ -112,7 +109,7 @@ module _ (text starts : List ℕ) (n scale span : ℕ) (b : Begun text starts n 
           sized = b.placed.sized;
           head = b.head;
           first = first;
-          second = second (Value m) d;
+          second = second (Some m) d;
           end = rw (processes_told.count_is, from_rows, drop-drop m (3 + k), ← s) (ap at_end (end_is b.placed));
           core_lines_told = part_is b.placed 2 k (omega arith) ∙ rw cores_told.count_is;
           process_lines_told = part_is b.placed (3 + k) m (omega arith) ∙ rw (processes_told.count_is, from_rows);

@@ -1,4 +1,5 @@
 -- The rows of a section, tested one after the other: what those from here on come to, with what was found before them.
+use Rattle.std.proofs.Common.{None, Some, Option}
 use mathlib.Core.Path.{◌≡◌, sym, ap}
 use mathlib.Core.Bool.{false, ◌&&◌}
 use mathlib.Core.Logic.{⊎_elim}
@@ -11,8 +12,6 @@ use lib.ListN.{length, get_or, drop, drop_of_length-le}
 use lib.Seq.{drop-cons}
 use borrow.Author.Tests.{eqb-true, eq-eqb, ne_eqb, leb-false}
 use Rattle.text.specs.Number.{number_if}
-use Rattle.text.specs.declared.number.Number.{Number}
-use Rattle.text.specs.declared.number.Number.TheVariants.{Value, Bad}
 use Rattle.text.specs.Lists.{all}
 use Rattle.text.proofs.Bools.{and_l, and_r, is_false, same_or_not}
 use Rattle.bill.specs.Reading.{row_from}
@@ -29,23 +28,23 @@ rows_next text places i h = rw (drop-cons places i 0, add-one)
 rows_end : (text places : List ℕ) (i : ℕ) → length places ≤ i → map (line_from text) (drop i places) ≡ []
 rows_end text places i h = rw (drop_of_length-le places h)
 
-unfoldable pub held_with : ℕ → ℕ → List (List ℕ) → Number
+unfoldable pub held_with : ℕ → ℕ → List (List ℕ) → Option ℕ
 held_with span sum ls = number_if (all (core_ok span) ls) (sum + firsts (map row_from ls))
 
 pub held_start : (span : ℕ) (ls : List (List ℕ)) → all_held span ls ≡ held_with span 0 ls
 unfolding all_held held_with
 held_start span ls = let z : 0 + firsts (map row_from ls) ≡ firsts (map row_from ls) = omega arith in rw z
 
-pub held_end : (span sum : ℕ) (text places : List ℕ) (i : ℕ) → length places ≤ i → held_with span sum (map (line_from text) (drop i places)) ≡ Value sum
+pub held_end : (span sum : ℕ) (text places : List ℕ) (i : ℕ) → length places ≤ i → held_with span sum (map (line_from text) (drop i places)) ≡ Some sum
 unfolding held_with
 held_end span sum text places i h = let z : sum + 0 ≡ sum = omega arith in rw (rows_end text places i h, z)
 
 module _ (span : ℕ) (l : List ℕ) (ls : List (List ℕ)) where
-  pub held_bad : (sum : ℕ) → core_held span l ≡ Bad → held_with span sum (l ∷ ls) ≡ Bad
+  pub held_bad : (sum : ℕ) → core_held span l ≡ None → held_with span sum (l ∷ ls) ≡ None
   unfolding core_held held_with
   held_bad sum e = rw (if_bad (core_ok span l) (first (row_from l).figures) e)
 
-  pub held_turn : (sum h : ℕ) → core_held span l ≡ Value h → held_with span sum (l ∷ ls) ≡ held_with span (sum + h) ls
+  pub held_turn : (sum h : ℕ) → core_held span l ≡ Some h → held_with span sum (l ∷ ls) ≡ held_with span (sum + h) ls
   unfolding core_held held_with
   held_turn sum h e =
       let w = if_value (core_ok span l) (first (row_from l).figures) h e in
@@ -60,14 +59,14 @@ unfolding charges_make
 charges_end left text places i h = rw (rows_end text places i h) (eqb_alike 0 left left 0 sym sym)
 
 module _ (left : ℕ) (l : List ℕ) (ls : List (List ℕ)) where
-  pub charge_bad : process_charge left l ≡ Bad → charges_make left (l ∷ ls) ≡ false
+  pub charge_bad : process_charge left l ≡ None → charges_make left (l ∷ ls) ≡ false
   unfolding process_charge charges_make
   charge_bad e = is_false (charges_make left (l ∷ ls)) (λ t.
       let r = and_l (row_of 1 l) (all (row_of 1) ls) (and_l (all (row_of 1) (l ∷ ls)) _ t) in
       let s = eqb-true (first (row_from l).figures + firsts (map row_from ls)) left (and_r (all (row_of 1) (l ∷ ls)) _ t) in
       omega (arith, leb-false (first (row_from l).figures) left (bad_if (row_of 1 l) (leb (first (row_from l).figures) left) (first (row_from l).figures) e r)))
 
-  pub charge_turn : (n : ℕ) → process_charge left l ≡ Value n → charges_make left (l ∷ ls) ≡ charges_make (left - n) ls
+  pub charge_turn : (n : ℕ) → process_charge left l ≡ Some n → charges_make left (l ∷ ls) ≡ charges_make (left - n) ls
   unfolding charges_make
   charge_turn n e =
       let w = charged left l n e in

@@ -1,8 +1,8 @@
 -- Where a text is read as a sheet that may be added, and where it is none: too long, no form, sums that are wrong, a name that stands twice.
+use Rattle.std.proofs.Common.{None}
 use mathlib.Core.Path.{◌≡◌, sym, subst, ◌∙◌}
 use mathlib.Core.Bool.{Bool, true, false, not}
 use mathlib.Core.List.{List, [], map}
-use mathlib.Core.Option.{none}
 use Prim.Native.Nat.{ℕ, ◌≤◌, ◌<◌}
 use native.Mathlib.Omega.{arith}
 use lib.ListN.{length, get_or}
@@ -23,10 +23,10 @@ use Rattle.adding.proofs.Sheets.{formed_sized, core_names, process_names, booked
 
 -- nothing is read
 
-pub too_long : (text : List ℕ) → sheet_most < length text → sound_sheet text ≡ none
+pub too_long : (text : List ℕ) → sheet_most < length text → sound_sheet text ≡ None
 too_long text h = not_passing text (λ p. omega (arith, p.long))
 
-pub unread : (text cores processes : List ℕ) (f : Form) → length cores ≡ core_limit → length processes ≡ name_limit → f.ok ≡ false → sound_sheet text ≡ none → Read text cores processes f
+pub unread : (text cores processes : List ℕ) (f : Form) → length cores ≡ core_limit → length processes ≡ name_limit → f.ok ≡ false → sound_sheet text ≡ None → Read text cores processes f
 unread text cores processes f h g e s = record { cores_sized = h; processes_sized = g; told = rw e s }
 
 -- ---- the rows, by their sums and their names, of the parts that are cut out
@@ -61,7 +61,7 @@ module _ (starts : List ℕ) (f : Form) (z : Sized starts f) where
 -- ---- the form is read
 
 module _ (text starts : List ℕ) (f : Form) (k : FormedAs f.ok text starts f) where
-  pub no_form : not f.ok ≡ true → sound_sheet text ≡ none
+  pub no_form : not f.ok ≡ true → sound_sheet text ≡ None
   no_form e = subst (λ t. FormedAs t text starts f) (not-true f.ok e) k
 
   module _ (e : not f.ok ≡ false) where
@@ -73,7 +73,7 @@ module _ (text starts : List ℕ) (f : Form) (k : FormedAs f.ok text starts f) w
 
     -- ---- and the rows are right, or not
 
-    wrong : (cores processes : List ℕ) → RightAs false text (core_places starts f) (process_places starts f) f.span cores processes → sound_sheet text ≡ none
+    wrong : (cores processes : List ℕ) → RightAs false text (core_places starts f) (process_places starts f) f.span cores processes → sound_sheet text ≡ None
     wrong cores processes w = not_passing text (λ p.
         let h = head_told (get_or (pieces 10 text) 0 []) f.scale f.span formed.head in
         let o = w (rw (h.span_is, ← formed.core_lines_told, ← formed.process_lines_told) at p.sums) in
@@ -83,7 +83,7 @@ module _ (text starts : List ℕ) (f : Form) (k : FormedAs f.ok text starts f) w
         clash _ o (rw (c, q, m)))
 
     module _ (cores processes : List ℕ) (r : Bool) (n : RowsRight text (core_places starts f) (process_places starts f) f.span cores processes r) where
-      pub rows_wrong : not r ≡ true → sound_sheet text ≡ none
+      pub rows_wrong : not r ≡ true → sound_sheet text ≡ None
       rows_wrong d = wrong cores processes (subst (λ t. RightAs t text (core_places starts f) (process_places starts f) f.span cores processes) (not-true r d) n.told)
 
       pub sheet_read : not r ≡ false → Read text cores processes f

@@ -1,15 +1,14 @@
 -- What the code finds in a text that may be added (`Passing`), and that such a text may be added if the code finds it.
+use Rattle.std.proofs.Common.{Some, None}
 use mathlib.Core.Path.{◌≡◌, refl, sym}
 use mathlib.Core.Bool.{Bool, true, false, ◌&&◌}
 use mathlib.Core.List.{List, [], ◌∷◌, map}
-use mathlib.Core.Option.{none, some}
 use Prim.Native.Nat.{ℕ, ◌+◌, ◌-◌, ◌≤◌}
 use native.Mathlib.Omega.{arith}
 use lib.Dec.{eqb, leb}
 use lib.ListN.{length, get_or}
 use borrow.Author.Tests.{eq-eqb, leb-true, le-leb, not-false}
 use Rattle.text.specs.Name.{is_name}
-use Rattle.text.specs.declared.number.Number.TheVariants.{Value}
 use Rattle.text.specs.Pieces.{pieces, ended, unended}
 use Rattle.text.specs.Sizes.{max_time, name_limit, core_limit}
 use Rattle.text.specs.Lists.{all}
@@ -25,7 +24,6 @@ use Rattle.shifts.specs.Sound.{names, firsts, total, not_count, not_total, some_
 use Rattle.shifts.specs.Sizes.{sheet_most}
 use Rattle.shifts.proofs.Fine.{Fine, few_cores, few_names, unsound_is}
 use Rattle.shifts.proofs.Sizes.{bill_longest}
-use Rattle.paper.specs.declared.head.Head.TheVariants.{Line}
 use Rattle.paper.specs.Heads.{head_if, head_of, count_of}
 use Rattle.paper.specs.Rows.{row_of, core_ok}
 use Rattle.adding.specs.RowCode.{charges_make, sums_right}
@@ -84,18 +82,18 @@ pub record HeadTold (line : List ℕ) (scale span : ℕ) : Type 0 where
   pub span_is : span_in line ≡ span
   pub short : span ≤ max_time
 
-head_if_lem : (t u : Bool) (s n scale span : ℕ) → leb n max_time ≡ u → head_if (t && u) s n ≡ Line scale span → (t ≡ true) × (s ≡ scale) × (n ≡ span) × (n ≤ max_time)
+head_if_lem : (t u : Bool) (s n scale span : ℕ) → leb n max_time ≡ u → head_if (t && u) s n ≡ Some (scale, span) → (t ≡ true) × (s ≡ scale) × (n ≡ span) × (n ≤ max_time)
 head_if_lem true true s n scale span h e = (refl, cc, cc, leb-true n max_time h)
 head_if_lem true false s n scale span h e = (cc, cc, cc, absurd (let z : ◌≡◌ {A = ℕ} 0 1 = cc in omega arith))
 head_if_lem false u s n scale span h e = (cc, cc, cc, absurd (let z : ◌≡◌ {A = ℕ} 0 1 = cc in omega arith))
 
-pub head_told : (line : List ℕ) (scale span : ℕ) → head_of line ≡ Line scale span → HeadTold line scale span
+pub head_told : (line : List ℕ) (scale span : ℕ) → head_of line ≡ Some (scale, span) → HeadTold line scale span
 unfolding head_of
 head_told line scale span e =
     let w = head_if_lem (head_exact line) (leb (span_in line) max_time) (scale_in line) (span_in line) scale span refl e in
     record { exact = w.0; scale_is = w.1; span_is = w.2; short = omega (arith, w.2, w.3) }
 
-head_tells : (line : List ℕ) → head_exact line ≡ true → span_in line ≤ max_time → head_of line ≡ Line (scale_in line) (span_in line)
+head_tells : (line : List ℕ) → head_exact line ≡ true → span_in line ≤ max_time → head_of line ≡ Some (scale_in line, span_in line)
 unfolding head_of
 head_tells line e h = rw (e, le-leb (span_in line) max_time h)
 
@@ -104,13 +102,13 @@ pub record CountTold (head line : List ℕ) (max n : ℕ) : Type 0 where
   pub count_is : count_in head line ≡ n
   pub few : n ≤ max
 
-pub count_told : (head line : List ℕ) (max n : ℕ) → count_of head line max ≡ Value n → CountTold head line max n
+pub count_told : (head line : List ℕ) (max n : ℕ) → count_of head line max ≡ Some n → CountTold head line max n
 unfolding count_of
 count_told head line max n e =
     let w = value_if (count_exact head line) (count_in head line) max n e in
     record { exact = w.0; count_is = w.1; few = omega (arith, w.1, w.2) }
 
-count_tells : (head line : List ℕ) (max : ℕ) → count_exact head line ≡ true → count_in head line ≤ max → count_of head line max ≡ Value (count_in head line)
+count_tells : (head line : List ℕ) (max : ℕ) → count_exact head line ≡ true → count_in head line ≤ max → count_of head line max ≡ Some (count_in head line)
 unfolding count_of
 count_tells head line max e h = rw (e, le-leb (count_in head line) max h)
 
@@ -123,9 +121,9 @@ pub record Passing (text : List ℕ) : Type 0 where
   pub rest : unended (pieces 10 text) ≡ []
   pub whole : length (ended (pieces 10 text)) ≡ 3 + core_count (pieces 10 text) + process_count (pieces 10 text)
   pub few : core_count (pieces 10 text) + process_count (pieces 10 text) ≤ name_limit
-  pub head : head_of (get_or (pieces 10 text) 0 []) ≡ Line (scale_in (head_in text)) (span_in (head_in text))
-  pub first : count_of (title Cores) (get_or (pieces 10 text) 1 []) core_limit ≡ Value (core_count (pieces 10 text))
-  pub second : count_of (title Processes) (get_or (from_processes (pieces 10 text)) 0 []) (name_limit - core_count (pieces 10 text)) ≡ Value (process_count (pieces 10 text))
+  pub head : head_of (get_or (pieces 10 text) 0 []) ≡ Some (scale_in (head_in text), span_in (head_in text))
+  pub first : count_of (title Cores) (get_or (pieces 10 text) 1 []) core_limit ≡ Some (core_count (pieces 10 text))
+  pub second : count_of (title Processes) (get_or (from_processes (pieces 10 text)) 0 []) (name_limit - core_count (pieces 10 text)) ≡ Some (process_count (pieces 10 text))
   pub sums : sums_right (span_in (head_in text)) (core_lines (pieces 10 text)) (process_lines (pieces 10 text)) ≡ true
   pub cores_once : twice (names (map row_from (core_lines (pieces 10 text)))) ≡ false
   pub processes_once : twice (names (map row_from (process_lines (pieces 10 text)))) ≡ false
@@ -150,7 +148,7 @@ module _ (text : List ℕ) (forms : all_of (form_tests (pieces 10 text)) ≡ tru
       (rows_pass 1 (process_lines ls) v.1.1.1.1.0 f.process_names f.process_counts)
       f.charges
 
-passing : (text : List ℕ) (b : Bill) → read_sheet text ≡ some b → Fine b → Passing text
+passing : (text : List ℕ) (b : Bill) → read_sheet text ≡ Some b → Fine b → Passing text
 unfolding form_tests bill_from
 passing text b r f =
     let ls = pieces 10 text in
@@ -173,5 +171,5 @@ passing text b r f =
       long = rw s.text (bill_longest b f);
     }
 
-pub not_passing : (text : List ℕ) → (Passing text → ⊥) → sound_sheet text ≡ none
+pub not_passing : (text : List ℕ) → (Passing text → ⊥) → sound_sheet text ≡ None
 not_passing text h = (unsound_is text).1 (λ b r f. h (passing text b r f))

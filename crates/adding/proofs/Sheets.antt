@@ -1,8 +1,8 @@
 -- A text whose lines tell a form, whose sums are right and whose names stand once, is a sheet that may be added.
+use Rattle.std.proofs.Common.{Some}
 use mathlib.Core.Path.{◌≡◌, refl, sym, ap, ◌∙◌}
 use mathlib.Core.Bool.{true, false}
 use mathlib.Core.List.{List, [], ◌∷◌, map, map-map}
-use mathlib.Core.Option.{some}
 use Prim.Native.Nat.{ℕ, ◌+◌, ◌-◌, ◌^◌}
 use native.Mathlib.Omega.{arith}
 use lib.Dec.{ltb}
@@ -136,7 +136,7 @@ module _ {text starts : List ℕ} {f : Form} (k : Formed text starts f) where
           k.end,
         )
 
-    reads : read_sheet text ≡ some (bill_from ls)
+    reads : read_sheet text ≡ Some (bill_from ls)
     unfolding read_sheet
     reads = rw forms
 

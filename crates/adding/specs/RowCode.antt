@@ -1,13 +1,12 @@
 -- FOR THE CODE ALONE: the rows of a section by their lines, tested one after the other.
-use Rattle.std.specs.Prelude.{Bool, ◌&&◌, List, map, ℕ, eqb}
+use Rattle.std.specs.Prelude.{Bool, ◌&&◌, List, map, ℕ, eqb, Option}
 use Rattle.text.specs.Number.{number_if}
-use Rattle.text.specs.declared.number.Number.{Number}
 use Rattle.text.specs.Lists.{all}
 use Rattle.bill.specs.Reading.{row_from}
 use Rattle.shifts.specs.Sound.{firsts}
 use Rattle.paper.specs.Rows.{row_of, core_ok}
 
-unfoldable pub all_held : ℕ → List (List ℕ) → Number
+unfoldable pub all_held : ℕ → List (List ℕ) → Option ℕ
 all_held span ls = number_if (all (core_ok span) ls) (firsts (map row_from ls))
 
 unfoldable pub charges_make : ℕ → List (List ℕ) → Bool

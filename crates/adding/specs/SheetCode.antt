@@ -1,6 +1,5 @@
 -- FOR THE CODE ALONE: a text read as a sheet that may be added, and the places of its rows.
-use Rattle.std.specs.Prelude.{◌≡◌, Bool, true, false, ◌||◌, List, map, ℕ, ◌-◌, ◌≤◌, length, take}
-use Rattle.std.proofs.Math.Option.{none, some}
+use Rattle.std.specs.Prelude.{◌≡◌, Bool, true, false, ◌||◌, List, map, ℕ, ◌-◌, ◌≤◌, length, take, None, Some}
 use Rattle.text.specs.Sizes.{name_limit, core_limit}
 use Rattle.bill.specs.declared.section.Section.{Section}
 use Rattle.bill.specs.declared.section.Section.TheVariants.{Cores, Processes}
@@ -62,7 +61,7 @@ places_of Processes x = take (x.form.processes - 0) x.processes
 -- the sheet of a text, with the places of its rows in the order of their names
 pub record Booked (text : List ℕ) (x : Sheet) : Type 0 where
   pub bill : Bill
-  pub sound : sound_sheet text ≡ some bill
+  pub sound : sound_sheet text ≡ Some bill
   pub scale : x.form.scale ≡ bill.scale
   pub span : x.form.span ≡ bill.sheet.span
   pub cores_fit : x.form.cores ≤ length x.cores
@@ -72,7 +71,7 @@ pub record Booked (text : List ℕ) (x : Sheet) : Type 0 where
 
 abbrev pub ReadAs : Bool → List ℕ → Sheet → Type 0
 ReadAs true text x = Booked text x
-ReadAs false text x = sound_sheet text ≡ none
+ReadAs false text x = sound_sheet text ≡ None
 
 -- what is read, and that the entries are as many as they were
 pub record Read (text cores processes : List ℕ) (f : Form) : Type 0 where

@@ -4,9 +4,8 @@ ghost use Rattle.adding.specs.PlaceCode.{lines_most};
 ghost use Rattle.adding.specs.FormCode.{Begun, FormedAs};
 
 use crate::places::line_starts;
-use paper::head::{Head, read_count, read_head};
+use paper::head::{read_count, read_head};
 use paper::line::line_at;
-use text::number::Number;
 use text::size::{CORE_LIMIT, NAME_LIMIT};
 
 // how many cores, and names, a sheet lists at most, as a figure counts
@@ -42,7 +41,7 @@ fn read_counts(text: &[u8], starts: &[u32], n: usize, scale: u32, span: u64) -> 
     ensures { FormedAs result.ok text.now starts.now result }
 {
     let first = read_count(line_at(text, starts[1] as usize), b"cores ", CORES);
-    let Number::Value(k) = first else {
+    let Some(k) = first else {
         return no_form();
     };
     let cores = k as usize;
@@ -54,7 +53,7 @@ fn read_counts(text: &[u8], starts: &[u32], n: usize, scale: u32, span: u64) -> 
         b"processes ",
         NAMES - k,
     );
-    let Number::Value(m) = second else {
+    let Some(m) = second else {
         return no_form();
     };
     let processes = m as usize;
@@ -77,7 +76,7 @@ pub(crate) fn read_form(text: &[u8], starts: &mut [u32]) -> Form
         return no_form();
     }
     let head = read_head(line_at(text, starts[0] as usize));
-    let Head::Line(scale, span) = head else {
+    let Some((scale, span)) = head else {
         return no_form();
     };
     read_counts(text, starts, n, scale, span)

@@ -6,24 +6,19 @@ ghost use Rattle.adding.specs.RowCode.{all_held, charges_make, sums_right};
 
 use paper::line::line_at;
 use paper::row::{charge_in, held_in};
-use text::number::Number;
 
 // All held ticks of the cores whose rows begin at these places, where each is a core's with this span.
-fn all_held(text: &[u8], places: &[u32], span: u64) -> Number
+fn all_held(text: &[u8], places: &[u32], span: u64) -> Option<u64>
     requires { (length places.now ≤ core_limit) × (span ≤ max_time) }
     ensures { result ≡ all_held span (map (line_from text.now) places.now) }
 {
     let mut total: u64 = 0;
     let mut i = 0;
     while i < places.len() {
-        let held = held_in(line_at(text, places[i] as usize), span);
-        let Number::Value(h) = held else {
-            return Number::Bad;
-        };
-        total += h;
+        total += held_in(line_at(text, places[i] as usize), span)?;
         i += 1;
     }
-    Number::Value(total)
+    Some(total)
 }
 
 // Whether the rows that begin at these places are processes' whose charges make `held`: what is left of it falls with each.
@@ -34,7 +29,7 @@ fn charges_make(text: &[u8], places: &[u32], held: u64) -> bool
     let mut i = 0;
     while i < places.len() {
         let charge = charge_in(line_at(text, places[i] as usize), left);
-        let Number::Value(c) = charge else {
+        let Some(c) = charge else {
             return false;
         };
         left -= c;
@@ -49,7 +44,7 @@ pub(crate) fn sums_right(text: &[u8], cores: &[u32], processes: &[u32], span: u6
     ensures { result ≡ sums_right span (map (line_from text.now) cores.now) (map (line_from text.now) processes.now) }
 {
     let held = all_held(text, cores, span);
-    let Number::Value(total) = held else {
+    let Some(total) = held else {
         return false;
     };
     charges_make(text, processes, total)

@@ -1,9 +1,9 @@
 -- Reading a printed sheet: what is printed of a bill is read back (`print_read`), and a text that is read is what is printed of the bill read (`read_print`), with as
 -- many lines as its sections count (`read_lengths`).
+use Rattle.std.proofs.Common.{None, Some}
 use mathlib.Core.Path.{◌≡◌, refl, sym, ap, ◌∙◌}
 use mathlib.Core.Bool.{Bool, true, false, cond}
 use mathlib.Core.List.{List, [], ◌∷◌, ◌++◌, map}
-use mathlib.Core.Option.{none, some}
 use Prim.Native.Nat.{ℕ, ◌+◌, ◌≤◌}
 use native.Mathlib.Omega.{arith}
 use lib.ListN.{length, length-map}
@@ -69,13 +69,13 @@ module _ (b : Bill) (low : 1 ≤ b.scale) (high : b.scale ≤ 5) (cs : all_named
             ),
       )
 
-  pub print_read : read_sheet (bill_text b) ≡ some b
+  pub print_read : read_sheet (bill_text b) ≡ Some b
   unfolding read_sheet
   print_read = rw (lines_of b cs ps, printed.1, printed.0)
 
 -- ---- what is read is what is printed of it
 
-read_if : (c : Bool) (a b : Bill) → cond c (some a) none ≡ some b → (c ≡ true) × (a ≡ b)
+read_if : (c : Bool) (a b : Bill) → cond c (Some a) None ≡ Some b → (c ≡ true) × (a ≡ b)
 read_if true a b e = (refl, cc)
 read_if false a b e = (cc, cc)
 
@@ -95,7 +95,7 @@ pub record Counted (ls : List (List ℕ)) (b : Bill) : Type 0 where
   pub whole : length (ended ls) ≡ 3 + core_count ls + process_count ls
   pub rest : unended ls ≡ []
 
-module _ (t : List ℕ) (b : Bill) (e : read_sheet t ≡ some b) where
+module _ (t : List ℕ) (b : Bill) (e : read_sheet t ≡ Some b) where
   abbrev ls : List (List ℕ)
   ls = pieces 10 t
 

@@ -1,4 +1,5 @@
 -- Laws of the words of the time scales: which numbers have none, how long each is, that it is a part of all of them, and which number a word names.
+use Rattle.std.proofs.Common.{None, Some}
 use mathlib.Core.Path.{◌≡◌, refl, ap, ◌∙◌}
 use mathlib.Core.List.{List, []}
 use Prim.Native.Nat.{ℕ, zero, suc, ◌+◌, ◌≤◌, ◌<◌}
@@ -9,7 +10,6 @@ use Rattle.text.specs.Literal.{bytes}
 use Rattle.text.specs.Bytes.{same_bytes}
 use Rattle.words.specs.declared.scale.Scale.{Scale}
 use Rattle.words.specs.declared.scale.Scale.TheVariants.{Picoseconds, Nanoseconds, Microseconds, Milliseconds, Seconds}
-use Rattle.words.specs.declared.scale.ScaleFound.TheVariants.{ThisScale, NoScale}
 use Rattle.words.specs.Named.{pick}
 use Rattle.words.specs.Scale.{scale_word, scales, scale_of}
 use Rattle.words.proofs.Found.{first_named_lem}
@@ -95,6 +95,6 @@ number_word Seconds = (refl, omega arith)
 pub scale_named : (s : List ℕ) → 1 ≤ scale_code (scale_of s) → (s ≡ scale_text (scale_code (scale_of s))) × (scale_code (scale_of s) ≤ 5)
 unfolding scale_of
 scale_named s =
-    first_named_lem scale_word ThisScale NoScale s (λ f. 1 ≤ scale_code f → (s ≡ scale_text (scale_code f)) × (scale_code f ≤ 5)) scales
+    first_named_lem scale_word Some None s (λ f. 1 ≤ scale_code f → (s ≡ scale_text (scale_code f)) × (scale_code f ≤ 5)) scales
     (λ h. absurd (omega arith))
     (λ c e h. (e ∙ (number_word c).0, (number_word c).1))

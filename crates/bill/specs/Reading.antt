@@ -1,14 +1,11 @@
 -- The bill that a text shows. 02, No. 2: "Read sheets as the program prints them". A sheet is the whole print of an accepted trace, and so is a sum:
 -- exactly the bytes that the program could print. `Readings.print_read` and `Readings.read_print` say that this reading is that of `bill_text`.
-use Rattle.std.specs.Prelude.{Bool, true, false, ◌&&◌, cond, List, [], ◌∷◌, ◌++◌, map, ℕ, leb, length, get_or, take, drop}
-use Rattle.std.proofs.Math.Option.{Option, none, some}
+use Rattle.std.specs.Prelude.{Bool, true, false, ◌&&◌, cond, List, [], ◌∷◌, ◌++◌, map, ℕ, leb, length, get_or, take, drop, None, Some, Option}
 use Rattle.text.specs.Literal.{bytes}
 use Rattle.text.specs.Bytes.{starts_with, to_byte}
 use Rattle.text.specs.Number.{is_number, value_from}
 use Rattle.text.specs.Pieces.{pieces}
 use Rattle.text.specs.Lists.{all}
-use Rattle.words.specs.declared.scale.ScaleFound.{ScaleFound}
-use Rattle.words.specs.declared.scale.ScaleFound.TheVariants.{ThisScale, NoScale}
 use Rattle.words.specs.Scale.{scale_of}
 use Rattle.bill.specs.declared.section.Section.{Section}
 use Rattle.bill.specs.declared.section.Section.TheVariants.{Cores, Processes}
@@ -32,9 +29,9 @@ bill_text b = accepted_text b.scale b.sheet.span ++ sheet_text b.sheet
 
 -- ---- the verdict's line, "verdict 0 line 0 scale X span N"
 
-abbrev pub scale_code : ScaleFound → ℕ
-scale_code (ThisScale s) = scale_number s
-scale_code NoScale = 0
+abbrev pub scale_code : Option Scale → ℕ
+scale_code (Some s) = scale_number s
+scale_code None = 0
 
 -- what stands where X begins; up to the next blank it is X, and behind " span " it is N
 abbrev pub from_scale : List ℕ → List ℕ
@@ -121,4 +118,4 @@ form_tests ls =
     ∷ at_end (drop (process_count ls) (drop 1 (from_processes ls))) ∷ []
 
 unfoldable pub read_sheet : List ℕ → Option Bill
-read_sheet t = let ls = pieces 10 t in cond (all_of (form_tests ls)) (some (bill_from ls)) none
+read_sheet t = let ls = pieces 10 t in cond (all_of (form_tests ls)) (Some (bill_from ls)) None

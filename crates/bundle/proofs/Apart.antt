@@ -1,4 +1,5 @@
 -- A container told apart: what a header gives, what stands from an index on, and what a turn of the loop comes to.
+use Rattle.std.proofs.Common.{None, Some, Option}
 use mathlib.Core.Path.{◌≡◌, refl, sym, ◌∙◌}
 use mathlib.Core.Bool.{Bool, true, false, cond}
 use mathlib.Core.List.{List}
@@ -10,8 +11,6 @@ use lib.ListN.{length, take, drop, get_or, get_or-eq_default}
 use lib.Seq.{get_or-drop}
 use borrow.Author.Tests.{lt-ltb, le-ltb, eq-eqb, ne_eqb, eqb-true}
 use Rattle.text.specs.Literal.{bytes}
-use Rattle.text.specs.declared.number.Number.{Number}
-use Rattle.text.specs.declared.number.Number.TheVariants.{Value, Bad}
 use Rattle.text.specs.Bytes.{starts_with, find_from}
 use Rattle.text.specs.Number.{number_of}
 use Rattle.text.proofs.Bools.{lt_or_ge}
@@ -25,12 +24,12 @@ use Rattle.bundle.specs.Container.{length_in, header_entry, entry_from, end_from
 -- ---- what a header gives, by the tests of the code
 
 module _ (header : List ℕ) where
-  pub other_header : starts_with header (bytes "trace ") ≡ false → Bad ≡ length_in header
+  pub other_header : starts_with header (bytes "trace ") ≡ false → None ≡ length_in header
   unfolding length_in
   other_header e = rw e
 
   module _ (e : starts_with header (bytes "trace ") ≡ true) (blank : ℕ) (found : blank ≡ find_from 32 header 6) where
-    pub no_blank : length header ≤ blank → Bad ≡ length_in header
+    pub no_blank : length header ≤ blank → None ≡ length_in header
     unfolding length_in
     no_blank h = rw (e, ← found, le-ltb blank (length header) h)
 
@@ -45,7 +44,7 @@ module _ (s : List ℕ) (at e : ℕ) (found : e ≡ find_from 10 s at) where
   unfolding entry_from
   no_end h = rw (← found, le-ltb e (length s) h)
 
-  module _ (h : e < length s) {w : Number} (given : w ≡ length_in (take (e - at) (drop at s))) where
+  module _ (h : e < length s) {w : Option ℕ} (given : w ≡ length_in (take (e - at) (drop at s))) where
     abbrev rest : List ℕ
     rest = take (length s - (e + 1)) (drop (e + 1) s)
 
@@ -56,10 +55,10 @@ module _ (s : List ℕ) (at e : ℕ) (found : e ≡ find_from 10 s at) where
     unfolding entry_from
     by_length = rw (← found, lt-ltb e (length s) h, ← given)
 
-    pub no_length : w ≡ Bad → Untold ≡ entry_from s at
+    pub no_length : w ≡ None → Untold ≡ entry_from s at
     no_length p = sym (by_length ∙ rw p)
 
-    module _ {n : ℕ} (p : w ≡ Value n) where
+    module _ {n : ℕ} (p : w ≡ Some n) where
       pub other_byte : (get_or rest n 0 ≡ 10 → ⊥) → Untold ≡ entry_from s at
       other_byte g = sym (by_length ∙ rw (p, ne_eqb (get_or s (e + 1 + n) 0) 10 (λ z. g (rest_byte n ∙ z))))
 
@@ -79,8 +78,8 @@ byte_inside s i e = ⊎_elim (λ h. h) (λ h. absurd (omega (arith, e, get_or-eq
 abbrev Inside : List ℕ → ℕ → ℕ → ℕ → Type 0
 Inside s at e size = (at ≤ e) × (e + 1 + size < length s)
 
-entry_inside : (s : List ℕ) (at e : ℕ) (w : Number) {end size : ℕ} → at ≤ e → header_entry s e w ≡ Trace end size → Inside s at end size
-entry_inside s at e (Value n) {end} {size} h p = by_byte (eqb (get_or s (e + 1 + n) 0) 10) refl p
+entry_inside : (s : List ℕ) (at e : ℕ) (w : Option ℕ) {end size : ℕ} → at ≤ e → header_entry s e w ≡ Trace end size → Inside s at end size
+entry_inside s at e (Some n) {end} {size} h p = by_byte (eqb (get_or s (e + 1 + n) 0) 10) refl p
   where
     by_byte : (b : Bool) → eqb (get_or s (e + 1 + n) 0) 10 ≡ b → cond b (Trace e n) Untold ≡ Trace end size → Inside s at end size
     by_byte true q z =
@@ -89,7 +88,7 @@ entry_inside s at e (Value n) {end} {size} h p = by_byte (eqb (get_or s (e + 1 +
         let i = byte_inside s (e + 1 + n) (eqb-true _ _ q) in
         (omega arith, omega arith)
     by_byte false q z = absurd (let x : ◌≡◌ {A = ℕ} 0 1 = cc in omega arith)
-entry_inside s at e Bad h p = absurd (let x : ◌≡◌ {A = ℕ} 0 1 = cc in omega arith)
+entry_inside s at e None h p = absurd (let x : ◌≡◌ {A = ℕ} 0 1 = cc in omega arith)
 
 pub trace_inside : (s : List ℕ) (at : ℕ) {w : Entry} {end size : ℕ} → w ≡ entry_from s at → w ≡ Trace end size → Inside s at end size
 unfolding entry_from

@@ -1,9 +1,7 @@
 -- A container of traces: for each a header `trace LABEL LENGTH`, byte 10, as many bytes as the header says, and byte 10; nothing between two of
 -- them and nothing after the last.
-use Rattle.std.specs.Prelude.{cond, List, ℕ, zero, suc, ◌+◌, ◌-◌, eqb, ltb, length, take, drop, get_or}
+use Rattle.std.specs.Prelude.{cond, List, ℕ, zero, suc, ◌+◌, ◌-◌, eqb, ltb, length, take, drop, get_or, None, Some, Option}
 use Rattle.text.specs.Literal.{bytes}
-use Rattle.text.specs.declared.number.Number.{Number}
-use Rattle.text.specs.declared.number.Number.TheVariants.{Value, Bad}
 use Rattle.text.specs.Bytes.{starts_with, find_from}
 use Rattle.text.specs.Number.{number_of}
 use Rattle.bundle.specs.declared.container.Entry.{Entry}
@@ -16,14 +14,14 @@ abbrev pub label_end : List ℕ → ℕ
 label_end header = find_from 32 header 6
 
 -- the length that a header gives
-unfoldable pub length_in : List ℕ → Number
+unfoldable pub length_in : List ℕ → Option ℕ
 length_in header =
-    cond (starts_with header (bytes "trace ")) (cond (ltb (label_end header) (length header)) (number_of (drop (label_end header + 1) header) 4294967295) Bad) Bad
+    cond (starts_with header (bytes "trace ")) (cond (ltb (label_end header) (length header)) (number_of (drop (label_end header + 1) header) 4294967295) None) None
 
 -- A header that ends at an index, by its length: the trace is followed by a byte 10, and past the end of the bytes there is none.
-abbrev pub header_entry : List ℕ → ℕ → Number → Entry
-header_entry s end (Value n) = cond (eqb (get_or s (end + 1 + n) 0) 10) (Trace end n) Untold
-header_entry s end Bad = Untold
+abbrev pub header_entry : List ℕ → ℕ → Option ℕ → Entry
+header_entry s end (Some n) = cond (eqb (get_or s (end + 1 + n) 0) 10) (Trace end n) Untold
+header_entry s end None = Untold
 
 -- what stands from an index on: a trace with the end of its header and its length, or nothing that can be told
 unfoldable pub entry_from : List ℕ → ℕ → Entry

@@ -6,7 +6,7 @@ ghost use Rattle.bundle.specs.Container.{length_in, entry_from, container_end};
 use crate::say::{say, say_trace};
 use std::io::Stdout;
 use text::bytes::{find, starts};
-use text::number::{Number, read_number};
+use text::number::read_number;
 
 // What stands at an index: a trace, with where its header ends and its length; or nothing that can be told.
 #[derive(Clone, Copy)]
@@ -23,15 +23,15 @@ pub enum Ended {
 }
 
 // The length that a header gives.
-fn length_in(header: &[u8]) -> Number
+fn length_in(header: &[u8]) -> Option<u64>
     ensures { result ≡ length_in header.now }
 {
     if !starts(header, b"trace ") {
-        return Number::Bad;
+        return None;
     }
     let blank = find(header, b' ', 6);
     if header.len() <= blank {
-        return Number::Bad;
+        return None;
     }
     read_number(&header[blank + 1..], 4294967295)
 }
@@ -54,7 +54,7 @@ fn entry_from(s: &[u8], at: usize) -> Entry
     if s.len() <= end {
         return Entry::Untold;
     }
-    let Number::Value(n) = length_in(&s[at..end]) else {
+    let Some(n) = length_in(&s[at..end]) else {
         return Entry::Untold;
     };
     let size = n as usize;

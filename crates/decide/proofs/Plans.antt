@@ -1,7 +1,7 @@
 -- What the code decides test after test is what the rules answer at what the tables say.
+use Rattle.std.proofs.Common.{None, Some, Option}
 use mathlib.Core.Path.{◌≡◌, refl, sym, ap, ◌∙◌}
 use mathlib.Core.Bool.{Bool, true, false, not, ◌&&◌, ◌||◌, cond, not-not}
-use mathlib.Core.Option.{none, some}
 use mathlib.Core.List.{List}
 use Prim.Native.Nat.{ℕ, zero, suc, ◌+◌}
 use native.Mathlib.Omega.{arith}
@@ -45,8 +45,6 @@ use Rattle.rules.proofs.Seen.{own_number}
 use Rattle.steps.specs.Rows.{opened, leads_to, move_if, move_by}
 use Rattle.steps.proofs.CoreClasses.{class_on, class_takes}
 use Rattle.tables.specs.Entry.{idle_core, held_by, started_entry, last_time}
-use Rattle.lookup.specs.declared.find.Found.{Found}
-use Rattle.lookup.specs.declared.find.Found.TheVariants.{At, Nothing}
 use Rattle.lookup.specs.declared.look.LookedUp.{LookedUp}
 use Rattle.lookup.specs.LookedUp.{looked_up, is_nothing, above_in}
 use Rattle.decide.specs.declared.plan.Plan.{Plan}
@@ -94,11 +92,11 @@ on_instances e o = rw (on_process e o)
 pub another_differs : (x : Instance) → same_instance (another x) x ≡ false
 another_differs x = rw (ne_eqb (suc x.kind) x.kind (λ q. omega arith))
 
-idle_unheld : (number : ℕ) (f : Found) (n : ℕ) → is_holder 1 number f n ≡ false
-idle_unheld number Nothing n = refl
-idle_unheld number (At p) n = rw (ne_eqb idle_core (held_by p) (λ q. omega arith))
+idle_unheld : (number : ℕ) (f : Option ℕ) (n : ℕ) → is_holder 1 number f n ≡ false
+idle_unheld number None n = refl
+idle_unheld number (Some p) n = rw (ne_eqb idle_core (held_by p) (λ q. omega arith))
 
-module _ (class number : ℕ) (f : Found) (x : Instance) (first : Bool) where
+module _ (class number : ℕ) (f : Option ℕ) (x : Instance) (first : Bool) where
   serves_in : (t : Bool) → eqb class takes_core ≡ t → (standing : ℕ) →
       core_serves class standing (is_holder standing number f x.number) first ≡ serves (core_in standing number f x) t first x
   unfolding core_serves core_in
@@ -123,7 +121,7 @@ module _ (nums ticks : List ℕ) (s : LookedUp) (e : Event) where
   unfolding time_falls_in time_falls known_by
   time_in = by_test (eqb (started_entry nums) 0)
     where
-      by_test : (b : Bool) → not b && ltb e.time (last_time ticks) ≡ less e.time (cond b none (some (last_time ticks)))
+      by_test : (b : Bool) → not b && ltb e.time (last_time ticks) ≡ less e.time (cond b None (Some (last_time ticks)))
       by_test true = refl
       by_test false = refl
 
@@ -136,7 +134,7 @@ module _ (nums ticks : List ℕ) (s : LookedUp) (e : Event) where
   first_in = by_test (eqb (numbered_in nums s.target) 0)
     where
       by_test : (b : Bool) →
-          not b && leb (first_number_in nums s.target) e.target_instance ≡ reaches (cond b none (some (first_number_in nums s.target))) e.target_instance
+          not b && leb (first_number_in nums s.target) e.target_instance ≡ reaches (cond b None (Some (first_number_in nums s.target))) e.target_instance
       by_test true = refl
       by_test false = refl
 
@@ -150,7 +148,7 @@ module _ (nums ticks : List ℕ) (s : LookedUp) (e : Event) where
 
       by_test : (b : Bool) →
           cond b above (eqb e.target_instance (number_in nums s.target + 1))
-          ≡ is_next (cond b none (some (number_in nums s.target))) above e.target_instance
+          ≡ is_next (cond b None (Some (number_in nums s.target))) above e.target_instance
       by_test true = refl
       by_test false = refl
 
@@ -173,7 +171,7 @@ module _ (nums ticks : List ℕ) (s : LookedUp) (e : Event) where
       (by_test (eqb (numbered_in nums s.target) 0) (count_allowed e.word e.count) (count_follows_in (number_in nums s.target) e.word e.count) refl)
     where
       by_test : (z f g : Bool) → count_follows_in (number_in nums s.target) e.word e.count ≡ g →
-          not f || (not z && not g) ≡ not (count_follows (cond z none (some (number_in nums s.target))) e.word e.count && f)
+          not f || (not z && not g) ≡ not (count_follows (cond z None (Some (number_in nums s.target))) e.word e.count && f)
       by_test true true g q = refl
       by_test true false g q = refl
       by_test false true true q = rw q

@@ -1,6 +1,6 @@
 -- For the code alone: how it tests each refusal in the tables, and what it decides test after test. What is to be believed is `plan_by` (Decide), by the rules'
 -- own answer at what is known; the theorems `tests_plan_lem` and `tests_decide` (proofs/Plans) say that the two are the same.
-use Rattle.std.specs.Prelude.{Bool, not, ◌&&◌, ◌||◌, cond, List, [], ◌∷◌, ℕ, ◌+◌, eqb, leb, ltb}
+use Rattle.std.specs.Prelude.{Bool, not, ◌&&◌, ◌||◌, cond, List, [], ◌∷◌, ℕ, ◌+◌, eqb, leb, ltb, None, Some, Option}
 use Rattle.text.specs.Bytes.{same_bytes}
 use Rattle.text.specs.Sizes.{name_limit, core_limit}
 use Rattle.rules.specs.Words.{core, semaphore, increment, decrement, lock_used, full, overfull, unlock_full, used}
@@ -12,10 +12,7 @@ use Rattle.rules.specs.Core.{no_core, takes_core}
 use Rattle.rules.specs.History.{has_instances, is_tracked, activates}
 use Rattle.rules.specs.Refusals.{exceeds_limit, count_allowed}
 use Rattle.steps.specs.Rows.{move_by}
-use Rattle.steps.specs.declared.chart.Move.{Move}
-use Rattle.steps.specs.declared.chart.Move.TheVariants.{To, Off}
 use Rattle.tables.specs.Entry.{started_entry, last_time, name_count, core_count, instance_count, idle_core}
-use Rattle.lookup.specs.declared.find.Found.{Found}
 use Rattle.lookup.specs.declared.look.LookedUp.{LookedUp}
 use Rattle.lookup.specs.LookedUp.{new_core, new_name, is_nothing, above_in}
 use Rattle.decide.specs.declared.plan.Plan.{Plan}
@@ -37,10 +34,10 @@ unfoldable pub target_clash_in : List ℕ → LookedUp → ℕ → Bool
 target_clash_in nums s k = is_tracked k && kind_clash (kind_in nums s.target) k
 
 -- a number at the first number of the name in a row or above it, and one that its next activation has to bear
-unfoldable pub reaches_first : List ℕ → Found → ℕ → Bool
+unfoldable pub reaches_first : List ℕ → Option ℕ → ℕ → Bool
 reaches_first nums f n = not (eqb (numbered_in nums f) 0) && leb (first_number_in nums f) n
 
-unfoldable pub is_next_in : List ℕ → Found → ℕ → Bool
+unfoldable pub is_next_in : List ℕ → Option ℕ → ℕ → Bool
 is_next_in nums f n = cond (eqb (numbered_in nums f) 0) (above_in nums f n) (eqb n (number_in nums f + 1))
 
 unfoldable pub needs_one_in : List ℕ → LookedUp → ℕ → ℕ → ℕ → Bool
@@ -84,9 +81,9 @@ count_broken_in nums s k a n =
 
 -- ---- test after test
 
-abbrev pub move_plan : Move → List ℕ → LookedUp → ℕ → ℕ → ℕ → ℕ → Plan
-move_plan Off nums s k a n c = Refuse 11
-move_plan (To t) nums s k a n c =
+abbrev pub move_plan : Option ℕ → List ℕ → LookedUp → ℕ → ℕ → ℕ → ℕ → Plan
+move_plan None nums s k a n c = Refuse 11
+move_plan (Some t) nums s k a n c =
     cond (never_activated_in nums s k a n) (Refuse 11)
     (cond (not_next_in nums s k a n) (Refuse 12) (cond (core_broken_in nums s k n) (Refuse 13) (cond (count_broken_in nums s k a c) (Refuse 14) (Take s t))))
 

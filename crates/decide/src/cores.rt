@@ -5,7 +5,6 @@ ghost use Rattle.decide.specs.PlanCode.{core_serves, core_broken_in};
 ghost use Rattle.decide.specs.Known.{is_holder};
 
 use crate::known::{number_in, standing_in, state_in};
-use lookup::find::Found;
 use lookup::look::LookedUp;
 use steps::numbers::*;
 use tables::entry::*;
@@ -21,10 +20,10 @@ fn names_row(standing: u32, p: usize) -> bool
 }
 
 // Whether a core's state and number name the instance n of the process in a row.
-fn is_holder(standing: u32, number: u32, process: Found, n: u32) -> bool
+fn is_holder(standing: u32, number: u32, process: Option<usize>, n: u32) -> bool
     ensures { result ≡ is_holder standing number process n }
 {
-    let Found::At(p) = process else {
+    let Some(p) = process else {
         return false;
     };
     names_row(standing, p) & (number == n)

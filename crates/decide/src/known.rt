@@ -3,17 +3,16 @@ ghost use Rattle.std.specs.Prelude.{◌≡◌, not, eqb, ◌+◌, ◌≤◌, len
 ghost use Rattle.tables.specs.Entry.{nums_size, column, state_column};
 ghost use Rattle.decide.specs.Known.{entry_of, kind_in, standing_in, number_in, numbered_in, first_number_in, state_in};
 
-use lookup::find::Found;
 use lookup::look::LookedUp;
 use steps::numbers::SEMAPHORE;
 use tables::entry::*;
 
 // An entry of the column that begins at base, in the row found; rows is how many the column has.
-fn entry(nums: &[u32], base: usize, rows: usize, f: Found) -> u32
+fn entry(nums: &[u32], base: usize, rows: usize, f: Option<usize>) -> u32
     requires { (base + rows ≤ length nums.now) × (length nums.now ≡ nums_size) }
     ensures { result ≡ entry_of (column base rows) nums.now f }
 {
-    let Found::At(i) = f else {
+    let Some(i) = f else {
         return 0;
     };
     if rows <= i {
@@ -23,7 +22,7 @@ fn entry(nums: &[u32], base: usize, rows: usize, f: Found) -> u32
 }
 
 // The kind of the name in a row.
-pub(crate) fn kind_in(nums: &[u32], f: Found) -> u32
+pub(crate) fn kind_in(nums: &[u32], f: Option<usize>) -> u32
     requires { length nums.now ≡ nums_size }
     ensures { result ≡ kind_in nums.now f }
 {
@@ -31,7 +30,7 @@ pub(crate) fn kind_in(nums: &[u32], f: Found) -> u32
 }
 
 // The state of the core or semaphore in a row.
-pub(crate) fn standing_in(nums: &[u32], f: Found) -> u32
+pub(crate) fn standing_in(nums: &[u32], f: Option<usize>) -> u32
     requires { length nums.now ≡ nums_size }
     ensures { result ≡ standing_in nums.now f }
 {
@@ -39,7 +38,7 @@ pub(crate) fn standing_in(nums: &[u32], f: Found) -> u32
 }
 
 // The state of the instance in a row.
-fn instance_state(nums: &[u32], f: Found) -> u32
+fn instance_state(nums: &[u32], f: Option<usize>) -> u32
     requires { length nums.now ≡ nums_size }
     ensures { result ≡ entry_of state_column nums.now f }
 {
@@ -60,14 +59,14 @@ pub(crate) fn state_in(nums: &[u32], s: LookedUp, kind: u32) -> u32
 }
 
 // Whether the name in a row has a last number or count, and that number.
-pub(crate) fn numbered_in(nums: &[u32], f: Found) -> bool
+pub(crate) fn numbered_in(nums: &[u32], f: Option<usize>) -> bool
     requires { length nums.now ≡ nums_size }
     ensures { result ≡ not (eqb (numbered_in nums.now f) 0) }
 {
     entry(nums, NUMBERED, NAME_ROWS, f) != 0
 }
 
-pub(crate) fn number_in(nums: &[u32], f: Found) -> u32
+pub(crate) fn number_in(nums: &[u32], f: Option<usize>) -> u32
     requires { length nums.now ≡ nums_size }
     ensures { result ≡ number_in nums.now f }
 {
@@ -75,7 +74,7 @@ pub(crate) fn number_in(nums: &[u32], f: Found) -> u32
 }
 
 // The first number of the process or runnable in a row.
-pub(crate) fn first_number_in(nums: &[u32], f: Found) -> u32
+pub(crate) fn first_number_in(nums: &[u32], f: Option<usize>) -> u32
     requires { length nums.now ≡ nums_size }
     ensures { result ≡ first_number_in nums.now f }
 {

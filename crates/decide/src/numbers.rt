@@ -5,14 +5,13 @@ ghost use Rattle.tables.specs.Entry.{nums_size};
 ghost use Rattle.decide.specs.PlanCode.{reaches_first, is_next_in, never_activated_in, not_next_in, count_follows_in, least_count, count_broken_in};
 
 use crate::known::{first_number_in, number_in, numbered_in, state_in};
-use lookup::find::Found;
 use lookup::look::{LookedUp, above_all};
 use steps::kind::{numbers_instance, with_instances};
 use steps::numbers::SEMAPHORE;
 use words::code::*;
 
 // Whether the process or runnable in a row has a first number, and the number is that one or above it.
-pub(crate) fn reaches_first(nums: &[u32], row: Found, number: u32) -> bool
+pub(crate) fn reaches_first(nums: &[u32], row: Option<usize>, number: u32) -> bool
     requires { length nums.now ≡ nums_size }
     ensures { result ≡ reaches_first nums.now row number }
 {
@@ -23,7 +22,7 @@ pub(crate) fn reaches_first(nums: &[u32], row: Found, number: u32) -> bool
 }
 
 // Whether a number is one that the next activation has to bear: the last one plus 1, and of the first activation one above all seen.
-pub(crate) fn is_next(nums: &[u32], row: Found, number: u32) -> bool
+pub(crate) fn is_next(nums: &[u32], row: Option<usize>, number: u32) -> bool
     requires { length nums.now ≡ nums_size }
     ensures { result ≡ is_next_in nums.now row number }
 {

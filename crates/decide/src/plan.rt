@@ -12,7 +12,7 @@ use crate::numbers::{count_broken, never_activated, not_next};
 use crate::room::no_room;
 use line::event::Event;
 use lookup::look::{LookedUp, look};
-use steps::chart::{Move, chart_step};
+use steps::chart::chart_step;
 use steps::lines::kind_number;
 use tables::entry::*;
 use tables::size::sized;
@@ -42,7 +42,7 @@ fn decide_steps(nums: &[u32], s: LookedUp, kind: u32, word: u32, number: u32, co
     ensures { result ≡ steps_plan nums.now s kind word number count }
 {
     let m = chart_step(kind, word, state_in(nums, s, kind));
-    let Move::To(state) = m else {
+    let Some(state) = m else {
         return Plan::Refuse(11);
     };
     if never_activated(nums, s, kind, word, number) {

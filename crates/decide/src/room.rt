@@ -5,7 +5,6 @@ ghost use Rattle.tables.specs.Entry.{nums_size};
 ghost use Rattle.decide.specs.PlanCode.{needs_one_in, no_room_in};
 
 use crate::numbers::{is_next, reaches_first};
-use lookup::find::Found;
 use lookup::look::{LookedUp, rows_added};
 use steps::kind::{is_process, numbers_instance, tracked, with_instances};
 use steps::numbers::*;
@@ -31,7 +30,7 @@ fn needs_one(nums: &[u32], s: LookedUp, kind: u32, word: u32, number: u32) -> bo
     if !with_instances(kind) {
         return false;
     }
-    if let Found::At(_) = instance {
+    if instance.is_some() {
         return false;
     }
     if exceeds_limit(kind, word) {

@@ -1,4 +1,5 @@
 -- Laws of notes: where a value's dot stands, what its first byte says, and that an empty note is no note.
+use Rattle.std.proofs.Common.{Some}
 use mathlib.Core.Path.{◌≡◌, refl}
 use mathlib.Core.Bool.{false, ◌&&◌}
 use mathlib.Core.List.{List, [], ◌∷◌}
@@ -10,7 +11,6 @@ use borrow.Author.Tests.{eq-eqb, ne_eqb, le-leb, lt-leb}
 use Rattle.text.specs.Bytes.{to_byte, find_from}
 use Rattle.text.specs.Number.{are_digits}
 use Rattle.words.specs.declared.kind.Kind.{Kind}
-use Rattle.forms.specs.declared.note.Note.TheVariants.{Means}
 use Rattle.forms.specs.Note.{is_decimal, is_signal, note_at, note_of}
 
 -- ---- the dot, which is looked for from the front
@@ -47,7 +47,7 @@ plain_signal (x ∷ s) n e = rw (ne_eqb x 45 e)
 
 -- ---- a note that is there
 
-pub empty_note : (k : Kind) (s : List ℕ) → length s ≡ 0 → note_of k s ≡ Means 0
+pub empty_note : (k : Kind) (s : List ℕ) → length s ≡ 0 → note_of k s ≡ Some 0
 unfolding note_of
 empty_note k [] e = refl
 empty_note k (x ∷ s) e = absurd (suc-ne-zero _ e)

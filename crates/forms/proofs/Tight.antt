@@ -1,4 +1,5 @@
 -- How tight the contracts of dates, notes and source rules are: no second answer, and wrong answers that they shut out.
+use Rattle.std.proofs.Common.{Some, Option}
 use mathlib.Core.Path.{◌≡◌, refl}
 use mathlib.Core.Bool.{Bool, not}
 use mathlib.Core.List.{List}
@@ -10,8 +11,6 @@ use Rattle.text.proofs.Tight.{unique, ShutsOut, shut_out}
 use Rattle.words.specs.declared.kind.Kind.{Kind}
 use Rattle.words.specs.declared.kind.Kind.TheVariants.{Semaphore}
 use Rattle.words.specs.declared.action.Action.{Action}
-use Rattle.forms.specs.declared.note.Note.{Note}
-use Rattle.forms.specs.declared.note.Note.TheVariants.{Means}
 use Rattle.forms.specs.Date.{fits_byte, fits_pattern, digit_at, two_at, is_leap, days_in, is_day, is_time, is_moment}
 use Rattle.forms.specs.Note.{count_note, is_decimal, is_signal, signal_note, note_of, is_wrong}
 use Rattle.forms.specs.Rule.{rule_broken}
@@ -28,11 +27,11 @@ moment_not_by_pattern = shut_out not (bytes "2026-02-29T00:00:00Z") refl refl
 
 -- ---- `note_of`
 
-pub note_unique : (k : Kind) (s : List ℕ) (x y : Note) → x ≡ note_of k s → y ≡ note_of k s → x ≡ y
+pub note_unique : (k : Kind) (s : List ℕ) (x y : Option ℕ) → x ≡ note_of k s → y ≡ note_of k s → x ≡ y
 note_unique k = unique (note_of k)
 
 -- a semaphore's note is a count, and not any name
-pub note_not_any : ShutsOut (note_of Semaphore) (λ s. Means 0)
+pub note_not_any : ShutsOut (note_of Semaphore) (λ s. Some 0)
 unfolding note_of count_note number_of
 note_not_any = shut_out is_wrong (bytes "x") refl refl
 

@@ -3,25 +3,15 @@ ghost use Rattle.std.specs.Prelude.{◌≡◌};
 ghost use Rattle.forms.specs.Note.{note_of, count_note, signal_note, is_decimal, is_signal};
 
 use text::bytes::find;
-use text::number::{Number, digits, read_number};
+use text::number::{digits, read_number};
 use words::kind::Kind;
 
-// The count that a note means, 0 for a note that is no count; or that the note has not the form its type asks.
-#[derive(Clone, Copy)]
-pub enum Note {
-    Means(u32),
-    Wrong,
-}
-
 // A semaphore's note as a count.
-fn count_note(s: &[u8]) -> Note
+fn count_note(s: &[u8]) -> Option<u32>
     ensures { result ≡ count_note s.now }
 {
-    let n = read_number(s, 4294967295);
-    let Number::Value(count) = n else {
-        return Note::Wrong;
-    };
-    Note::Means(count as u32)
+    let count = read_number(s, 4294967295)?;
+    Some(count as u32)
 }
 
 // Whether s is digits, and optionally a dot and digits.
@@ -53,30 +43,26 @@ fn signal(s: &[u8]) -> bool
 }
 
 // A signal's note, which means no count.
-fn signal_note(s: &[u8]) -> Note
+fn signal_note(s: &[u8]) -> Option<u32>
     ensures { result ≡ signal_note s.now }
 {
-    if signal(s) {
-        Note::Means(0)
-    } else {
-        Note::Wrong
-    }
+    if signal(s) { Some(0) } else { None }
 }
 
-// What a note means at a type; an empty note is no note.
-pub fn note_of(kind: Kind, note: &[u8]) -> Note
+// The count that a note means at a type, 0 for a note that is no count; nothing where it has not the form its type asks. An empty note is no note.
+pub fn note_of(kind: Kind, note: &[u8]) -> Option<u32>
     ensures { result ≡ note_of kind note.now }
 {
     if note.len() == 0 {
-        return Note::Means(0);
+        return Some(0);
     }
     match kind {
-        Kind::Stimulus => Note::Means(0),
-        Kind::Task => Note::Means(0),
-        Kind::Interrupt => Note::Means(0),
-        Kind::Runnable => Note::Means(0),
-        Kind::Scheduler => Note::Means(0),
-        Kind::OsEvent => Note::Means(0),
+        Kind::Stimulus => Some(0),
+        Kind::Task => Some(0),
+        Kind::Interrupt => Some(0),
+        Kind::Runnable => Some(0),
+        Kind::Scheduler => Some(0),
+        Kind::OsEvent => Some(0),
         Kind::Signal => signal_note(note),
         Kind::Semaphore => count_note(note),
     }

@@ -1,7 +1,6 @@
 -- An index is right: each row lies at a distance from its home, with earlier rows in every place between, and nothing else is in the index.
 -- The index that inserting gives is right, and no other is. For any homes.
-use Rattle.std.proofs.Common.{◌≡◌, ℕ, zero, suc, ◌+◌, ◌-◌, ◌<◌, ◌≤◌, true, false, eqb, List, length, get_or, set, sym, refl, ap, ◌∙◌, subst, ⊎_elim, le_of_suc-le-suc, mod-lt, mod-eq_of_lt, eq-or-lt_of_le, arith, length-set, get_or-set_other, get_or-set_same, ext_get_or, eqb-true}
-use mathlib.Core.Option.{Option, none, some}
+use Rattle.std.proofs.Common.{◌≡◌, ℕ, zero, suc, ◌+◌, ◌-◌, ◌<◌, ◌≤◌, true, false, eqb, List, length, get_or, set, sym, refl, ap, ◌∙◌, subst, ⊎_elim, le_of_suc-le-suc, mod-lt, mod-eq_of_lt, eq-or-lt_of_le, arith, length-set, get_or-set_other, get_or-set_same, ext_get_or, eqb-true, Option, None, Some}
 use native.Mathlib.Nat.{add-mod_right}
 use lib.ListN.{length-replicate, get_or-replicate}
 use borrow.Author.Tests.{eqb-false}
@@ -66,7 +65,7 @@ module _ (home : ℕ → ℕ) (n : ℕ) where
 
 -- ---- a row put into a free place
 
-module _ (home : ℕ → ℕ) (n : ℕ) (l : List ℕ) (d : ℕ) (x : Right home n l) (f : sought l (home n) (λ e. eqb e 0) ≡ some d) where
+module _ (home : ℕ → ℕ) (n : ℕ) (l : List ℕ) (d : ℕ) (x : Right home n l) (f : sought l (home n) (λ e. eqb e 0) ≡ Some d) where
   abbrev to : ℕ
   to = place (home n) d
 
@@ -138,7 +137,7 @@ all_around h p a b =
     (lt_or_ge p h)
 
 always_free : (home : ℕ → ℕ) (n : ℕ) → n < place_rows → home n < place_rows → length (index_of home n) ≡ place_rows
-    → sought (index_of home n) (home n) (λ e. eqb e 0) ≡ none → ⊥
+    → sought (index_of home n) (home n) (λ e. eqb e 0) ≡ None → ⊥
 always_free home n m h s e =
     let all = all_taken (index_of home n) (λ p l q.
     let w = all_around (home n) p h (omega arith) in
@@ -158,8 +157,8 @@ right_index home (suc n) m b = by_free (right_index home n (omega arith) (λ r h
   where
     by_free : Right home n (index_of home n) → (r : Option ℕ) → sought (index_of home n) (home n) (λ e. eqb e 0) ≡ r
         → Right home (suc n) (set (index_of home n) (place_found (home n) r) (suc n))
-    by_free x (some d) e = right_put home n (index_of home n) d x e
-    by_free x none e = absurd (always_free home n (omega arith) (b n (omega arith)) x.size e)
+    by_free x (Some d) e = right_put home n (index_of home n) d x e
+    by_free x None e = absurd (always_free home n (omega arith) (b n (omega arith)) x.size e)
 
 -- below placeRows rows the next row finds a free place
 pub free_met : (home : ℕ → ℕ) (n : ℕ) → n < place_rows → ((r : ℕ) → r ≤ n → home r < place_rows) → (free (index_of home n) (home n) < place_rows) × (get_or (index_of home n) (free (index_of home n) (home n)) 0 ≡ 0)
@@ -167,8 +166,8 @@ unfolding free
 free_met home n m b = by_free (sought (index_of home n) (home n) (λ e. eqb e 0)) refl
   where
     by_free : (r : Option ℕ) → sought (index_of home n) (home n) (λ e. eqb e 0) ≡ r → (place_found (home n) r < place_rows) × (get_or (index_of home n) (place_found (home n) r) 0 ≡ 0)
-    by_free (some d) e = (place_lt (home n) d, eqb-true _ _ (first_at (λ d. eqb (entry (index_of home n) (home n) d) 0) place_rows d e).1)
-    by_free none e = absurd (always_free home n m (b n (omega arith)) (right_index home n (omega arith) (λ r h. b r (omega arith))).size e)
+    by_free (Some d) e = (place_lt (home n) d, eqb-true _ _ (first_at (λ d. eqb (entry (index_of home n) (home n) d) 0) place_rows d e).1)
+    by_free None e = absurd (always_free home n m (b n (omega arith)) (right_index home n (omega arith) (λ r h. b r (omega arith))).size e)
 
 -- so each row takes one place
 pub taken_index : (home : ℕ → ℕ) (n : ℕ) → n ≤ place_rows → ((r : ℕ) → r < n → home r < place_rows) → taken_places (index_of home n) ≡ n

@@ -1,6 +1,5 @@
 -- The index of the names: what putting the rows into it in their order gives. An index is a list of 512 entries, 0 for a free place, else 1 + a row.
-use Rattle.std.specs.Prelude.{ℕ, zero, suc, ◌+◌, ◌%◌, Bool, List, replicate, nat_eq, slice_index, slice_set}
-use Rattle.std.proofs.Math.Option.{Option, none, some}
+use Rattle.std.specs.Prelude.{ℕ, zero, suc, ◌+◌, ◌%◌, Bool, List, replicate, nat_eq, slice_index, slice_set, Option, None, Some}
 use Rattle.marks.specs.First.{first_of}
 use Rattle.tables.specs.Entry.{place_rows, name_count, name_at}
 use Rattle.index.specs.Hash.{home_of}
@@ -18,8 +17,8 @@ sought l home f = first_of (λ d. f (entry l home d)) 0 place_rows
 
 -- the place at the distance found; where none was found, the one past the last, which is none
 abbrev pub place_found : ℕ → Option ℕ → ℕ
-place_found home (some d) = place home d
-place_found home none = place_rows
+place_found home (Some d) = place home d
+place_found home None = place_rows
 
 -- "with the next free place tried on a clash": the first free place from home on
 unfoldable pub free : List ℕ → ℕ → ℕ

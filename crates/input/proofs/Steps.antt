@@ -1,4 +1,5 @@
 -- One read behind what was carried over, and its turn: what the code comes to is what reading comes to.
+use Rattle.std.proofs.Common.{None, Some}
 use mathlib.Core.Path.{◌≡◌, sym, ap, ◌∙◌}
 use mathlib.Core.List.{List, [], ◌∷◌, ◌++◌}
 use Prim.Native.Nat.{ℕ, ◌+◌, ◌-◌, ◌≤◌, ◌<◌}
@@ -6,7 +7,6 @@ use native.Mathlib.Omega.{arith}
 use lib.ListN.{length, take, drop, get_or, length-drop}
 use lib.Seq.{take-add, get_or-take, get_or-drop, length-take-le}
 use Rattle.judge.specs.Feed.{Tables}
-use Rattle.run.specs.declared.chunk.Turn.TheVariants.{More, Stop}
 use Rattle.run.specs.Chunk.{Turned, chunk_taken, last_taken, going, stopped, read_on, at_input_end}
 use Rattle.run.proofs.Buffered.{goes_on, turn_step, turn_end}
 use Rattle.input.specs.Reads.{buffer_size, Filled, ARead, OneMore}
@@ -35,9 +35,9 @@ module _ {n have : ℕ} {b c : List ℕ} (f : Filled n have b c) (some : 0 < n) 
         ap (λ (y : Turned). goes_on y []) w
         ∙ turn_step t c (have + n) (take have b) read [] (take-add have n c ∙ ap (λ (l : List ℕ). l ++ read) f.kept)
 
-    pub one_more : {left : ℕ} → x.turn ≡ More left → OneMore n have t b (going x.left (take left x.buffer))
+    pub one_more : {left : ℕ} → x.turn ≡ Some left → OneMore n have t b (going x.left (take left x.buffer))
     unfolding read_on
     one_more q = record { read = read; each = a_read; counted = length_read; comes_to = sym (rw q at turn_read) }
 
-    pub one_last : x.turn ≡ Stop → OneMore n have t b (stopped x.left)
+    pub one_last : x.turn ≡ None → OneMore n have t b (stopped x.left)
     one_last q = record { read = read; each = a_read; counted = length_read; comes_to = sym (rw q at turn_read) }

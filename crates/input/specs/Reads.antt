@@ -1,6 +1,5 @@
 -- What reading leaves. Which bytes a read gives is the world's: here they are some bytes.
-use Rattle.std.specs.Prelude.{◌≡◌, cond, List, [], ◌∷◌, ℕ, ◌+◌, ◌≤◌, ◌<◌, eqb, length, take, get_or}
-use Rattle.std.proofs.Math.Option.{Option, none, some}
+use Rattle.std.specs.Prelude.{◌≡◌, cond, List, [], ◌∷◌, ℕ, ◌+◌, ◌≤◌, ◌<◌, eqb, length, take, get_or, Option, None, Some}
 use Rattle.ranges.specs.Range.{table_answer}
 use Rattle.judge.specs.Feed.{Tables}
 use Rattle.run.specs.Chunk.{carried_most, Progress, going, stopped, read_on, at_input_end}
@@ -83,14 +82,14 @@ input_refusal t b = cond (eqb (length b) buffer_size) (table_answer t.names t.nu
 -- Document 01's number of each answer. 0 says that the input was read; what the trace's verdict is stands in the tables. A read that failed has
 -- none: 01 does not speak of an input that cannot be read.
 abbrev pub input_number : Input → Option ℕ
-input_number (Read n) = some 0
-input_number Failed = none
-input_number (Refused n) = some n
+input_number (Read n) = Some 0
+input_number Failed = None
+input_number (Refused n) = Some n
 
 -- a number is that of the refusal, 0 where nothing is refused; a read can only fail where nothing is
 abbrev pub Numbered : Option ℕ → ℕ → Type 0
-Numbered (some n) refusal = n ≡ refusal
-Numbered none refusal = refusal ≡ 0
+Numbered (Some n) refusal = n ≡ refusal
+Numbered None refusal = refusal ≡ 0
 
 -- from the tables t and the buffer b to the tables u and the buffer c; what reads leave in the buffer is the world's
 abbrev pub ReadLeaves : Input → Tables → List ℕ → Tables → List ℕ → Type 0

@@ -1,6 +1,5 @@
 -- What the program does but to write the text.
-use Rattle.std.specs.Prelude.{◌≡◌, ◌&&◌, cond, List, ℕ, ◌≤◌, ◌<◌, eqb, leb, length, take}
-use Rattle.std.proofs.Math.Option.{Option, none, some}
+use Rattle.std.specs.Prelude.{◌≡◌, ◌&&◌, cond, List, ℕ, ◌≤◌, ◌<◌, eqb, leb, length, take, Option, None, Some}
 use Rattle.text.specs.Put.{written}
 use Rattle.walk.specs.Lines.{lines_of}
 use Rattle.rules.specs.Text.{trace_text}
@@ -31,9 +30,9 @@ lent_refusal l = size_refusal (length l.tables.names) (length l.tables.nums) (le
 -- Document 01's number of each answer. 0 says that there is a text; the trace's verdict is its first line. A read that failed has none: 01 does not
 -- speak of an input that cannot be read.
 abbrev pub answer_number : Answer → Option ℕ
-answer_number (Text n bytes) = some 0
-answer_number Unread = none
-answer_number (Refused n) = some n
+answer_number (Text n bytes) = Some 0
+answer_number Unread = None
+answer_number (Refused n) = Some n
 
 -- what is printed of the reads of a trace
 abbrev pub text_of : List (List ℕ) → List ℕ

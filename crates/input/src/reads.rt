@@ -5,7 +5,7 @@ ghost use Rattle.run.specs.Chunk.{carried_most};
 ghost use Rattle.input.specs.Reads.{buffer_size, OneFill, Stepped, input_refusal, Taken};
 
 use ranges::range::table_answer;
-use run::chunk::{Turn, take_chunk, take_last};
+use run::chunk::{take_chunk, take_last};
 use std::io::Read;
 
 // What one read came to: how many bytes, never 0; the end of input; or an error.
@@ -66,7 +66,7 @@ fn one_read<R: Read>(
     let got = fill(stdin, buf, have);
     match got {
         Got::Bytes(n) => {
-            let Turn::More(left) = take_chunk(names, nums, ticks, buf, have + n) else {
+            let Some(left) = take_chunk(names, nums, ticks, buf, have + n) else {
                 return Step::Stop(n);
             };
             Step::More(n, left)

@@ -1,7 +1,5 @@
 -- One line against the tables: each return of the code is what the definitions say. So too where the tables are tested first, for a line and a chunk.
-use Rattle.std.proofs.Common.{◌≡◌, ℕ, List, sym, ◌∙◌, eq-eqb, ne_eqb}
-use Rattle.walk.specs.declared.lines.Next.{Next}
-use Rattle.walk.specs.declared.lines.Next.TheVariants.{Line, Rest}
+use Rattle.std.proofs.Common.{◌≡◌, ℕ, List, sym, ◌∙◌, eq-eqb, ne_eqb, None, Some, Option}
 use Rattle.walk.specs.Lines.{whole_lines, used_up}
 use Rattle.fields.specs.Part.{field_of, part_from}
 use Rattle.line.specs.declared.event.Event.{Event as ReadEvent}
@@ -66,10 +64,10 @@ module _ (t : Tables) (l : List ℕ) where
 -- ---- the next line of a chunk
 
 module _ (t : Tables) (s : List ℕ) (at : ℕ) where
-  pub none_next : {n : Next} → n ≡ Rest → chunked (record { answer = 0; used = at }) t.names t.nums t.ticks ≡ fed_next t s at n
+  pub none_next : {n : Option (ℕ × ℕ)} → n ≡ None → chunked (record { answer = 0; used = at }) t.names t.nums t.ticks ≡ fed_next t s at n
   none_next q = rw q
 
-  pub judged_next : {n : Next} {x : After} (end start : ℕ) → n ≡ Line end start → x ≡ judged_line t (part_from s at end)
+  pub judged_next : {n : Option (ℕ × ℕ)} {x : After} (end start : ℕ) → n ≡ Some (end, start) → x ≡ judged_line t (part_from s at end)
       → chunked (record { answer = x.answer; used = start }) x.left.names x.left.nums x.left.ticks ≡ fed_next t s at n
   judged_next end start q e = rw (q, e)
 

@@ -1,9 +1,7 @@
 -- Many lines against the tables: what the loop over the lines of a chunk goes by, and lines after lines.
-use Rattle.std.proofs.Common.{◌≡◌, ℕ, ◌+◌, ◌-◌, ◌<◌, ◌≤◌, Bool, true, false, ◌||◌, eqb, List, [], ◌∷◌, ◌++◌, length, take, drop, sym, refl, ap, ◌∙◌, arith, take_all, eqb-true, le-leb}
+use Rattle.std.proofs.Common.{◌≡◌, ℕ, ◌+◌, ◌-◌, ◌<◌, ◌≤◌, Bool, true, false, ◌||◌, eqb, List, [], ◌∷◌, ◌++◌, length, take, drop, sym, refl, ap, ◌∙◌, arith, take_all, eqb-true, le-leb, None, Some, Option}
 use borrow.Author.Tests.{eqb-false}
 use Rattle.text.proofs.Bools.{clash}
-use Rattle.walk.specs.declared.lines.Next.{Next}
-use Rattle.walk.specs.declared.lines.Next.TheVariants.{Line, Rest}
 use Rattle.walk.specs.Lines.{whole_lines, used_up, next_from}
 use Rattle.walk.proofs.Nexts.{Stepped, Rested, line_step, rest_step}
 use Rattle.fields.specs.Part.{part_from}
@@ -48,21 +46,21 @@ fed_whole t s =
 
 -- a turn of the loop: it ends where all of it is one line, and where the place stays, since nothing is left; else one line more is done
 module _ {t u : Tables} {s : List ℕ} {at : ℕ} {x : AfterChunk} where
-  ends_by : Going false t u s at → (n : Next) → next_from s at ≡ n → x ≡ fed_next u s at n → x.fed.used ≡ at → Alike t x.left × (x ≡ fed_lines false t s)
-  ends_by g (Line e n) q p h =
+  ends_by : Going false t u s at → (n : Option (ℕ × ℕ)) → next_from s at ≡ n → x ≡ fed_next u s at n → x.fed.used ≡ at → Alike t x.left × (x ≡ fed_lines false t s)
+  ends_by g (Some (e, n)) q p h =
       let d = line_step s at e n q in
       let k : n ≡ at = rw p at h in
       let on : ⊥ = omega arith in absurd on
-  ends_by g Rest q p h = let e = going_end g (rest_step s at q) in (rw p g.alike, rw (p, e.0, e.1))
+  ends_by g None q p h = let e = going_end g (rest_step s at q) in (rw p g.alike, rw (p, e.0, e.1))
 
-  goes_by : Going false t u s at → (n : Next) → next_from s at ≡ n → x ≡ fed_next u s at n → (x.fed.used ≡ at → ⊥)
+  goes_by : Going false t u s at → (n : Option (ℕ × ℕ)) → next_from s at ≡ n → x ≡ fed_next u s at n → (x.fed.used ≡ at → ⊥)
       → (at < x.fed.used) × Going false t x.left s x.fed.used
   unfolding part_from
-  goes_by g (Line e n) q p h =
+  goes_by g (Some (e, n)) q p h =
       let d = line_step s at e n q in
       let less : at < n = omega arith in
       rw p (less, going_on {x = judged_line u (take (e - at) (drop at s))} g d refl)
-  goes_by g Rest q p h = absurd (h (rw p))
+  goes_by g None q p h = absurd (h (rw p))
 
   pub loop-ends : (whole : Bool) → Going whole t u s at → x ≡ fed_next u s at (line_from whole s at) → whole || eqb x.fed.used at ≡ true
       → Alike t x.left × (x ≡ fed_lines whole t s)

@@ -1,7 +1,5 @@
 -- One line against the tables, and many lines.
-use Rattle.std.specs.Prelude.{ℕ, ◌+◌, ◌%◌, ◌^◌, Bool, true, false, cond, not, List, [], ◌∷◌, length, replicate, ◌==◌, slice_set}
-use Rattle.walk.specs.declared.lines.Next.{Next}
-use Rattle.walk.specs.declared.lines.Next.TheVariants.{Line, Rest}
+use Rattle.std.specs.Prelude.{ℕ, ◌+◌, ◌%◌, ◌^◌, Bool, true, false, cond, not, List, [], ◌∷◌, length, replicate, ◌==◌, slice_set, None, Some, Option}
 use Rattle.walk.specs.Lines.{whole_lines, used_up}
 use Rattle.fields.specs.Part.{field_of, part_from}
 use Rattle.line.specs.declared.event.Event.{Event as ReadEvent}
@@ -98,11 +96,11 @@ abbrev pub chunked : Fed → List ℕ → List ℕ → List ℕ → AfterChunk
 chunked f names nums ticks = record { fed = f; left = tables names nums ticks }
 
 -- the next line of a chunk, and where what stands after it begins; with none left, nothing changes
-abbrev pub fed_next : Tables → List ℕ → ℕ → Next → AfterChunk
-fed_next t s at (Line end start) =
+abbrev pub fed_next : Tables → List ℕ → ℕ → Option (ℕ × ℕ) → AfterChunk
+fed_next t s at (Some (end, start)) =
     let judged = judged_line t (part_from s at end) in
     record { fed = record { answer = judged.answer; used = start }; left = judged.left }
-fed_next t s at Rest = record { fed = record { answer = 0; used = at }; left = t }
+fed_next t s at None = record { fed = record { answer = 0; used = at }; left = t }
 
 -- every whole line in turn, after which none is left to answer; where `whole`, all of it as one line
 abbrev pub fed_lines : Bool → Tables → List ℕ → AfterChunk

@@ -6,7 +6,6 @@ ghost use Rattle.judge.specs.Feed.{tables, after, fed_line, fed_next, chunked, f
 
 use crate::one_line::line_in;
 use line::read_next;
-use line::reading::NextRead;
 use ranges::range::table_answer;
 use tables::entry::*;
 
@@ -31,16 +30,16 @@ fn next_in(
         ≡ fed_next (tables names.old nums.old ticks.old) s.now at (line_from whole s.now at) }
 {
     let next = read_next(s, at, whole);
-    let NextRead::Read(end, start, split) = next else {
+    let Some(next) = next else {
         return Fed {
             answer: 0,
             used: at,
         };
     };
-    let answer = line_in(names, nums, ticks, &s[at..end], split);
+    let answer = line_in(names, nums, ticks, &s[at..next.end], next.split);
     Fed {
         answer,
-        used: start,
+        used: next.start,
     }
 }
 

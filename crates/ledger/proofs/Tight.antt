@@ -1,8 +1,8 @@
 -- How tight the contract is: one answer where no sheet is read, one for the sheets that were read, and the same one for all that begin so.
+use Rattle.std.proofs.Common.{Some}
 use mathlib.Core.Path.{◌≡◌, refl, sym, ap, ap₂, ◌∙◌}
 use mathlib.Core.Bool.{true, false}
 use mathlib.Core.List.{List, [], ◌∷◌, ◌++◌, Perm}
-use mathlib.Core.Option.{some, none-ne-some}
 use Prim.Native.Nat.{ℕ, ◌≤◌, ◌<◌}
 use native.Mathlib.Omega.{arith}
 use lib.ListN.{length, take, length-append}
@@ -59,7 +59,7 @@ pub sum_in_any_order : {n k count : ℕ} {l a b : List ℕ} (v : Summed n count 
 sum_in_any_order {l = l} v w p =
     let c = v.sum.came in
     let d = w.sum.came in
-    let both : some v.sum.text ≡ some w.sum.text =
+    let both : Some v.sum.text ≡ Some w.sum.text =
     ap bytes_of (sym c.total) ∙ left_any_order c.first d.first c.others d.others p ∙ ap bytes_of d.total in
     let same : v.sum.text ≡ w.sum.text = cc in
     (v.size ∙ ap length same ∙ sym w.size, v.output ∙ ap (written l 0) same ∙ sym w.output)

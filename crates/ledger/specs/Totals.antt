@@ -1,6 +1,5 @@
 -- What the sheets that were read come to. Which bytes they have is the world's: here they are some bytes.
-use Rattle.std.specs.Prelude.{◌≡◌, Bool, false, List, [], ◌∷◌, ◌++◌, ℕ, ◌+◌, ◌-◌, ◌≤◌, ◌<◌, eqb, ltb, length, take, get_or}
-use Rattle.std.proofs.Math.Option.{Option, none, some}
+use Rattle.std.specs.Prelude.{◌≡◌, Bool, false, List, [], ◌∷◌, ◌++◌, ℕ, ◌+◌, ◌-◌, ◌≤◌, ◌<◌, eqb, ltb, length, take, get_or, Option, None, Some}
 use Rattle.text.specs.Put.{written}
 use Rattle.shifts.specs.Sum.{Total, Text, Refusal, add_all}
 use Rattle.shifts.specs.Many.{sum_from, HasText}
@@ -57,16 +56,16 @@ pub record UnreadAt (k : ℕ) : Type 0 where
 
 -- The number of each answer, of 02's list, or of 01's table for an output too short. 01 and 02 have none for a sheet that can't be read or is missing.
 abbrev pub answer_number : Answer → Option ℕ
-answer_number (Told n) = some 0
-answer_number (Refused n k) = some n
-answer_number (Unread k) = none
-answer_number TooFew = none
-answer_number WrongSize = some 15
+answer_number (Told n) = Some 0
+answer_number (Refused n k) = Some n
+answer_number (Unread k) = None
+answer_number TooFew = None
+answer_number WrongSize = Some 15
 
 -- it is 15 exactly if the output is too short
 abbrev pub Numbered : Option ℕ → Bool → Type 0
-Numbered (some n) short = eqb n 15 ≡ short
-Numbered none short = false ≡ short
+Numbered (Some n) short = eqb n 15 ≡ short
+Numbered None short = false ≡ short
 
 -- two sheets, or the answer is that there are too few
 abbrev pub Enough : Answer → ℕ → Type 0
@@ -102,7 +101,7 @@ pub record IsSum (n : ℕ) (s : List ℕ) : Type 0 where
   pub first : List ℕ
   pub others : List (List ℕ)
   pub each : AllSheets (first ∷ others)
-  pub some : 0 < length others
+  pub Some : 0 < length others
   pub sum : add_all (Text first) others ≡ Text (take n s)
   pub fits : n ≤ length s
 

@@ -1,4 +1,5 @@
 -- Document 01's table holds of the reader: it answers the lowest number whose condition holds of the line, and 0 exactly where none does.
+use Rattle.std.proofs.Common.{None, Some, Option}
 use mathlib.Core.Path.{◌≡◌, refl, sym, ap, ◌∙◌}
 use mathlib.Core.Bool.{Bool, true, false, not, ◌&&◌, ◌||◌, cond, or-true}
 use mathlib.Core.Logic.{◌↔◌}
@@ -12,19 +13,11 @@ use Rattle.text.specs.Literal.{bytes}
 use Rattle.text.specs.Bytes.{same_bytes, starts_with}
 use Rattle.text.specs.Name.{is_name}
 use Rattle.text.specs.Number.{number_of}
-use Rattle.text.specs.declared.number.Number.{Number}
-use Rattle.text.specs.declared.number.Number.TheVariants.{Value, Bad}
 use Rattle.text.specs.Sizes.{max_time}
 use Rattle.text.proofs.Bools.{is_false}
 use Rattle.text.proofs.Words.{same_eq, starts_split}
-use Rattle.words.specs.declared.pair.Pair.{Pair}
-use Rattle.words.specs.declared.pair.Pair.TheVariants.{Known, Unknown}
-use Rattle.words.specs.declared.scale.ScaleFound.{ScaleFound}
-use Rattle.words.specs.declared.scale.ScaleFound.TheVariants.{ThisScale, NoScale}
 use Rattle.words.specs.Pair.{named_by}
 use Rattle.fields.specs.Part.{parts_of, field_of}
-use Rattle.forms.specs.declared.note.Note.{Note}
-use Rattle.forms.specs.declared.note.Note.TheVariants.{Means, Wrong}
 use Rattle.forms.specs.Note.{max_instance, note_of, is_wrong}
 use Rattle.forms.specs.Rule.{rule_broken}
 use Rattle.line.specs.declared.event.Event.{Event}
@@ -58,21 +51,21 @@ use Rattle.line.proofs.Lowest.{lowest_exactly, lowest_none}
 
 -- ---- event lines: 5, 6 and 7, from the last test of the reading to the first
 
-known_lowest : (n : Note) (broken : Bool) (e : Event) → answer_of (ruled n broken e) ≡ lowest (test 5 (is_wrong n) ∷ test 6 false ∷ test 7 broken ∷ [])
+known_lowest : (n : Option ℕ) (broken : Bool) (e : Event) → answer_of (ruled n broken e) ≡ lowest (test 5 (is_wrong n) ∷ test 6 false ∷ test 7 broken ∷ [])
 unfolding answer_of
-known_lowest Wrong broken e = refl
-known_lowest (Means count) true e = refl
-known_lowest (Means count) false e = refl
+known_lowest None broken e = refl
+known_lowest (Some count) true e = refl
+known_lowest (Some count) false e = refl
 
-pair_lowest : (p : Pair) (time : ℕ) (source : List ℕ) (from : ℕ) (target : List ℕ) (to : ℕ) (note : List ℕ)
+pair_lowest : (p : Option (Kind × Action)) (time : ℕ) (source : List ℕ) (from : ℕ) (target : List ℕ) (to : ℕ) (note : List ℕ)
     → answer_of (pair_reading p time source from target to note)
     ≡ lowest (test 5 (closer_wrong p note) ∷ test 6 (is_unknown p) ∷ test 7 (pair_broken p source from target to note) ∷ [])
 unfolding answer_of known_reading
-pair_lowest (Known k a) time source from target to note =
+pair_lowest (Some (k, a)) time source from target to note =
     known_lowest (note_of k note) (rule_broken k a source from target to note) (event_of time from k to a)
-pair_lowest Unknown time source from target to note = refl
+pair_lowest None time source from target to note = refl
 
-numbers_lowest : (t f g : Number) (p : Pair) (source target note : List ℕ)
+numbers_lowest : (t f g : Option ℕ) (p : Option (Kind × Action)) (source target note : List ℕ)
     → answer_of (numbers_reading (numbers_as t f g) p source target note)
     ≡ lowest
     (test 5 (not (is_value t && (is_value f && is_value g)) || closer_wrong p note)
@@ -80,10 +73,10 @@ numbers_lowest : (t f g : Number) (p : Pair) (source target note : List ℕ)
     ∷ test 7 (pair_broken p source (instance_at f) target (instance_at g) note)
     ∷ [])
 unfolding answer_of
-numbers_lowest Bad f g p source target note = refl
-numbers_lowest (Value t) Bad g p source target note = refl
-numbers_lowest (Value t) (Value f) Bad p source target note = refl
-numbers_lowest (Value t) (Value f) (Value g) p source target note = pair_lowest p t source f target g note
+numbers_lowest None f g p source target note = refl
+numbers_lowest (Some t) None g p source target note = refl
+numbers_lowest (Some t) (Some f) None p source target note = refl
+numbers_lowest (Some t) (Some f) (Some g) p source target note = pair_lowest p t source f target g note
 
 -- a test before a reading, which refuses with 5
 five_before : (b wrong : Bool) (r : Reading) (ts : List Test) → answer_of r ≡ lowest (test 5 wrong ∷ ts) → answer_of (cond b r (Refused 5)) ≡ lowest (test 5 (cond b wrong true) ∷ ts)
@@ -188,7 +181,7 @@ event_answer : (l : List ℕ) → is_event_line l ≡ true → answer_of (event_
 unfolding refuses2 refuses3 refuses5 refuses6 refuses7
 event_answer l e = rw (event_no_version l e, e) (event_lowest l)
 
-parameter_lowest : (v line comment : Bool) (s : ScaleFound) (creator date : Bool) → (v ≡ true → line ≡ true)
+parameter_lowest : (v line comment : Bool) (s : Option Scale) (creator date : Bool) → (v ≡ true → line ≡ true)
     → answer_of (cond v Version (cond line (Refused 2) (cond comment Comment (scale_or s (cond creator Creator (cond date CreationDate (Refused 3)))))))
     ≡ lowest (test 2 (line && not v) ∷ test 3 (not (line || (comment || (is_scale s || (creator || date))))) ∷ [])
 unfolding answer_of
@@ -196,10 +189,10 @@ parameter_lowest true true comment s creator date h = refl
 parameter_lowest true false comment s creator date h = let z : false ≡ true = h refl in cc
 parameter_lowest false true comment s creator date h = refl
 parameter_lowest false false true s creator date h = refl
-parameter_lowest false false false (ThisScale s) creator date h = refl
-parameter_lowest false false false NoScale true date h = refl
-parameter_lowest false false false NoScale false true h = refl
-parameter_lowest false false false NoScale false false h = refl
+parameter_lowest false false false (Some s) creator date h = refl
+parameter_lowest false false false None true date h = refl
+parameter_lowest false false false None false true h = refl
+parameter_lowest false false false None false false h = refl
 
 parameter_answer : (l : List ℕ) → is_event_line l ≡ false → answer_of (parameter_reading l) ≡ lowest (others l)
 unfolding parameter_reading other_reading refuses2 refuses3 refuses5 refuses6 refuses7

@@ -1,7 +1,7 @@
 -- Document 01's examples of single lines, against the definitions: one list, one statement. Each line is read as it says, has the number
 -- that it says, and, where it is an event line, is written back from what was read.
+use Rattle.std.proofs.Common.{Option, None, Some}
 use mathlib.Core.Path.{◌≡◌, refl}
-use mathlib.Core.Option.{Option, none, some}
 use mathlib.Core.List.{List, [], ◌∷◌, map}
 use Prim.Native.Nat.{ℕ}
 use Prim.Native.String.{String}
@@ -39,13 +39,13 @@ pub record Outcome : Type 0 where
 
 -- an event line is written back from what was read and its fields 2, 5 and 8
 unfoldable pub back_of : List ℕ → Reading → Option (ℕ × Wrote)
-back_of l (EventLine e count) = let w = write_line e (field_of l 2) (field_of l 5) (field_of l 8) (replicate (length l) 0) in some (written_answer w.answer, w)
-back_of l Version = none
-back_of l Comment = none
-back_of l (TimeScale s) = none
-back_of l Creator = none
-back_of l CreationDate = none
-back_of l (Refused n) = none
+back_of l (EventLine e count) = let w = write_line e (field_of l 2) (field_of l 5) (field_of l 8) (replicate (length l) 0) in Some (written_answer w.answer, w)
+back_of l Version = None
+back_of l Comment = None
+back_of l (TimeScale s) = None
+back_of l Creator = None
+back_of l CreationDate = None
+back_of l (Refused n) = None
 
 unfoldable pub outcome_of : List ℕ → Outcome
 outcome_of l = record { reading = read_line l; answer = answer_of (read_line l); back = back_of l (read_line l) }
@@ -58,13 +58,13 @@ pub record Example : Type 0 where
 
 -- an event line that is taken is written back alike
 abbrev pub event : String → Event → Example
-event s e = record { line = bytes s; becomes = record { reading = EventLine e 0; answer = 0; back = some (0, wrote (Done (length (bytes s))) (bytes s)) } }
+event s e = record { line = bytes s; becomes = record { reading = EventLine e 0; answer = 0; back = Some (0, wrote (Done (length (bytes s))) (bytes s)) } }
 
 abbrev pub version : String → Example
-version s = record { line = bytes s; becomes = record { reading = Version; answer = 0; back = none } }
+version s = record { line = bytes s; becomes = record { reading = Version; answer = 0; back = None } }
 
 abbrev pub refused : String → ℕ → Example
-refused s n = record { line = bytes s; becomes = record { reading = Refused n; answer = n; back = none } }
+refused s n = record { line = bytes s; becomes = record { reading = Refused n; answer = n; back = None } }
 
 abbrev pub lines : List Example
 lines =

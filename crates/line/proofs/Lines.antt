@@ -1,4 +1,5 @@
 -- Laws of the line as a whole: what `has_break` does at a turn, what the first byte says, and the next line of a chunk.
+use Rattle.std.proofs.Common.{None, Some, Option}
 use mathlib.Core.Path.{◌≡◌, refl, sym}
 use mathlib.Core.Bool.{Bool, true, false, not, ◌||◌}
 use mathlib.Core.List.{List, [], ◌∷◌}
@@ -9,15 +10,12 @@ use native.Mathlib.Omega.{arith}
 use lib.Dec.{eqb}
 use lib.ListN.{length, get_or, drop, drop_of_length-le}
 use lib.Seq.{drop-cons}
-use Rattle.walk.specs.declared.lines.Next.{Next}
-use Rattle.walk.specs.declared.lines.Next.TheVariants.{Line, Rest}
 use Rattle.fields.specs.declared.part.Commas.{Commas}
 use Rattle.fields.specs.Part.{part_from, commas_of}
 use Rattle.scan.specs.Ahead.{line_from}
 use Rattle.scan.proofs.Nexts.{line_inside}
 use Rattle.line.specs.declared.reading.Reading.{Reading}
 use Rattle.line.specs.declared.reading.Split.{Split}
-use Rattle.line.specs.declared.reading.NextRead.TheVariants.{Read, Over}
 use Rattle.line.specs.Reading.{has_break, is_event_line, read_line, split_line, reading_of, next_reading}
 
 -- a turn of the loop, and its end
@@ -42,41 +40,41 @@ first_event (x ∷ s) n = refl
 
 -- ---- the next line of a chunk, read
 
-pub next_over : (whole : Bool) (s : List ℕ) (at : ℕ) → line_from whole s at ≡ Rest → Over ≡ next_reading whole s at
+pub next_over : (whole : Bool) (s : List ℕ) (at : ℕ) → line_from whole s at ≡ None → None ≡ next_reading whole s at
 unfolding next_reading
 next_over whole s at q = rw q
 
-pub next_read : (whole : Bool) (s : List ℕ) (at end start : ℕ) (r : Reading) (c : Commas) → line_from whole s at ≡ Line end start
-    → r ≡ read_line (part_from s at end) → c ≡ commas_of (part_from s at end) → Read end start (record { reading = r; commas = c }) ≡ next_reading whole s at
+pub next_read : (whole : Bool) (s : List ℕ) (at end start : ℕ) (r : Reading) (c : Commas) → line_from whole s at ≡ Some (end, start)
+    → r ≡ read_line (part_from s at end) → c ≡ commas_of (part_from s at end) → Some (record { end = end; start = start; split = record { reading = r; commas = c } }) ≡ next_reading whole s at
 unfolding next_reading
 next_read whole s at end start r c q e d = rw (q, e, d)
 
 -- what a caller goes by: the line is the next one, and stands in the chunk
 pub record NextIs (whole : Bool) (s : List ℕ) (at end start : ℕ) (split : Split) : Type 0 where
-  pub next : line_from whole s at ≡ Line end start
+  pub next : line_from whole s at ≡ Some (end, start)
   pub begins : at ≤ end
   pub ends : end ≤ length s
   pub said : split ≡ split_line (part_from s at end)
 
 module _ (whole : Bool) (s : List ℕ) (at : ℕ) where
-  line_by : (end start : ℕ) (split : Split) (n : Next) → line_from whole s at ≡ n → reading_of s at n ≡ Read end start split → NextIs whole s at end start split
-  line_by end start split (Line e n) q h =
+  line_by : (end start : ℕ) (split : Split) (n : Option (ℕ × ℕ)) → line_from whole s at ≡ n → reading_of s at n ≡ Some (record { end = end; start = start; split = split }) → NextIs whole s at end start split
+  line_by end start split (Some (e, n)) q h =
       let x : e ≡ end = cc in
       let y : n ≡ start = cc in
       let z : split_line (part_from s at e) ≡ split = cc in
-      let line : line_from whole s at ≡ Line end start = rw (← x, ← y) q in
+      let line : line_from whole s at ≡ Some (end, start) = rw (← x, ← y) q in
       let i = line_inside s at end start whole line in
       record { next = line; begins = i.0; ends = i.1; said = rw (← x) (sym z) }
-  line_by end start split Rest q h = let z : ◌≡◌ {A = ℕ} 0 1 = cc in let no_line : ⊥ = omega arith in absurd no_line
+  line_by end start split None q h = let z : ◌≡◌ {A = ℕ} 0 1 = cc in let no_line : ⊥ = omega arith in absurd no_line
 
-  pub line_next : (end start : ℕ) (split : Split) → next_reading whole s at ≡ Read end start split → NextIs whole s at end start split
+  pub line_next : (end start : ℕ) (split : Split) → next_reading whole s at ≡ Some (record { end = end; start = start; split = split }) → NextIs whole s at end start split
   unfolding next_reading
   line_next end start split q = line_by end start split (line_from whole s at) refl q
 
-  over_by : (n : Next) → reading_of s at n ≡ Over → n ≡ Rest
-  over_by (Line e n) q = cc
-  over_by Rest q = refl
+  over_by : (n : Option (ℕ × ℕ)) → reading_of s at n ≡ None → n ≡ None
+  over_by (Some (e, n)) q = cc
+  over_by None q = refl
 
-  pub over_next : next_reading whole s at ≡ Over → line_from whole s at ≡ Rest
+  pub over_next : next_reading whole s at ≡ None → line_from whole s at ≡ None
   unfolding next_reading
   over_next q = over_by (line_from whole s at) q

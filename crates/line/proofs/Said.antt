@@ -1,4 +1,5 @@
 -- What a line says that reads as an event: its fields are the event's numbers and words, its names are names, and the rules hold.
+use Rattle.std.proofs.Common.{None, Some, Option}
 use mathlib.Core.Path.{◌≡◌, refl}
 use mathlib.Core.Bool.{Bool, true, false, not, ◌||◌, cond, or-true, or-false}
 use mathlib.Core.Logic.{◌⊎◌, inl, inr, ⊎_elim}
@@ -10,16 +11,10 @@ use lib.ListN.{length}
 use borrow.Author.Tests.{eqb-true}
 use Rattle.text.specs.Name.{is_name}
 use Rattle.text.specs.Number.{digits_of, number_of}
-use Rattle.text.specs.declared.number.Number.{Number}
-use Rattle.text.specs.declared.number.Number.TheVariants.{Value, Bad}
 use Rattle.text.specs.Sizes.{max_time}
 use Rattle.text.specs.Lists.{is_empty}
 use Rattle.text.proofs.Bools.{and_l, and_r, lt_or_ge}
 use Rattle.text.proofs.Digits.{read_written}
-use Rattle.words.specs.declared.scale.ScaleFound.{ScaleFound}
-use Rattle.words.specs.declared.scale.ScaleFound.TheVariants.{ThisScale, NoScale}
-use Rattle.words.specs.declared.pair.Pair.{Pair}
-use Rattle.words.specs.declared.pair.Pair.TheVariants.{Known, Unknown}
 use Rattle.words.specs.Kind.{kind_word}
 use Rattle.words.specs.Action.{word_of, is_of}
 use Rattle.words.specs.Pair.{named_by}
@@ -27,13 +22,9 @@ use Rattle.words.proofs.Found.{pair_words}
 use Rattle.fields.specs.declared.part.Commas.{Commas}
 use Rattle.fields.specs.Part.{parts_of, field_of, comma_at, commas_of}
 use Rattle.fields.proofs.Parts.{field_missing, comma_missing}
-use Rattle.forms.specs.declared.note.Note.{Note}
-use Rattle.forms.specs.declared.note.Note.TheVariants.{Means, Wrong}
 use Rattle.forms.specs.Note.{max_instance, note_of}
 use Rattle.forms.specs.Rule.{rule_broken}
 use Rattle.line.specs.declared.event.Event.{Event}
-use Rattle.line.specs.declared.event.Numbers.{Numbers}
-use Rattle.line.specs.declared.event.Numbers.TheVariants.{TimeAndInstances, Wrong as NoNumbers}
 use Rattle.line.specs.declared.reading.Reading.{Reading}
 use Rattle.line.specs.declared.reading.Reading.TheVariants.{Version, Comment, TimeScale, Creator, CreationDate, EventLine, Refused}
 use Rattle.line.specs.Parameter.{is_version, is_version_line, is_comment, time_scale, is_creator, is_creation_date, scale_or, other_reading, parameter_reading}
@@ -50,7 +41,7 @@ pub record Allowed (e : Event) (source target note : List ℕ) (count : ℕ) : T
   pub target_name : is_name target ≡ true
   pub note_name : (is_empty note || is_name note) ≡ true
   pub of_kind : is_of e.kind e.action ≡ true
-  pub means : note_of e.kind note ≡ Means count
+  pub means : note_of e.kind note ≡ Some count
   pub kept : rule_broken e.kind e.action source e.source_instance target e.target_instance note ≡ false
 
 -- seven parts and no note, or eight and a name for a note
@@ -82,9 +73,9 @@ neither true x y p q = p
 neither false x y p q = q
 
 -- a parameter is none
-scale_none : (s : ScaleFound) (r : Reading) → is_event r ≡ false → is_event (scale_or s r) ≡ false
-scale_none (ThisScale s) r h = refl
-scale_none NoScale r h = h
+scale_none : (s : Option Scale) (r : Reading) → is_event r ≡ false → is_event (scale_or s r) ≡ false
+scale_none (Some s) r h = refl
+scale_none None r h = h
 
 parameter_none : (l : List ℕ) → is_event (parameter_reading l) ≡ false
 unfolding parameter_reading other_reading
@@ -108,16 +99,16 @@ module _ (e : Event) (count : ℕ) where
   second_of true x y n q = let z = clash x n q in cc
   second_of false x y n q = q
 
-  ruled_is : (n : Note) (b : Bool) (x : Event) → ruled n b x ≡ EventLine e count → (n ≡ Means count) × (b ≡ false) × (x ≡ e)
-  ruled_is Wrong b x q = (cc, cc, cc)
-  ruled_is (Means c) true x q = (cc, cc, cc)
-  ruled_is (Means c) false x q = (cc, refl, cc)
+  ruled_is : (n : Option ℕ) (b : Bool) (x : Event) → ruled n b x ≡ EventLine e count → (n ≡ Some count) × (b ≡ false) × (x ≡ e)
+  ruled_is None b x q = (cc, cc, cc)
+  ruled_is (Some c) true x q = (cc, cc, cc)
+  ruled_is (Some c) false x q = (cc, refl, cc)
 
-numbers_are : (n f t : Number) (x y z : ℕ) → numbers_as n f t ≡ TimeAndInstances x y z → (n ≡ Value x) × (f ≡ Value y) × (t ≡ Value z)
-numbers_are Bad f t x y z q = (cc, cc, cc)
-numbers_are (Value n) Bad t x y z q = (cc, cc, cc)
-numbers_are (Value n) (Value f) Bad x y z q = (cc, cc, cc)
-numbers_are (Value n) (Value f) (Value t) x y z q = (cc, cc, cc)
+numbers_are : (n f t : Option ℕ) (x y z : ℕ) → numbers_as n f t ≡ Some (x, y, z) → (n ≡ Some x) × (f ≡ Some y) × (t ≡ Some z)
+numbers_are None f t x y z q = (cc, cc, cc)
+numbers_are (Some n) None t x y z q = (cc, cc, cc)
+numbers_are (Some n) (Some f) None x y z q = (cc, cc, cc)
+numbers_are (Some n) (Some f) (Some t) x y z q = (cc, cc, cc)
 
 -- ---- the parts
 
@@ -132,20 +123,20 @@ noted_name l (inr p) = rw (p.1, or-true)
 -- ---- the fields
 
 -- what is known once the names are: the numbers, the words, and the rules
-abbrev Fields : List ℕ → List ℕ → List ℕ → Event → ℕ → Numbers → Pair → Type 0
+abbrev Fields : List ℕ → List ℕ → List ℕ → Event → ℕ → Option (ℕ × ℕ × ℕ) → Option (Kind × Action) → Type 0
 Fields source target note e count ns p =
-    (ns ≡ TimeAndInstances e.time e.source_instance e.target_instance)
-    × (p ≡ Known e.kind e.action)
-    × (note_of e.kind note ≡ Means count)
+    (ns ≡ Some (e.time, e.source_instance, e.target_instance))
+    × (p ≡ Some (e.kind, e.action))
+    × (note_of e.kind note ≡ Some count)
     × (rule_broken e.kind e.action source e.source_instance target e.target_instance note ≡ false)
 
-fields_are : (source target note : List ℕ) (e : Event) (count : ℕ) (ns : Numbers) (p : Pair) → numbers_reading ns p source target note ≡ EventLine e count → Fields source target note e count ns p
+fields_are : (source target note : List ℕ) (e : Event) (count : ℕ) (ns : Option (ℕ × ℕ × ℕ)) (p : Option (Kind × Action)) → numbers_reading ns p source target note ≡ EventLine e count → Fields source target note e count ns p
 unfolding known_reading
-fields_are source target note e count (TimeAndInstances t f g) (Known k a) q =
+fields_are source target note e count (Some (t, f, g)) (Some (k, a)) q =
     let r = ruled_is e count (note_of k note) (rule_broken k a source f target g note) _ q in
     rw (← r.2) (refl, refl, r.0, r.1)
-fields_are source target note e count (TimeAndInstances t f g) Unknown q = (cc, cc, cc, cc)
-fields_are source target note e count NoNumbers p q = (cc, cc, cc, cc)
+fields_are source target note e count (Some (t, f, g)) None q = (cc, cc, cc, cc)
+fields_are source target note e count None p q = (cc, cc, cc, cc)
 
 -- ---- the line
 

@@ -1,4 +1,5 @@
 -- Wrong answers that the contracts of the four public functions of a line shut out. That there is no second answer is in `Unique`.
+use Rattle.std.proofs.Common.{None, Some, Option}
 use mathlib.Core.Path.{refl}
 use mathlib.Core.Bool.{Bool, true, false, cond}
 use mathlib.Core.List.{List, [], ◌∷◌}
@@ -12,8 +13,6 @@ use Rattle.text.specs.Number.{digits_of}
 use Rattle.text.specs.Pieces.{pieces}
 use Rattle.text.specs.Put.{written}
 use Rattle.text.proofs.Tight.{ShutsOut, shut_out}
-use Rattle.walk.specs.declared.lines.Next.{Next}
-use Rattle.walk.specs.declared.lines.Next.TheVariants.{Line, Rest}
 use Rattle.walk.specs.Lines.{line_text, next_from}
 use Rattle.words.specs.declared.kind.Kind.TheVariants.{Task}
 use Rattle.words.specs.declared.action.Action.TheVariants.{Start}
@@ -25,7 +24,6 @@ use Rattle.forms.specs.Note.{note_of}
 use Rattle.forms.specs.Rule.{is_process, zero_source, zero_target, is_own, source_broken, target_broken, own_broken, presence, note_broken, rule_broken}
 use Rattle.line.specs.declared.event.Event.{Event}
 use Rattle.line.specs.declared.reading.NextRead.{NextRead}
-use Rattle.line.specs.declared.reading.NextRead.TheVariants.{Read, Over}
 use Rattle.line.specs.declared.writing.Written.TheVariants.{Done}
 use Rattle.line.specs.Event.{event_of}
 use Rattle.line.specs.Parameter.{is_version, is_version_line, is_comment, parameter_reading}
@@ -50,25 +48,25 @@ split_not_of_the_rest = shut_out (λ s. eqb s.commas.c1 1) (bytes "5,A") refl re
 abbrev Asked : Type 0
 Asked = Bool × List ℕ × ℕ
 
-abbrev next : Asked → NextRead
+abbrev next : Asked → Option NextRead
 next (whole, s, at) = next_reading whole s at
 
-abbrev is_over : NextRead → Bool
-is_over (Read end start r) = false
-is_over Over = true
+abbrev is_over : Option NextRead → Bool
+is_over (Some (record { end = end; start = start; split = r })) = false
+is_over None = true
 
 -- an unfinished line is read
 pub read_next_not_a_rest : ShutsOut next (λ (whole, s, at). next_reading true s at)
 unfolding next_reading line_from next_from line_text pieces
 read_next_not_a_rest = shut_out is_over (false, bytes "#", 0) refl refl
 
-abbrev with_its_end : List ℕ → ℕ → Next → NextRead
-with_its_end s at (Line end start) = Read end start (split_line (part_from s at start))
-with_its_end s at Rest = Over
+abbrev with_its_end : List ℕ → ℕ → Option (ℕ × ℕ) → Option NextRead
+with_its_end s at (Some (end, start)) = Some (record { end = end; start = start; split = split_line (part_from s at start) })
+with_its_end s at None = None
 
-abbrev is_taken : NextRead → Bool
-is_taken (Read end start r) = eqb (answer_of r.reading) 0
-is_taken Over = false
+abbrev is_taken : Option NextRead → Bool
+is_taken (Some (record { end = end; start = start; split = r })) = eqb (answer_of r.reading) 0
+is_taken None = false
 
 -- a line is read with its end, so that none is taken
 pub read_next_not_with_its_end : ShutsOut next (λ (whole, s, at). with_its_end s at (line_from whole s at))

@@ -1,5 +1,6 @@
 -- The two round trips, over all bytes: a line that reads as an event, written from what was read, is that very line, and a record that is
 -- written reads back as that record.
+use Rattle.std.proofs.Common.{None, Some, Option}
 use mathlib.Core.Path.{◌≡◌, refl, sym, ap, ◌∙◌}
 use mathlib.Core.Bool.{Bool, true, false, not, ◌&&◌, ◌||◌, cond}
 use mathlib.Core.Logic.{inl, inr}
@@ -21,8 +22,6 @@ use Rattle.words.specs.Action.{word_of, is_of}
 use Rattle.words.proofs.Found.{pair_back}
 use Rattle.fields.specs.Part.{parts_of, field_of}
 use Rattle.fields.proofs.Parts.{join_parts}
-use Rattle.forms.specs.declared.note.Note.{Note}
-use Rattle.forms.specs.declared.note.Note.TheVariants.{Means, Wrong}
 use Rattle.forms.specs.Note.{max_instance, note_of, is_wrong}
 use Rattle.forms.specs.Rule.{rule_broken}
 use Rattle.line.specs.declared.event.Event.{Event}
@@ -37,13 +36,13 @@ use Rattle.line.proofs.Written.{note_parts, record_parts, text_joined, text_part
 -- ---- what is not refused is allowed
 
 -- the count that a note means, where it means one
-abbrev count_in : Note → ℕ
-count_in (Means c) = c
-count_in Wrong = 0
+abbrev count_in : Option ℕ → ℕ
+count_in (Some c) = c
+count_in None = 0
 
-means_count : (n : Note) → is_wrong n ≡ false → n ≡ Means (count_in n)
-means_count (Means c) q = refl
-means_count Wrong q = cc
+means_count : (n : Option ℕ) → is_wrong n ≡ false → n ≡ Some (count_in n)
+means_count (Some c) q = refl
+means_count None q = cc
 
 -- a number other than 0 is not the lowest where none applies
 next : (n : ℕ) (b : Bool) (rest : ℕ) → cond b (suc n) rest ≡ 0 → (b ≡ false) × (rest ≡ 0)
@@ -193,7 +192,7 @@ read_then_write l e count out q h =
 pub record ReadBack (l : List ℕ) (e : Event) (source target note : List ℕ) : Type 0 where
   pub count : ℕ
   pub reads : read_line l ≡ EventLine e count
-  pub means : note_of e.kind note ≡ Means count
+  pub means : note_of e.kind note ≡ Some count
   pub source_part : field_of l 2 ≡ source
   pub target_part : field_of l 5 ≡ target
   pub note_part : field_of l 8 ≡ note

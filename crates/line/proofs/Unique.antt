@@ -1,4 +1,5 @@
 -- No second outcome satisfies the contracts of the four public functions of a line.
+use Rattle.std.proofs.Common.{Option}
 use mathlib.Core.Path.{◌≡◌, ap}
 use mathlib.Core.Bool.{Bool}
 use mathlib.Core.List.{List}
@@ -18,7 +19,7 @@ read_unique = unique read_line
 pub split_unique : (l : List ℕ) (x y : Split) → x ≡ split_line l → y ≡ split_line l → x ≡ y
 split_unique = unique split_line
 
-pub read_next_unique : (whole : Bool) (s : List ℕ) (at : ℕ) (x y : NextRead) → x ≡ next_reading whole s at → y ≡ next_reading whole s at → x ≡ y
+pub read_next_unique : (whole : Bool) (s : List ℕ) (at : ℕ) (x y : Option NextRead) → x ≡ next_reading whole s at → y ≡ next_reading whole s at → x ≡ y
 read_next_unique whole s = unique (next_reading whole s)
 
 pub write_unique : (e : Event) (source target note out : List ℕ) (r s : Written) (m n : List ℕ) → wrote r m ≡ write_line e source target note out → wrote s n ≡ write_line e source target note out → (r ≡ s) × (m ≡ n)

@@ -1,14 +1,8 @@
 -- Document 01's table of numbered answers as the reader gives them from its line alone: one condition for each number.
-use Rattle.std.specs.Prelude.{ℕ, Bool, true, false, not, ◌&&◌, ◌||◌, List, [], ◌∷◌, eqb, leb, ltb, length}
+use Rattle.std.specs.Prelude.{ℕ, Bool, true, false, not, ◌&&◌, ◌||◌, List, [], ◌∷◌, eqb, leb, ltb, length, None, Some, Option}
 use Rattle.text.specs.Name.{is_name}
 use Rattle.text.specs.Number.{number_of}
-use Rattle.text.specs.declared.number.Number.{Number}
-use Rattle.text.specs.declared.number.Number.TheVariants.{Value, Bad}
 use Rattle.text.specs.Sizes.{max_time}
-use Rattle.words.specs.declared.pair.Pair.{Pair}
-use Rattle.words.specs.declared.pair.Pair.TheVariants.{Known, Unknown}
-use Rattle.words.specs.declared.scale.ScaleFound.{ScaleFound}
-use Rattle.words.specs.declared.scale.ScaleFound.TheVariants.{ThisScale, NoScale}
 use Rattle.words.specs.Pair.{named_by}
 use Rattle.fields.specs.Part.{parts_of, field_of}
 use Rattle.forms.specs.Note.{max_instance, note_of, is_wrong}
@@ -26,9 +20,9 @@ unfoldable pub refuses2 : List ℕ → Bool
 refuses2 l = is_version_line l && not (is_version l)
 
 -- 3: "other parameter unknown, malformed"
-abbrev pub is_scale : ScaleFound → Bool
-is_scale (ThisScale s) = true
-is_scale NoScale = false
+abbrev pub is_scale : Option Scale → Bool
+is_scale (Some s) = true
+is_scale None = false
 
 unfoldable pub refuses3 : List ℕ → Bool
 refuses3 l = not (is_event_line l) && not (is_version_line l || (is_comment l || (is_scale (time_scale l) || (is_creator l || is_creation_date l))))
@@ -37,9 +31,9 @@ refuses3 l = not (is_event_line l) && not (is_version_line l || (is_comment l ||
 unfoldable pub count_wrong : List ℕ → Bool
 count_wrong l = not (eqb (length (parts_of l)) 7 || eqb (length (parts_of l)) 8)
 
-abbrev pub is_value : Number → Bool
-is_value (Value v) = true
-is_value Bad = false
+abbrev pub is_value : Option ℕ → Bool
+is_value (Some v) = true
+is_value None = false
 
 unfoldable pub number_wrong : List ℕ → Bool
 number_wrong l = not (is_value (number_of (field_of l 1) max_time) && (is_value (number_of (field_of l 3) max_instance) && is_value (number_of (field_of l 6) max_instance)))
@@ -48,9 +42,9 @@ unfoldable pub name_wrong : List ℕ → Bool
 name_wrong l = not (is_name (field_of l 2) && is_name (field_of l 5))
 
 -- "Any eighth field needs a name's bytes and length, else 5; a closer form is tested only where type and event are known."
-abbrev pub closer_wrong : Pair → List ℕ → Bool
-closer_wrong (Known k a) note = is_wrong (note_of k note)
-closer_wrong Unknown note = false
+abbrev pub closer_wrong : Option (Kind × Action) → List ℕ → Bool
+closer_wrong (Some (k, a)) note = is_wrong (note_of k note)
+closer_wrong None note = false
 
 unfoldable pub note_wrong : List ℕ → Bool
 note_wrong l = (leb 8 (length (parts_of l)) && not (is_name (field_of l 8))) || closer_wrong (named_by (field_of l 4) (field_of l 7)) (field_of l 8)
@@ -59,21 +53,21 @@ unfoldable pub refuses5 : List ℕ → Bool
 refuses5 l = is_event_line l && (count_wrong l || (number_wrong l || (name_wrong l || note_wrong l)))
 
 -- 6: "type unknown, or event not one of that type"
-abbrev pub is_unknown : Pair → Bool
-is_unknown (Known k a) = false
-is_unknown Unknown = true
+abbrev pub is_unknown : Option (Kind × Action) → Bool
+is_unknown (Some (k, a)) = false
+is_unknown None = true
 
 unfoldable pub refuses6 : List ℕ → Bool
 refuses6 l = is_event_line l && is_unknown (named_by (field_of l 4) (field_of l 7))
 
 -- 7: "source, instance or note presence rule broken"
-abbrev pub instance_at : Number → ℕ
-instance_at (Value v) = v
-instance_at Bad = 0
+abbrev pub instance_at : Option ℕ → ℕ
+instance_at (Some v) = v
+instance_at None = 0
 
-abbrev pub pair_broken : Pair → List ℕ → ℕ → List ℕ → ℕ → List ℕ → Bool
-pair_broken (Known k a) source from target to note = rule_broken k a source from target to note
-pair_broken Unknown source from target to note = false
+abbrev pub pair_broken : Option (Kind × Action) → List ℕ → ℕ → List ℕ → ℕ → List ℕ → Bool
+pair_broken (Some (k, a)) source from target to note = rule_broken k a source from target to note
+pair_broken None source from target to note = false
 
 unfoldable pub refuses7 : List ℕ → Bool
 refuses7 l =

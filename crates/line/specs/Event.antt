@@ -1,35 +1,27 @@
 -- Event lines: "seven fields or eight, separated by commas: time, source, source instance, type, target, target instance, event, note".
-use Rattle.std.specs.Prelude.{◌≡◌, ℕ, Bool, true, false, not, ◌&&◌, ◌||◌, cond, List, eqb, length}
+use Rattle.std.specs.Prelude.{◌≡◌, ℕ, Bool, true, false, not, ◌&&◌, ◌||◌, cond, List, eqb, length, None, Some, Option}
 use Rattle.text.specs.Name.{all_name_bytes, is_name}
 use Rattle.text.specs.Number.{number_of}
-use Rattle.text.specs.declared.number.Number.{Number}
-use Rattle.text.specs.declared.number.Number.TheVariants.{Value, Bad}
 use Rattle.text.specs.Sizes.{max_time}
 use Rattle.words.specs.declared.kind.Kind.{Kind}
 use Rattle.words.specs.declared.action.Action.{Action}
-use Rattle.words.specs.declared.pair.Pair.{Pair}
-use Rattle.words.specs.declared.pair.Pair.TheVariants.{Known, Unknown}
 use Rattle.words.specs.Pair.{named_by}
 use Rattle.fields.specs.Part.{parts_of, field_of}
-use Rattle.forms.specs.declared.note.Note.{Note}
-use Rattle.forms.specs.declared.note.Note.TheVariants.{Means, Wrong}
 use Rattle.forms.specs.Note.{max_instance, note_of}
 use Rattle.forms.specs.Rule.{rule_broken}
 use Rattle.line.specs.declared.event.Event.{Event}
-use Rattle.line.specs.declared.event.Numbers.{Numbers}
-use Rattle.line.specs.declared.event.Numbers.TheVariants.{TimeAndInstances, Wrong as NoNumbers}
 use Rattle.line.specs.declared.reading.Reading.{Reading}
 use Rattle.line.specs.declared.reading.Reading.TheVariants.{EventLine, Refused}
 
 -- ---- the three numbers
 
-abbrev pub numbers_as : Number → Number → Number → Numbers
-numbers_as Bad f t = NoNumbers
-numbers_as (Value n) Bad t = NoNumbers
-numbers_as (Value n) (Value f) Bad = NoNumbers
-numbers_as (Value n) (Value f) (Value t) = TimeAndInstances n f t
+abbrev pub numbers_as : Option ℕ → Option ℕ → Option ℕ → Option (ℕ × ℕ × ℕ)
+numbers_as None f t = None
+numbers_as (Some n) None t = None
+numbers_as (Some n) (Some f) None = None
+numbers_as (Some n) (Some f) (Some t) = Some (n, f, t)
 
-unfoldable pub numbers_of : List ℕ → List ℕ → List ℕ → Numbers
+unfoldable pub numbers_of : List ℕ → List ℕ → List ℕ → Option (ℕ × ℕ × ℕ)
 numbers_of time from to = numbers_as (number_of time max_time) (number_of from max_instance) (number_of to max_instance)
 
 -- ---- the names; "any eighth field needs a name's bytes and length"
@@ -48,21 +40,21 @@ pub record PlainFields (source target note : List ℕ) : Type 0 where
 abbrev pub event_of : ℕ → ℕ → Kind → ℕ → Action → Event
 event_of time from k to a = record { time = time; source_instance = from; kind = k; target_instance = to; action = a }
 
-abbrev pub ruled : Note → Bool → Event → Reading
-ruled Wrong broken e = Refused 5
-ruled (Means count) true e = Refused 7
-ruled (Means count) false e = EventLine e count
+abbrev pub ruled : Option ℕ → Bool → Event → Reading
+ruled None broken e = Refused 5
+ruled (Some count) true e = Refused 7
+ruled (Some count) false e = EventLine e count
 
 unfoldable pub known_reading : Kind → Action → ℕ → List ℕ → ℕ → List ℕ → ℕ → List ℕ → Reading
 known_reading k a time source from target to note = ruled (note_of k note) (rule_broken k a source from target to note) (event_of time from k to a)
 
-abbrev pub pair_reading : Pair → ℕ → List ℕ → ℕ → List ℕ → ℕ → List ℕ → Reading
-pair_reading (Known k a) time source from target to note = known_reading k a time source from target to note
-pair_reading Unknown time source from target to note = Refused 6
+abbrev pub pair_reading : Option (Kind × Action) → ℕ → List ℕ → ℕ → List ℕ → ℕ → List ℕ → Reading
+pair_reading (Some (k, a)) time source from target to note = known_reading k a time source from target to note
+pair_reading None time source from target to note = Refused 6
 
-abbrev pub numbers_reading : Numbers → Pair → List ℕ → List ℕ → List ℕ → Reading
-numbers_reading (TimeAndInstances time from to) p source target note = pair_reading p time source from target to note
-numbers_reading NoNumbers p source target note = Refused 5
+abbrev pub numbers_reading : Option (ℕ × ℕ × ℕ) → Option (Kind × Action) → List ℕ → List ℕ → List ℕ → Reading
+numbers_reading (Some (time, from, to)) p source target note = pair_reading p time source from target to note
+numbers_reading None p source target note = Refused 5
 
 unfoldable pub fields_reading : List ℕ → List ℕ → List ℕ → List ℕ → List ℕ → List ℕ → List ℕ → List ℕ → Bool → Reading
 fields_reading time source from kind target to action note noted =

@@ -1,9 +1,7 @@
 -- Lines that start with `#`: the version, comments and parameters.
-use Rattle.std.specs.Prelude.{ℕ, Bool, ◌&&◌, ◌||◌, cond, List, ltb, length, drop}
+use Rattle.std.specs.Prelude.{ℕ, Bool, ◌&&◌, ◌||◌, cond, List, ltb, length, drop, None, Some, Option}
 use Rattle.text.specs.Literal.{bytes}
 use Rattle.text.specs.Bytes.{same_bytes, starts_with}
-use Rattle.words.specs.declared.scale.ScaleFound.{ScaleFound}
-use Rattle.words.specs.declared.scale.ScaleFound.TheVariants.{ThisScale, NoScale}
 use Rattle.words.specs.Scale.{scale_of}
 use Rattle.forms.specs.Date.{is_moment}
 use Rattle.line.specs.declared.reading.Reading.{Reading}
@@ -22,8 +20,8 @@ unfoldable pub is_comment : List ℕ → Bool
 is_comment l = starts_with l (bytes "# ")
 
 -- "`#timeScale X` or `#timescale X` (000 spells both), X one of ps, ns, us, ms, s."
-unfoldable pub time_scale : List ℕ → ScaleFound
-time_scale l = cond (starts_with l (bytes "#timeScale ") || starts_with l (bytes "#timescale ")) (scale_of (drop 11 l)) NoScale
+unfoldable pub time_scale : List ℕ → Option Scale
+time_scale l = cond (starts_with l (bytes "#timeScale ") || starts_with l (bytes "#timescale ")) (scale_of (drop 11 l)) None
 
 -- "`#creator X`, X not empty"
 unfoldable pub is_creator : List ℕ → Bool
@@ -35,9 +33,9 @@ is_creation_date l = starts_with l (bytes "#creationDate ") && is_moment (drop 1
 
 -- ---- what such a line is
 
-abbrev pub scale_or : ScaleFound → Reading → Reading
-scale_or (ThisScale s) r = TimeScale s
-scale_or NoScale r = r
+abbrev pub scale_or : Option Scale → Reading → Reading
+scale_or (Some s) r = TimeScale s
+scale_or None r = r
 
 -- "Any other line starting with `#` is refusal 3."
 unfoldable pub other_reading : List ℕ → Reading

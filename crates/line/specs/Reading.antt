@@ -1,14 +1,11 @@
 -- What a line is, from its bytes alone, and document 01's number for each reading.
-use Rattle.std.specs.Prelude.{ℕ, Bool, true, false, not, ◌||◌, cond, List, [], ◌∷◌, eqb, ltb, length}
-use Rattle.walk.specs.declared.lines.Next.{Next}
-use Rattle.walk.specs.declared.lines.Next.TheVariants.{Line, Rest}
+use Rattle.std.specs.Prelude.{ℕ, Bool, true, false, not, ◌||◌, cond, List, [], ◌∷◌, eqb, ltb, length, None, Some, Option}
 use Rattle.fields.specs.Part.{part_from, commas_of}
 use Rattle.scan.specs.Ahead.{line_from}
 use Rattle.line.specs.declared.reading.Reading.{Reading}
 use Rattle.line.specs.declared.reading.Reading.TheVariants.{Version, Comment, TimeScale, Creator, CreationDate, EventLine, Refused}
 use Rattle.line.specs.declared.reading.Split.{Split}
 use Rattle.line.specs.declared.reading.NextRead.{NextRead}
-use Rattle.line.specs.declared.reading.NextRead.TheVariants.{Read, Over}
 use Rattle.line.specs.Event.{event_reading}
 use Rattle.line.specs.Parameter.{parameter_reading}
 
@@ -34,11 +31,11 @@ abbrev pub split_line : List ℕ → Split
 split_line l = record { reading = read_line l; commas = commas_of l }
 
 -- the next line of a chunk from an index on, and what it is; where the first argument says so, what is left is one line as it stands
-abbrev pub reading_of : List ℕ → ℕ → Next → NextRead
-reading_of s at (Line end start) = Read end start (split_line (part_from s at end))
-reading_of s at Rest = Over
+abbrev pub reading_of : List ℕ → ℕ → Option (ℕ × ℕ) → Option NextRead
+reading_of s at (Some (end, start)) = Some (record { end = end; start = start; split = split_line (part_from s at end) })
+reading_of s at None = None
 
-unfoldable pub next_reading : Bool → List ℕ → ℕ → NextRead
+unfoldable pub next_reading : Bool → List ℕ → ℕ → Option NextRead
 next_reading whole s at = reading_of s at (line_from whole s at)
 
 -- the number of document 01's table that a reading is

@@ -7,14 +7,14 @@ ghost use Rattle.line.specs.Event.{PlainFields, numbers_of, has_names, fields_re
 use crate::reading::Reading;
 use fields::between;
 use fields::part::Commas;
-use forms::note::{Note, note_of};
+use forms::note::note_of;
 use forms::rule::rule_broken;
 use text::name::{NAME_MOST, name};
-use text::number::{Number, read_number};
+use text::number::read_number;
 use text::size::MAX_TIME;
 use words::action::Action;
 use words::kind::Kind;
-use words::pair::{Pair, named};
+use words::pair::named;
 
 // What an event line says, but for its source, target and note, which are the parts 2, 5 and 8 of the line itself.
 #[derive(Clone, Copy)]
@@ -26,30 +26,14 @@ pub struct Event {
     pub action: Action,
 }
 
-// The time and the two instances of an event line, or that one of them is no number of its size.
-#[derive(Clone, Copy)]
-pub(crate) enum Numbers {
-    TimeAndInstances(u64, u32, u32),
-    Wrong,
-}
-
-// The three numbers of an event line.
-fn read_numbers(time: &[u8], source_instance: &[u8], target_instance: &[u8]) -> Numbers
+// The time and the two instances of an event line; nothing where one of them is no number of its size.
+fn read_numbers(time: &[u8], source_instance: &[u8], target_instance: &[u8]) -> Option<(u64, u32, u32)>
     ensures { result ≡ numbers_of time.now source_instance.now target_instance.now }
 {
-    let first = read_number(time, MAX_TIME);
-    let Number::Value(time) = first else {
-        return Numbers::Wrong;
-    };
-    let second = read_number(source_instance, 4294967295);
-    let Number::Value(source) = second else {
-        return Numbers::Wrong;
-    };
-    let third = read_number(target_instance, 4294967295);
-    let Number::Value(target) = third else {
-        return Numbers::Wrong;
-    };
-    Numbers::TimeAndInstances(time, source as u32, target as u32)
+    let time = read_number(time, MAX_TIME)?;
+    let source = read_number(source_instance, 4294967295)?;
+    let target = read_number(target_instance, 4294967295)?;
+    Some((time, source as u32, target as u32))
 }
 
 // Whether a field is a name. Of a plain line's field only its length is left to be looked at.
@@ -88,8 +72,7 @@ fn read_known(
     ensures { result ≡ known_reading kind action time
         source.now source_instance target.now target_instance note.now }
 {
-    let n = note_of(kind, note);
-    let Note::Means(count) = n else {
+    let Some(count) = note_of(kind, note) else {
         return Reading::Refused(5);
     };
     if rule_broken(
@@ -133,12 +116,11 @@ fn read_fields(
     if !names(source, target, note, noted, plain) {
         return Reading::Refused(5);
     }
-    let n = read_numbers(time, source_instance, target_instance);
-    let Numbers::TimeAndInstances(time, source_instance, target_instance) = n else {
+    let numbers = read_numbers(time, source_instance, target_instance);
+    let Some((time, source_instance, target_instance)) = numbers else {
         return Reading::Refused(5);
     };
-    let p = named(kind, action);
-    let Pair::Known(kind, action) = p else {
+    let Some((kind, action)) = named(kind, action) else {
         return Reading::Refused(6);
     };
     read_known(

@@ -5,7 +5,7 @@ ghost use Rattle.line.specs.Parameter.{is_version_line, time_scale, is_creator, 
 use crate::reading::Reading;
 use forms::date::moment;
 use text::bytes::{same, starts};
-use words::scale::{ScaleFound, scale_of};
+use words::scale::{Scale, scale_of};
 
 // Whether the line is `#version`, or begins with it and a blank.
 fn version_line(line: &[u8]) -> bool
@@ -18,7 +18,7 @@ fn version_line(line: &[u8]) -> bool
 }
 
 // The time scale that the line sets. 000 spells the keyword in two ways.
-fn time_scale(line: &[u8]) -> ScaleFound
+fn time_scale(line: &[u8]) -> Option<Scale>
     ensures { result ≡ time_scale line.now }
 {
     if starts(line, b"#timeScale ") {
@@ -27,7 +27,7 @@ fn time_scale(line: &[u8]) -> ScaleFound
     if starts(line, b"#timescale ") {
         return scale_of(&line[11..]);
     }
-    ScaleFound::NoScale
+    None
 }
 
 // Whether the line names a creator, with any bytes but none.
@@ -54,7 +54,7 @@ fn creation_date(line: &[u8]) -> bool
 fn read_other(line: &[u8]) -> Reading
     ensures { result ≡ other_reading line.now }
 {
-    if let ScaleFound::ThisScale(scale) = time_scale(line) {
+    if let Some(scale) = time_scale(line) {
         return Reading::TimeScale(scale);
     }
     if creator(line) {

@@ -8,7 +8,6 @@ use crate::event::{Event, read_event};
 use crate::parameter::read_parameter;
 use fields::part::Commas;
 use fields::split;
-use scan::ahead::Ahead;
 use scan::reader::next_line;
 use text::name::all_plain;
 use words::scale::Scale;
@@ -35,11 +34,12 @@ pub struct Split {
     pub commas: Commas,
 }
 
-// The next line of a chunk: it ends just before the first index, and what stands after its end begins at the second. `Over` where no whole line is left.
+// A line of a chunk: it ends just before the index `end`, and what stands after its end begins at the index `start`.
 #[derive(Clone, Copy)]
-pub enum NextRead {
-    Read(usize, usize, Split),
-    Over,
+pub struct NextRead {
+    pub end: usize,
+    pub start: usize,
+    pub split: Split,
 }
 
 // Whether a byte 10 or 13 stands in the line.
@@ -114,14 +114,16 @@ pub fn read(line: &[u8]) -> Reading
     s.reading
 }
 
-// The next line of a chunk from an index on, and what it is; where `whole`, what is left is one line as it stands.
-pub fn read_next(s: &[u8], at: usize, whole: bool) -> NextRead
+// The next line of a chunk from an index on, and what it is; nothing where no whole line is left. Where `whole`, what is left is one line as it stands.
+pub fn read_next(s: &[u8], at: usize, whole: bool) -> Option<NextRead>
     ensures { result ≡ next_reading whole s.now at }
 {
-    let next = next_line(s, at, whole);
-    let Ahead::Line(end, start, plain, commas) = next else {
-        return NextRead::Over;
-    };
-    let reading = read_at(&s[at..end], commas, plain);
-    NextRead::Read(end, start, Split { reading, commas })
+    let next = next_line(s, at, whole)?;
+    let commas = next.commas;
+    let reading = read_at(&s[at..next.end], commas, next.plain);
+    Some(NextRead {
+        end: next.end,
+        start: next.start,
+        split: Split { reading, commas },
+    })
 }

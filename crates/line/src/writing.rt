@@ -6,7 +6,7 @@ ghost use Rattle.words.specs.Kind.{kind_word};
 ghost use Rattle.line.specs.Writing.{has_sizes, record_refusal, text_of, note_text, number_field, name_field, write_line, wrote};
 
 use crate::event::Event;
-use forms::note::{Note, note_of};
+use forms::note::note_of;
 use forms::rule::rule_broken;
 use text::name::name;
 use text::put::{digit_count, put_bytes, put_number};
@@ -41,10 +41,9 @@ fn refusal(event: Event, source: &[u8], target: &[u8], note: &[u8]) -> u8
     if !is_of(kind, action) {
         return 6;
     }
-    let n = note_of(kind, note);
-    let Note::Means(_) = n else {
+    if note_of(kind, note).is_none() {
         return 5;
-    };
+    }
     if rule_broken(
         kind,
         action,

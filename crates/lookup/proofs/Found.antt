@@ -1,4 +1,5 @@
 -- What the look-ups find: the last number that passes a test, for any test; each look-up in tables of their sizes; and what the tests of a row mean.
+use Rattle.std.proofs.Common.{None, Some, Option}
 use mathlib.Core.Path.{◌≡◌, refl, sym, ap, subst, ◌∙◌}
 use mathlib.Core.Bool.{Bool, true, false, cond}
 use mathlib.Core.List.{List}
@@ -17,14 +18,12 @@ use Rattle.tables.proofs.Means.{Means, means_le, means_lt, means_eq, means_and}
 use Rattle.tables.proofs.NameBytes.{lent_name, name_size}
 use Rattle.index.specs.Hash.{home_of}
 use Rattle.index.specs.Index.{sought}
-use Rattle.lookup.specs.declared.find.Found.{Found}
-use Rattle.lookup.specs.declared.find.Found.TheVariants.{At, Nothing}
 use Rattle.lookup.specs.Find.{last_below, row_is, ends_at, row_met, find_name, instance_is, find_instance, reaches_in, find_from}
 
 -- the number found is the last that passes below n, or none does
-abbrev Last : (ℕ → Bool) → ℕ → Found → Type 0
-Last f n (At k) = (k < n) × (f k ≡ true) × ((m : ℕ) → k < m → m < n → f m ≡ false)
-Last f n Nothing = (m : ℕ) → m < n → f m ≡ false
+abbrev Last : (ℕ → Bool) → ℕ → Option ℕ → Type 0
+Last f n (Some k) = (k < n) × (f k ≡ true) × ((m : ℕ) → k < m → m < n → f m ≡ false)
+Last f n None = (m : ℕ) → m < n → f m ≡ false
 
 module _ (f : ℕ → Bool) where
   -- ---- the steps of a search, as code takes them
@@ -32,7 +31,7 @@ module _ (f : ℕ → Bool) where
   back : (n : ℕ) → 0 < n → n ≡ suc (n - 1)
   back n h = omega arith
 
-  pub last_hit : (n : ℕ) → 0 < n → f (n - 1) ≡ true → last_below f n ≡ At (n - 1)
+  pub last_hit : (n : ℕ) → 0 < n → f (n - 1) ≡ true → last_below f n ≡ Some (n - 1)
   unfolding last_below
   last_hit n h e = ap (last_below f) (back n h) ∙ rw (last_below, e)
 
@@ -40,7 +39,7 @@ module _ (f : ℕ → Bool) where
   unfolding last_below
   last_miss n h e = ap (last_below f) (back n h) ∙ rw (last_below, e)
 
-  pub last_end : (n : ℕ) → n ≤ 0 → last_below f n ≡ Nothing
+  pub last_end : (n : ℕ) → n ≤ 0 → last_below f n ≡ None
   unfolding last_below
   last_end n h = let e : n ≡ 0 = omega arith in rw (e, last_below)
 
@@ -55,20 +54,20 @@ module _ (f : ℕ → Bool) where
 
   -- ---- what was found
 
-  last_step : (b : Bool) (n : ℕ) (r : Found) → f n ≡ b → Last f n r → Last f (suc n) (cond b (At n) r)
+  last_step : (b : Bool) (n : ℕ) (r : Option ℕ) → f n ≡ b → Last f n r → Last f (suc n) (cond b (Some n) r)
   last_step true n r e h = (omega arith, e, λ m lo hi. absurd (omega arith))
-  last_step false n (At k) e h = (omega arith, h.1, λ m lo hi. ⊎_elim (λ q. rw q e) (λ l. h.2 m lo l) (eq-or-lt_of_le (le_of_suc-le-suc hi)))
-  last_step false n Nothing e h = λ m hi. ⊎_elim (λ q. rw q e) (λ l. h m l) (eq-or-lt_of_le (le_of_suc-le-suc hi))
+  last_step false n (Some k) e h = (omega arith, h.1, λ m lo hi. ⊎_elim (λ q. rw q e) (λ l. h.2 m lo l) (eq-or-lt_of_le (le_of_suc-le-suc hi)))
+  last_step false n None e h = λ m hi. ⊎_elim (λ q. rw q e) (λ l. h m l) (eq-or-lt_of_le (le_of_suc-le-suc hi))
 
   last : (n : ℕ) → Last f n (last_below f n)
   unfolding last_below
   last zero = λ m hi. absurd (not-suc-le-zero hi)
   last (suc n) = last_step (f n) n (last_below f n) refl (last n)
 
-  pub last_at : (n i : ℕ) → last_below f n ≡ At i → (i < n) × (f i ≡ true) × ((k : ℕ) → i < k → k < n → f k ≡ false)
+  pub last_at : (n i : ℕ) → last_below f n ≡ Some i → (i < n) × (f i ≡ true) × ((k : ℕ) → i < k → k < n → f k ≡ false)
   last_at n i e = subst (Last f n) e (last n)
 
-  pub last_none : (n : ℕ) → last_below f n ≡ Nothing → (k : ℕ) → k < n → f k ≡ false
+  pub last_none : (n : ℕ) → last_below f n ≡ None → (k : ℕ) → k < n → f k ≡ false
   last_none n e = subst (Last f n) e (last n)
 
 -- ---- the look-ups, in tables of their sizes

@@ -1,4 +1,5 @@
 -- Rows of instances looked at together, as marks in one number.
+use Rattle.std.proofs.Common.{Some}
 use mathlib.Core.Path.{◌≡◌, sym, ap, ◌∙◌}
 use mathlib.Core.Bool.{Bool, ◌&&◌, cond}
 use mathlib.Core.List.{List}
@@ -13,7 +14,6 @@ use borrow.Author.Tests.{lt-ltb, le-ltb}
 use Rattle.marks.specs.Marks.{marks_from}
 use Rattle.marks.proofs.Lasts.{marks_more, marks_front, marks_none, marks_last}
 use Rattle.tables.specs.Entry.{instance_rows, nums_size, instance_count, owner_at, instance_at}
-use Rattle.lookup.specs.declared.find.Found.TheVariants.{At}
 use Rattle.lookup.specs.Find.{last_below, instance_is, find_instance}
 use Rattle.lookup.proofs.Found.{last_over, instance_found}
 
@@ -34,7 +34,7 @@ module _ (f : ℕ → Bool) where
 
   -- it is that of the last mark, or, with no mark, the last below
   module _ (n at to m : ℕ) (ends : at + n ≡ to) (marks : m ≡ marks_from f at n) where
-    pub last_marked : n ≤ 32 → (m ≡ 0 → ⊥) → last_below f to ≡ At (at + (31 - count_leading_zeros 32 m))
+    pub last_marked : n ≤ 32 → (m ≡ 0 → ⊥) → last_below f to ≡ Some (at + (31 - count_leading_zeros 32 m))
     unfolding last_below
     last_marked h some =
         let l = rw (← marks) at (marks_last f n at h (rw (← marks) (omega arith))) in

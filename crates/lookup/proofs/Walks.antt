@@ -1,7 +1,7 @@
 -- What request No. 11 asks for: where the index is the one that the names give in order, a name is found by it where a walk of all rows finds it.
+use Rattle.std.proofs.Common.{None, Some, Option}
 use mathlib.Core.Path.{◌≡◌, refl, ap, subst, ◌∙◌}
 use mathlib.Core.Bool.{Bool, true, false, ◌||◌, cond}
-use mathlib.Core.Option.{Option, none, some}
 use mathlib.Core.List.{List}
 use Prim.Native.Nat.{ℕ, suc, ◌-◌, ◌≤◌}
 use native.Mathlib.Omega.{arith}
@@ -16,7 +16,6 @@ use Rattle.index.specs.Hash.{home_of}
 use Rattle.index.specs.Index.{place, entry, sought, home_at, index_from}
 use Rattle.index.proofs.Right.{Held, Right, place_lt}
 use Rattle.index.proofs.Indexes.{from_right}
-use Rattle.lookup.specs.declared.find.Found.TheVariants.{At, Nothing}
 use Rattle.lookup.specs.Find.{row_is, ends_at, row_met, find_name, row_found, walk_name}
 use Rattle.lookup.proofs.Found.{name_found, row_name}
 
@@ -30,7 +29,7 @@ module _ (home : ℕ → ℕ) (n : ℕ) (l : List ℕ) (x : Right home n l) (h :
   passed_over e k f = rw (ne_eqb e 0 (λ q. omega arith), f)
 
   seek_first : (f : Option ℕ) → first_of t 0 n ≡ f → row_met l h (sought l h ends) ≡ row_found f
-  seek_first (some r) e =
+  seek_first (Some r) e =
       let a = first_at t n r e in
       let y : Held l h r = subst (λ h. Held l h r) (at_home r a.1) (x.held r a.0) in
       let m : suc r - 1 ≡ r = omega arith in
@@ -38,14 +37,14 @@ module _ (home : ℕ → ℕ) (n : ℕ) (l : List ℕ) (x : Right home n l) (h :
       let found = first_is (λ d. ends (entry l h d)) place_rows y.far y.near (rw (y.there, o, m) a.1)
       (λ j k. let b = y.before j k in passed_over (entry l h j) b.0 (a.2 _ (omega arith))) in
       ap (row_met l h) found ∙ rw (y.there, o, m)
-  seek_first none e = by_found (sought l h ends) refl
+  seek_first None e = by_found (sought l h ends) refl
     where
       -- the search ends at a free place or not at all
-      by_found : (f : Option ℕ) → sought l h ends ≡ f → row_met l h f ≡ Nothing
-      by_found none q = refl
-      by_found (some d) q = by_entry (eqb (entry l h d) 0) refl
+      by_found : (f : Option ℕ) → sought l h ends ≡ f → row_met l h f ≡ None
+      by_found None q = refl
+      by_found (Some d) q = by_entry (eqb (entry l h d) 0) refl
         where
-          by_entry : (b : Bool) → eqb (entry l h d) 0 ≡ b → cond b Nothing (At (entry l h d - 1)) ≡ Nothing
+          by_entry : (b : Bool) → eqb (entry l h d) 0 ≡ b → cond b None (Some (entry l h d - 1)) ≡ None
           by_entry true z = refl
           by_entry false z =
               let some-row = eqb-false (entry l h d) 0 z in

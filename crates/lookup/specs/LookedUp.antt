@@ -1,22 +1,20 @@
 -- What is looked up in the tables for an event line: the rows of its core, its target and its instance.
-use Rattle.std.specs.Prelude.{Bool, true, false, not, cond, List, ℕ, eqb, ltb}
+use Rattle.std.specs.Prelude.{Bool, true, false, not, cond, List, ℕ, eqb, ltb, None, Some, Option}
 use Rattle.rules.specs.Core.{no_core, core_class}
 use Rattle.rules.specs.Event.{Event}
 use Rattle.rules.specs.History.{has_instances, is_tracked}
 use Rattle.tables.specs.Entry.{name_rows}
-use Rattle.lookup.specs.declared.find.Found.{Found}
-use Rattle.lookup.specs.declared.find.Found.TheVariants.{At, Nothing}
 use Rattle.lookup.specs.Find.{find_name, find_instance, find_from}
 use Rattle.lookup.specs.declared.look.LookedUp.{LookedUp}
 
-abbrev pub look_if : Bool → Found → Found
+abbrev pub look_if : Bool → Option ℕ → Option ℕ
 look_if true f = f
-look_if false f = Nothing
+look_if false f = None
 
-abbrev pub instance_in : List ℕ → Bool → Found → ℕ → Found
-instance_in nums false f n = Nothing
-instance_in nums true Nothing n = Nothing
-instance_in nums true (At i) n = cond (ltb i name_rows) (find_instance nums i n) Nothing
+abbrev pub instance_in : List ℕ → Bool → Option ℕ → ℕ → Option ℕ
+instance_in nums false f n = None
+instance_in nums true None n = None
+instance_in nums true (Some i) n = cond (ltb i name_rows) (find_instance nums i n) None
 
 -- by the event's kind, word, target instance, source and target
 abbrev pub looked_up_for : List ℕ → List ℕ → ℕ → ℕ → ℕ → List ℕ → List ℕ → LookedUp
@@ -35,10 +33,10 @@ looked_up names nums e = looked_up_for names nums e.kind e.word e.target_instanc
 -- ---- the rows that a line adds
 
 -- 1 where a row is needed and there is none yet
-abbrev pub rows_added : Bool → Found → ℕ
+abbrev pub rows_added : Bool → Option ℕ → ℕ
 rows_added false f = 0
-rows_added true (At i) = 0
-rows_added true Nothing = 1
+rows_added true (Some i) = 0
+rows_added true None = 1
 
 abbrev pub new_core : LookedUp → ℕ
 new_core s = rows_added (not (eqb s.class no_core)) s.source
@@ -48,10 +46,10 @@ new_name s k = rows_added (is_tracked k) s.target
 
 -- ---- a number above all that the rows have of a name
 
-abbrev pub is_nothing : Found → Bool
-is_nothing (At i) = false
-is_nothing Nothing = true
+abbrev pub is_nothing : Option ℕ → Bool
+is_nothing (Some i) = false
+is_nothing None = true
 
-abbrev pub above_in : List ℕ → Found → ℕ → Bool
-above_in nums Nothing n = true
-above_in nums (At i) n = cond (ltb i name_rows) (is_nothing (find_from nums i n)) true
+abbrev pub above_in : List ℕ → Option ℕ → ℕ → Bool
+above_in nums None n = true
+above_in nums (Some i) n = cond (ltb i name_rows) (is_nothing (find_from nums i n)) true

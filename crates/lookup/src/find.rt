@@ -10,14 +10,8 @@ use crate::row::row_is;
 use index::hash::home_of;
 use tables::entry::*;
 
-#[derive(Clone, Copy)]
-pub enum Found {
-    At(usize),
-    Nothing,
-}
-
 // The row of a name, by the index: from its home on up to a free place, or all around.
-fn seek(names: &[u8], nums: &[u32], index: &[u32], name: &[u8], home: usize) -> Found
+fn seek(names: &[u8], nums: &[u32], index: &[u32], name: &[u8], home: usize) -> Option<usize>
     requires { (length names.now ≡ names_size) × ((length nums.now ≡ nums_size) × ((length index.now ≡ place_rows) × (home < place_rows))) }
     ensures { result ≡ row_met index.now home (sought index.now home (ends_at names.now nums.now name.now)) }
 {
@@ -25,25 +19,25 @@ fn seek(names: &[u8], nums: &[u32], index: &[u32], name: &[u8], home: usize) -> 
     while d < PLACE_ROWS {
         let e = index[(home + d) % PLACE_ROWS] as usize;
         if e == 0 {
-            return Found::Nothing;
+            return None;
         }
         if row_is(names, nums, name, e - 1) {
-            return Found::At(e - 1);
+            return Some(e - 1);
         }
         d += 1;
     }
-    Found::Nothing
+    None
 }
 
 // The row that holds the name, by the index.
-pub fn find_name(names: &[u8], nums: &[u32], name: &[u8]) -> Found
+pub fn find_name(names: &[u8], nums: &[u32], name: &[u8]) -> Option<usize>
     ensures { result ≡ find_name names.now nums.now name.now }
 {
     if names.len() != NAMES_SIZE {
-        return Found::Nothing;
+        return None;
     }
     if nums.len() != NUMS_SIZE {
-        return Found::Nothing;
+        return None;
     }
     seek(names, nums, &nums[PLACE..PLACES_END], name, home_of(name))
 }
@@ -74,15 +68,15 @@ fn sixteen(nums: &[u32], owner: u32, number: u32, at: usize) -> u32
 }
 
 // The row of the highest mark, where the lowest is for row `at`.
-fn last_of(at: usize, m: u32) -> Found
+fn last_of(at: usize, m: u32) -> Option<usize>
     requires { (at ≤ instance_rows) × (0 < m) }
-    ensures { result ≡ Found.At (at + (31 - count_leading_zeros 32 m)) }
+    ensures { result ≡ Some (at + (31 - count_leading_zeros 32 m)) }
 {
-    Found::At(at + (31 - u32::leading_zeros(m)) as usize)
+    Some(at + (31 - u32::leading_zeros(m)) as usize)
 }
 
 // The last row of an instance below `to`, a multiple of sixteen.
-fn find_below(nums: &[u32], owner: u32, number: u32, to: usize) -> Found
+fn find_below(nums: &[u32], owner: u32, number: u32, to: usize) -> Option<usize>
     requires { (to ≤ instance_rows) × ((to % 16 ≡ 0) × (length nums.now ≡ nums_size)) }
     ensures { result ≡ last_below (instance_is nums.now owner number) to }
 {
@@ -94,7 +88,7 @@ fn find_below(nums: &[u32], owner: u32, number: u32, to: usize) -> Found
             return last_of(at, m);
         }
     }
-    Found::Nothing
+    None
 }
 
 // How many rows to look at: no more than there are, whatever number the tables hold.
@@ -106,15 +100,15 @@ fn rows(n: usize) -> usize
 
 // The last row of an instance: the newest are looked at first. Of the sixteen that the newest is among, those after it don't count, and their
 // marks are dropped.
-pub fn find_instance(nums: &[u32], owner: u32, number: u32) -> Found
+pub fn find_instance(nums: &[u32], owner: u32, number: u32) -> Option<usize>
     ensures { result ≡ find_instance nums.now owner number }
 {
     if nums.len() != NUMS_SIZE {
-        return Found::Nothing;
+        return None;
     }
     let n = rows(nums[INSTANCES] as usize);
     if n == 0 {
-        return Found::Nothing;
+        return None;
     }
     let at = (n - 1) / 16 * 16;
     let m = sixteen(nums, owner, number, at) % (1u32 << (n - at));
@@ -139,18 +133,18 @@ fn reaches(nums: &[u32], owner: u32, number: u32, j: usize) -> bool
 }
 
 // The last row of an owner's instance with a number or a higher one.
-pub(crate) fn find_from(nums: &[u32], owner: u32, number: u32) -> Found
+pub(crate) fn find_from(nums: &[u32], owner: u32, number: u32) -> Option<usize>
     ensures { result ≡ find_from nums.now owner number }
 {
     if nums.len() != NUMS_SIZE {
-        return Found::Nothing;
+        return None;
     }
     let mut j = nums[INSTANCES] as usize;
     while 0 < j {
         j -= 1;
         if reaches(nums, owner, number, j) {
-            return Found::At(j);
+            return Some(j);
         }
     }
-    Found::Nothing
+    None
 }

@@ -3,7 +3,7 @@ ghost use Rattle.std.specs.Prelude.{◌≡◌};
 ghost use Rattle.lookup.specs.Find.{find_name};
 ghost use Rattle.lookup.specs.LookedUp.{look_if, instance_in, looked_up_for, rows_added, above_in};
 
-use crate::find::{Found, find_from, find_instance, find_name};
+use crate::find::{find_from, find_instance, find_name};
 use steps::kind::{core_class, tracked, with_instances};
 use steps::numbers::NO_CORE;
 use tables::entry::NAME_ROWS;
@@ -12,34 +12,32 @@ use tables::entry::NAME_ROWS;
 #[derive(Clone, Copy)]
 pub struct LookedUp {
     pub class: u32,
-    pub source: Found,
-    pub target: Found,
-    pub instance: Found,
+    pub source: Option<usize>,
+    pub target: Option<usize>,
+    pub instance: Option<usize>,
 }
 
 // The row of a name, looked up only where it is needed.
-fn look_if(needed: bool, names: &[u8], nums: &[u32], name: &[u8]) -> Found
+fn look_if(needed: bool, names: &[u8], nums: &[u32], name: &[u8]) -> Option<usize>
     ensures { result ≡ look_if needed (find_name names.now nums.now name.now) }
 {
     if needed {
         find_name(names, nums, name)
     } else {
-        Found::Nothing
+        None
     }
 }
 
 // The row of an instance of the name in a row.
-fn instance_in(nums: &[u32], needed: bool, target: Found, number: u32) -> Found
+fn instance_in(nums: &[u32], needed: bool, target: Option<usize>, number: u32) -> Option<usize>
     ensures { result ≡ instance_in nums.now needed target number }
 {
     if !needed {
-        return Found::Nothing;
+        return None;
     }
-    let Found::At(i) = target else {
-        return Found::Nothing;
-    };
+    let i = target?;
     if NAME_ROWS <= i {
-        return Found::Nothing;
+        return None;
     }
     find_instance(nums, i as u32, number)
 }
@@ -69,30 +67,27 @@ pub fn look(
 }
 
 // 1 where a row is needed and there is none yet.
-pub fn rows_added(needed: bool, f: Found) -> u64
+pub fn rows_added(needed: bool, f: Option<usize>) -> u64
     ensures { result ≡ rows_added needed f }
 {
     if !needed {
         return 0;
     }
     match f {
-        Found::At(_) => 0,
-        Found::Nothing => 1,
+        Some(_) => 0,
+        None => 1,
     }
 }
 
 // Whether a number is above those of all instances of the name in a row.
-pub fn above_all(nums: &[u32], target: Found, number: u32) -> bool
+pub fn above_all(nums: &[u32], target: Option<usize>, number: u32) -> bool
     ensures { result ≡ above_in nums.now target number }
 {
-    let Found::At(i) = target else {
+    let Some(i) = target else {
         return true;
     };
     if NAME_ROWS <= i {
         return true;
     }
-    match find_from(nums, i as u32, number) {
-        Found::At(_) => false,
-        Found::Nothing => true,
-    }
+    find_from(nums, i as u32, number).is_none()
 }

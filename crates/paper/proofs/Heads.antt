@@ -1,4 +1,5 @@
 -- The lines of a sheet that are no rows, by the tests of the code: the verdict's, and a title with its count.
+use Rattle.std.proofs.Common.{None, Some, Option}
 use mathlib.Core.Path.{◌≡◌, refl, sym, ◌∙◌}
 use mathlib.Core.Bool.{Bool, true, false, ◌&&◌}
 use mathlib.Core.List.{List}
@@ -11,13 +12,10 @@ use borrow.Author.Tests.{le-leb}
 use Rattle.text.specs.Literal.{bytes}
 use Rattle.text.specs.Bytes.{starts_with, to_byte, find_from}
 use Rattle.text.specs.Number.{is_number, value_from, number_if, number_of}
-use Rattle.text.specs.declared.number.Number.{Number}
-use Rattle.text.specs.declared.number.Number.TheVariants.{Value, Bad}
 use Rattle.text.specs.Sizes.{max_time}
 use Rattle.text.proofs.Words.{starts_long}
 use Rattle.words.specs.Scale.{scale_of}
 use Rattle.bill.specs.Reading.{scale_code, from_scale, from_span, scale_in, span_in, head_exact, count_in, count_exact}
-use Rattle.paper.specs.declared.head.Head.TheVariants.{Line, Other}
 use Rattle.paper.specs.Heads.{head_if, head_of, count_of}
 
 -- what stands from an index on, as a part from there to the end is read
@@ -27,7 +25,7 @@ rest l n = take_all (length l - n) (drop n l) (omega (arith, length-drop n l))
 -- ---- a title with its count
 
 module _ (head line : List ℕ) (max : ℕ) where
-  pub no_title : starts_with line head ≡ false → Bad ≡ count_of head line max
+  pub no_title : starts_with line head ≡ false → None ≡ count_of head line max
   unfolding count_of count_exact
   no_title e = rw e
 
@@ -38,11 +36,11 @@ module _ (head line : List ℕ) (max : ℕ) where
 -- ---- the verdict's line
 
 -- a number told, or not, is a head told, or not
-head_bad : (t : Bool) (scale v : ℕ) → number_if t v ≡ Bad → Other ≡ head_if t scale v
+head_bad : (t : Bool) (scale v : ℕ) → number_if t v ≡ None → None ≡ head_if t scale v
 head_bad true scale v e = cc
 head_bad false scale v e = refl
 
-head_value : (t : Bool) (scale v n : ℕ) → number_if t v ≡ Value n → Line scale n ≡ head_if t scale v
+head_value : (t : Bool) (scale v n : ℕ) → number_if t v ≡ Some n → Some (scale, n) ≡ head_if t scale v
 head_value true scale v n e = cc
 head_value false scale v n e = cc
 
@@ -51,7 +49,7 @@ pub span_room : (line : List ℕ) (blank : ℕ) → starts_with (take (length li
 span_room line blank f = let h = starts_long _ (bytes " span ") (rw (rest line blank) at f) in omega (arith, length-drop blank line)
 
 module _ (line : List ℕ) where
-  pub other_verdict : starts_with line (bytes "verdict 0 line 0 scale ") ≡ false → Other ≡ head_of line
+  pub other_verdict : starts_with line (bytes "verdict 0 line 0 scale ") ≡ false → None ≡ head_of line
   unfolding head_of head_exact
   other_verdict e = rw e
 
@@ -67,7 +65,7 @@ module _ (line : List ℕ) where
     span_from : from_span (from_scale line) ≡ drop blank line
     span_from = rw (drop-drop, blank_is)
 
-    pub no_scale : scale ≡ 0 → Other ≡ head_of line
+    pub no_scale : scale ≡ 0 → None ≡ head_of line
     unfolding head_of head_exact
     no_scale z = rw (e, scale_is, z)
 
@@ -75,11 +73,11 @@ module _ (line : List ℕ) where
       low : leb 1 scale ≡ true
       low = le-leb 1 scale (omega arith)
 
-      pub no_span : starts_with (take (length line - blank) (drop blank line)) (bytes " span ") ≡ false → Other ≡ head_of line
+      pub no_span : starts_with (take (length line - blank) (drop blank line)) (bytes " span ") ≡ false → None ≡ head_of line
       unfolding head_of head_exact
       no_span f = let g = rw (rest line blank) at f in rw (e, scale_is, low, span_from, g)
 
-      module _ (f : starts_with (take (length line - blank) (drop blank line)) (bytes " span ") ≡ true) (r : Number)
+      module _ (f : starts_with (take (length line - blank) (drop blank line)) (bytes " span ") ≡ true) (r : Option ℕ)
           (given : r ≡ number_of (take (length line - (blank + 6)) (drop (blank + 6) line)) max_time) where
         abbrev digits : List ℕ
         digits = drop (blank + 6) line
@@ -98,8 +96,8 @@ module _ (line : List ℕ) where
         unfolding head_of head_exact span_in
         by_number = let g = rw (rest line blank) at f in rw (e, scale_is, low, digits_are, span_from, g)
 
-        pub no_number : r ≡ Bad → Other ≡ head_of line
+        pub no_number : r ≡ None → None ≡ head_of line
         no_number p = head_bad in_range scale (value_from 0 digits) (number_is ∙ p) ∙ by_number
 
-        pub head_there : (n : ℕ) → r ≡ Value n → Line scale n ≡ head_of line
+        pub head_there : (n : ℕ) → r ≡ Some n → Some (scale, n) ≡ head_of line
         head_there n p = head_value in_range scale (value_from 0 digits) n (number_is ∙ p) ∙ by_number

@@ -1,4 +1,5 @@
 -- A row of either section: what its tests say of its words.
+use Rattle.std.proofs.Common.{None, Some}
 use mathlib.Core.Path.{◌≡◌, refl, sym, ap, ◌∙◌}
 use mathlib.Core.Bool.{Bool, true, false, ◌&&◌}
 use mathlib.Core.List.{List, [], ◌∷◌}
@@ -10,7 +11,6 @@ use lib.Seq.{drop-cons}
 use borrow.Author.Tests.{eqb-true, eq-eqb, ne_eqb, leb-true}
 use Rattle.text.specs.Name.{is_name}
 use Rattle.text.specs.Number.{is_number, value_from, number_of}
-use Rattle.text.specs.declared.number.Number.TheVariants.{Value, Bad}
 use Rattle.text.specs.Pieces.{pieces}
 use Rattle.text.proofs.Bools.{and_l, and_r, is_false, clash}
 use Rattle.text.proofs.Pieces.{pieces_some}
@@ -119,29 +119,29 @@ module _ (span : ℕ) (line : List ℕ) where
 
   -- ---- what the code finds, exit by exit
 
-  core_none : (CoreParts span line → ⊥) → Bad ≡ core_held span line
+  core_none : (CoreParts span line → ⊥) → None ≡ core_held span line
   unfolding core_held
   core_none h = rw (is_false (core_ok span line) (λ e. h (core_parts e)))
 
-  pub core_unnamed : named_of 4 line ≡ false → Bad ≡ core_held span line
+  pub core_unnamed : named_of 4 line ≡ false → None ≡ core_held span line
   core_unnamed e = core_none (λ p. clash _ (words_named 4 line p.words p.named) e)
 
-  pub core_first : number_of (word_of line 1) span ≡ Bad → Bad ≡ core_held span line
+  pub core_first : number_of (word_of line 1) span ≡ None → None ≡ core_held span line
   core_first e = core_none (λ p. omega (arith, untold (word_of line 1) span e p.one, p.sum))
 
   module _ (held : ℕ) (a : Told (word_of line 1) span held) where
-    pub core_second : number_of (word_of line 2) (span - held) ≡ Bad → Bad ≡ core_held span line
+    pub core_second : number_of (word_of line 2) (span - held) ≡ None → None ≡ core_held span line
     core_second e = core_none (λ p. omega (arith, untold (word_of line 2) (span - held) e p.two, p.sum, a.value))
 
     module _ (idle : ℕ) (b : Told (word_of line 2) (span - held) idle) where
-      pub core_third : number_of (word_of line 3) (span - held - idle) ≡ Bad → Bad ≡ core_held span line
+      pub core_third : number_of (word_of line 3) (span - held - idle) ≡ None → None ≡ core_held span line
       core_third e = core_none (λ p. omega (arith, untold (word_of line 3) (span - held - idle) e p.three, p.sum, a.value, b.value))
 
       module _ (unknown : ℕ) (c : Told (word_of line 3) (span - held - idle) unknown) where
-        pub core_short : unknown < span - held - idle → Bad ≡ core_held span line
+        pub core_short : unknown < span - held - idle → None ≡ core_held span line
         core_short h = core_none (λ p. omega (arith, p.sum, a.value, b.value, c.value))
 
-        pub core_whole : named_of 4 line ≡ true → span - held - idle ≤ unknown → Value held ≡ core_held span line
+        pub core_whole : named_of 4 line ≡ true → span - held - idle ≤ unknown → Some held ≡ core_held span line
         unfolding core_held
         core_whole n h =
             let w = named_words 4 line n in
@@ -162,7 +162,7 @@ and_true true = refl
 and_true false = refl
 
 module _ (left : ℕ) (line : List ℕ) where
-  pub process_unnamed : named_of 2 line ≡ false → Bad ≡ process_charge left line
+  pub process_unnamed : named_of 2 line ≡ false → None ≡ process_charge left line
   unfolding process_charge
   process_unnamed e = rw (is_false (row_of 1 line) (λ r. let p = row_parts 1 line r in clash _ (words_named 2 line p.words p.named) e))
 
@@ -172,7 +172,7 @@ module _ (left : ℕ) (line : List ℕ) where
 
 -- ---- the figure that a row adds to the sums
 
-pub held_small : (span : ℕ) (l : List ℕ) (h : ℕ) → core_held span l ≡ Value h → h ≤ span
+pub held_small : (span : ℕ) (l : List ℕ) (h : ℕ) → core_held span l ≡ Some h → h ≤ span
 unfolding core_held
 held_small span l h e =
     let w = if_value (core_ok span l) (first (row_from l).figures) h e in
@@ -183,9 +183,9 @@ module _ (left : ℕ) (l : List ℕ) where
   abbrev charge : ℕ
   charge = first (row_from l).figures
 
-  pub charged : (n : ℕ) → process_charge left l ≡ Value n → (row_of 1 l && leb charge left ≡ true) × (charge ≡ n)
+  pub charged : (n : ℕ) → process_charge left l ≡ Some n → (row_of 1 l && leb charge left ≡ true) × (charge ≡ n)
   unfolding process_charge
   charged n e = if_value (row_of 1 l && leb charge left) charge n e
 
-  pub charge_small : (n : ℕ) → process_charge left l ≡ Value n → n ≤ left
+  pub charge_small : (n : ℕ) → process_charge left l ≡ Some n → n ≤ left
   charge_small n e = let w = charged n e in omega (arith, w.1, leb-true charge left (and_r (row_of 1 l) (leb charge left) w.0))

@@ -1,9 +1,7 @@
 -- FOR THE CODE ALONE: a line by the place where it begins, the row that it shows, and its figures as far as they may be added.
-use Rattle.std.specs.Prelude.{List, ℕ, ◌^◌, take, drop}
+use Rattle.std.specs.Prelude.{List, ℕ, ◌^◌, take, drop, None, Some, Option}
 use Rattle.text.specs.Bytes.{to_byte}
 use Rattle.text.specs.Number.{number_of}
-use Rattle.text.specs.declared.number.Number.{Number}
-use Rattle.text.specs.declared.number.Number.TheVariants.{Value, Bad}
 use Rattle.bill.specs.Rows.{Row}
 use Rattle.bill.specs.Reading.{word_of, row_from}
 use Rattle.sorting.specs.Order.{Name}
@@ -20,9 +18,9 @@ row_at text p = row_from (line_from text p)
 abbrev pub name_at : List ℕ → ℕ → Name
 name_at text p = (row_at text p).name
 
-abbrev pub value_or0 : Number → ℕ
-value_or0 (Value v) = v
-value_or0 Bad = 0
+abbrev pub value_or0 : Option ℕ → ℕ
+value_or0 (Some v) = v
+value_or0 None = 0
 
 -- word k as a figure, 0 where it is none of at most 2^62
 unfoldable pub amount_in : List ℕ → ℕ → ℕ

@@ -6,16 +6,9 @@ ghost use Rattle.paper.specs.Heads.{head_of, count_of};
 
 use bill::scale::scale_number;
 use text::bytes::{find, starts};
-use text::number::{Number, read_number};
+use text::number::read_number;
 use text::size::MAX_TIME;
-use words::scale::{ScaleFound, scale_of};
-
-// The time scale's number and the span that a verdict's line tells; or that it is no line of an accepted trace.
-#[derive(Clone, Copy)]
-pub enum Head {
-    Line(u32, u64),
-    Other,
-}
+use words::scale::scale_of;
 
 // The number of the time scale that s names, 0 for none.
 fn scale_code(s: &[u8]) -> u32
@@ -23,39 +16,36 @@ fn scale_code(s: &[u8]) -> u32
 {
     let found = scale_of(s);
     match found {
-        ScaleFound::ThisScale(scale) => scale_number(scale),
-        ScaleFound::NoScale => 0,
+        Some(scale) => scale_number(scale),
+        None => 0,
     }
 }
 
-// What the verdict's line of a sheet tells.
-pub fn read_head(line: &[u8]) -> Head
+// The time scale's number and the span that the verdict's line of a sheet tells; nothing where it is no line of an accepted trace.
+pub fn read_head(line: &[u8]) -> Option<(u32, u64)>
     ensures { result ≡ head_of line.now }
 {
     if !starts(line, b"verdict 0 line 0 scale ") {
-        return Head::Other;
+        return None;
     }
     let blank = find(line, 32, 23);
     let scale = scale_code(&line[23..blank]);
     if scale == 0 {
-        return Head::Other;
+        return None;
     }
     if !starts(&line[blank..], b" span ") {
-        return Head::Other;
+        return None;
     }
-    let span = read_number(&line[blank + 6..], MAX_TIME);
-    let Number::Value(n) = span else {
-        return Head::Other;
-    };
-    Head::Line(scale, n)
+    let span = read_number(&line[blank + 6..], MAX_TIME)?;
+    Some((scale, span))
 }
 
 // The count of at most max behind the title.
-pub fn read_count(line: &[u8], title: &[u8], max: u64) -> Number
+pub fn read_count(line: &[u8], title: &[u8], max: u64) -> Option<u64>
     ensures { result ≡ count_of title.now line.now max }
 {
     if !starts(line, title) {
-        return Number::Bad;
+        return None;
     }
     let n = title.len();
     read_number(&line[n..], max)

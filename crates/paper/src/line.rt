@@ -6,7 +6,7 @@ ghost use Rattle.bill.specs.Reading.{word_of};
 ghost use Rattle.paper.specs.Lines.{line_from, name_at, amount_in};
 
 use text::bytes::find;
-use text::number::{Number, read_number};
+use text::number::read_number;
 
 // No figure of a sheet that may be added is larger: 2^62.
 const FIGURE_MOST: u64 = 4611686018427387904;
@@ -59,7 +59,7 @@ pub(crate) fn word_count(line: &[u8]) -> usize
 }
 
 // Word k as a figure of at most max.
-pub(crate) fn figure(line: &[u8], k: usize, max: u64) -> Number
+pub(crate) fn figure(line: &[u8], k: usize, max: u64) -> Option<u64>
     ensures { result ≡ number_of (word_of line.now k) max }
 {
     read_number(word(line, k), max)
@@ -69,11 +69,7 @@ pub(crate) fn figure(line: &[u8], k: usize, max: u64) -> Number
 pub fn amount(line: &[u8], k: usize) -> u64
     ensures { result ≡ amount_in line.now k }
 {
-    let f = figure(line, k, FIGURE_MOST);
-    let Number::Value(v) = f else {
-        return 0;
-    };
-    v
+    figure(line, k, FIGURE_MOST).unwrap_or(0)
 }
 
 // The name of the row that begins at the index p.

@@ -1,8 +1,8 @@
 -- What a line that is taken makes of a name: it was there and keeps what it had, or it is new and has nothing yet. And the number that two entries show,
 -- with what the line gives it.
+use Rattle.std.proofs.Common.{Option, None, Some}
 use mathlib.Core.Path.{◌≡◌, refl, sym, subst}
 use mathlib.Core.Bool.{Bool, true, false, not, ◌&&◌, cond, and-false}
-use mathlib.Core.Option.{Option, none, some}
 use mathlib.Core.List.{List, ◌∷◌}
 use Prim.Native.Nat.{ℕ, ◌≤◌}
 use native.Mathlib.Omega.{arith}
@@ -62,9 +62,9 @@ module _ (h : List Event) (e : Event) (n : List ℕ) where
 
 -- the number that two entries show
 abbrev pub shown_number : ℕ → ℕ → Option ℕ
-shown_number d v = cond (eqb d 0) none (some v)
+shown_number d v = cond (eqb d 0) None (Some v)
 
-pub given_shown : (a b : Bool) (c d x y : ℕ) → shown_number (cond a 1 (cond b 1 x)) (cond a c (cond b d y)) ≡ cond a (some c) (cond b (some d) (shown_number x y))
+pub given_shown : (a b : Bool) (c d x y : ℕ) → shown_number (cond a 1 (cond b 1 x)) (cond a c (cond b d y)) ≡ cond a (Some c) (cond b (Some d) (shown_number x y))
 given_shown true b c d x y = refl
 given_shown false true c d x y = refl
 given_shown false false c d x y = refl
@@ -74,10 +74,10 @@ pub unnumbered_any : (b g : Bool) (d v y : ℕ) → (b ≡ true → d ≡ 0) →
 unnumbered_any true g d v y z = rw (z refl)
 unnumbered_any false g d v y z = refl
 
-pub none_shown : (d v : ℕ) → shown_number d v ≡ none → d ≡ 0
+pub none_shown : (d v : ℕ) → shown_number d v ≡ None → d ≡ 0
 none_shown d v = by_test (eqb d 0) refl
   where
-    by_test : (b : Bool) → eqb d 0 ≡ b → cond b none (some v) ≡ none → d ≡ 0
+    by_test : (b : Bool) → eqb d 0 ≡ b → cond b None (Some v) ≡ None → d ≡ 0
     by_test true p q = eqb-true d 0 p
     by_test false p q = let z : ◌≡◌ {A = ℕ} 0 1 = cc in absurd (omega arith)
 
@@ -90,21 +90,21 @@ one_at_most false false x h = h
 pub first_given : (b : Bool) (d w v : ℕ) → shown_number (cond b 1 d) (cond b (cond (eqb d 0) v w) w) ≡ or_else (shown_number d w) (when b v)
 first_given b d w v = by_test b (eqb d 0) refl
   where
-    by_test : (b z : Bool) → eqb d 0 ≡ z → shown_number (cond b 1 d) (cond b (cond z v w) w) ≡ or_else (cond z none (some w)) (when b v)
+    by_test : (b z : Bool) → eqb d 0 ≡ z → shown_number (cond b 1 d) (cond b (cond z v w) w) ≡ or_else (cond z None (Some w)) (when b v)
     by_test true true q = refl
     by_test true false q = refl
     by_test false true q = rw q
     by_test false false q = rw q
 
 -- a name that is not listed has none
-pub none_told : (h : List Event) (n : List ℕ) (k : ℕ) → any (same_bytes n) (names h) ≡ false → none ≡ number_of h n k
-none_told h n k q = let z = kind_named h n q in rw (no_count n h z, no_number k n h z) (sym (same_choice (eqb k semaphore) none))
+pub none_told : (h : List Event) (n : List ℕ) (k : ℕ) → any (same_bytes n) (names h) ≡ false → None ≡ number_of h n k
+none_told h n k q = let z = kind_named h n q in rw (no_count n h z, no_number k n h z) (sym (same_choice (eqb k semaphore) None))
 
 -- an event gives a number of its kind
 pub number_grows : (h : List Event) (e : Event) (n : List ℕ) (k : ℕ) → (is_tracked e.kind ≡ true → same_bytes n e.target ≡ true → k ≡ e.kind) →
     number_of (e ∷ h) n k
-    ≡ cond (eqb e.kind semaphore && same_bytes n e.target) (some e.count)
-    (cond (activates e.kind e.word && same_bytes n e.target) (some e.target_instance) (number_of h n k))
+    ≡ cond (eqb e.kind semaphore && same_bytes n e.target) (Some e.count)
+    (cond (activates e.kind e.word && same_bytes n e.target) (Some e.target_instance) (number_of h n k))
 unfolding last_number numbers last_count
 number_grows h e n k q =
     by_test (same_bytes n e.target) (eqb e.kind semaphore) (activates e.kind e.word) (eqb k semaphore) (eqb k e.kind)
@@ -113,7 +113,7 @@ number_grows h e n k q =
   where
     by_test : (x c b j i : Bool) → (c ≡ true → x ≡ true → j ≡ true) → (c ≡ false → b ≡ true → x ≡ true → (i ≡ true) × (j ≡ false)) →
         cond j (or_else (when (c && x) e.count) (last_count n h)) (or_else (when (b && (i && x)) e.target_instance) (last_number k n h))
-        ≡ cond (c && x) (some e.count) (cond (b && x) (some e.target_instance) (cond j (last_count n h) (last_number k n h)))
+        ≡ cond (c && x) (Some e.count) (cond (b && x) (Some e.target_instance) (cond j (last_count n h) (last_number k n h)))
     by_test true true b true i y z = refl
     by_test true true b false i y z = absurd (clash false (y refl refl) refl)
     by_test true false true true i y z = absurd (clash true refl (z refl refl refl).1)

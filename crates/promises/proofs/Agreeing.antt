@@ -1,6 +1,6 @@
 -- Tables whose nums agree from the event level's entries on show the same events: the entries before these, of the line level, say nothing of events.
+use Rattle.std.proofs.Common.{Some}
 use mathlib.Core.Path.{◌≡◌, sym, ap, ◌∙◌}
-use mathlib.Core.Option.{some}
 use mathlib.Core.List.{List}
 use Prim.Native.Nat.{ℕ, ◌+◌, ◌*◌, ◌≤◌}
 use native.Mathlib.Omega.{arith}
@@ -39,7 +39,7 @@ module _ (h : List Event) (names nums nums' ticks : List ℕ) (g : AgreeFrom sta
       record {
         name = bytes_later i ∙ s.name;
         size = g (length_column.base + i) (omega arith) ∙ s.size;
-        kind = s.kind ∙ ap some (sym k);
+        kind = s.kind ∙ ap Some (sym k);
         standing = rw (k, g (standing_column.base + i) (omega arith)) s.standing;
         holder = λ x q. g (number_column.base + i) (omega arith) ∙ s.holder x q;
         numbered = rw d s.numbered;

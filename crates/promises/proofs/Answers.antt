@@ -1,8 +1,8 @@
 -- The answer from tables that show a history is the answer of the history: each rule says the same of what the tables have and of what the history
 -- has. Where 9 is broken, what the rules after it say does not matter.
+use Rattle.std.proofs.Common.{None, Some}
 use mathlib.Core.Path.{◌≡◌, refl, ap}
 use mathlib.Core.Bool.{Bool, true, false, ◌&&◌, ◌||◌, cond}
-use mathlib.Core.Option.{none, some}
 use mathlib.Core.List.{List, [], ◌∷◌}
 use Prim.Native.Nat.{ℕ, ◌+◌}
 use native.Mathlib.Omega.{arith}
@@ -37,7 +37,7 @@ use Rattle.promises.proofs.Later.{known, source_asked, target_asked, first_numbe
 
 -- the time of the event line before
 time_told : (h : List Event) (nums ticks : List ℕ) → started_entry nums ≡ started_of h → last_time ticks ≡ last_of h →
-    cond (eqb (started_entry nums) 0) none (some (last_time ticks)) ≡ timeBefore h
+    cond (eqb (started_entry nums) 0) None (Some (last_time ticks)) ≡ timeBefore h
 time_told [] nums ticks p q = rw p
 time_told (e ∷ h) nums ticks p q = rw (p, q)
 

@@ -1,7 +1,7 @@
 -- The ticks of each name that is no core, after an event line is taken: with what it holds at the end, a process's charge in the longer history.
+use Rattle.std.proofs.Common.{None, Some}
 use mathlib.Core.Path.{◌≡◌, refl, sym, ap, subst, ◌∙◌}
 use mathlib.Core.Bool.{Bool, true, false, ◌&&◌, cond}
-use mathlib.Core.Option.{none, some}
 use mathlib.Core.List.{List, [], ◌∷◌}
 use Prim.Native.Nat.{ℕ, ◌+◌, ◌*◌, ◌%◌, ◌^◌, ◌<◌}
 use native.Mathlib.Omega.{arith}
@@ -104,12 +104,12 @@ module _ (h : List Event) (a : Accepted h) (t : Tables) (s : Shown h t) (e : Eve
       unshared true q r = rw r (omega arith)
       unshared false q r = rw (none_given q) (omega arith)
 
-      none : is_held_by p (core_at c h) ≡ 0 → Counted c
-      none q = none_then _ _ _ _ _ _ q (rw (same, q) (omega arith)) (unshared (on_core e) refl o)
+      None : is_held_by p (core_at c h) ≡ 0 → Counted c
+      None q = none_then _ _ _ _ _ _ q (rw (same, q) (omega arith)) (unshared (on_core e) refl o)
 
       by_core : (k : Core) → core_at c h ≡ k → Counted c
-      by_core unknown q = none (ap (is_held_by p) q)
-      by_core idle q = none (ap (is_held_by p) q)
+      by_core unknown q = None (ap (is_held_by p) q)
+      by_core idle q = None (ap (is_held_by p) q)
       by_core (held x) q =
           let k = held_core h a c x q in
           let w = named_kind h c core k _ refl in
@@ -181,10 +181,10 @@ module _ (h : List Event) (a : Accepted h) (t : Tables) (s : Shown h t) (e : Eve
       no_more : open_charge (e ∷ h) (ticks_after h t e) p ≡ sum_over (λ c. is_held_by p (core_at c (e ∷ h)) * open_ticks (e ∷ h) (ticks_after h t e) c) (names h)
       no_more =
           ap (sum_over (λ c. is_held_by p (core_at c (e ∷ h)) * open_ticks (e ∷ h) (ticks_after h t e) c)) (names_step h e)
-          ∙ sum_added same_bytes same_eq same_refl _ (names h) (named e) none
+          ∙ sum_added same_bytes same_eq same_refl _ (names h) (named e) None
         where
-          none : (c : List ℕ) → any (same_bytes c) (names h) ≡ false → is_held_by p (core_at c (e ∷ h)) * open_ticks (e ∷ h) (ticks_after h t e) c ≡ 0
-          none c q =
+          None : (c : List ℕ) → any (same_bytes c) (names h) ≡ false → is_held_by p (core_at c (e ∷ h)) * open_ticks (e ∷ h) (ticks_after h t e) c ≡ 0
+          None c q =
               let w : is_held_by p (core_at c h) ≡ 0 = ap (is_held_by p) (absent_unknown h a c q) in
               omega (arith, rw w at (counted c))
 
@@ -197,7 +197,7 @@ module _ (h : List Event) (a : Accepted h) (t : Tables) (s : Shown h t) (e : Eve
     unknown_none : u.unknown ≡ 0
     since_none : u.since ≡ 0
 
-  had : (kind_of p (e ∷ h) ≡ some core → ⊥) → Had (ticks_before h t.ticks p)
+  had : (kind_of p (e ∷ h) ≡ Some core → ⊥) → Had (ticks_before h t.ticks p)
   had k = by_test (any (same_bytes p) (names h)) refl
     where
       by_test : (b : Bool) → any (same_bytes p) (names h) ≡ b → Had (cond b (sums_at t.ticks (row_of h p)) (sums 0 0 0 0))
@@ -226,7 +226,7 @@ module _ (h : List Event) (a : Accepted h) (t : Tables) (s : Shown h t) (e : Eve
       by_tests false q x true r l = absurd (clash (is_tracked e.kind) (core_tracked e (giving_on_core e r)) q)
       by_tests false q x false r l = with_held (omega arith)
 
-  pub charge_next : Met e → any (same_bytes p) (names (e ∷ h)) ≡ true → (kind_of p (e ∷ h) ≡ some core → ⊥) →
+  pub charge_next : Met e → any (same_bytes p) (names (e ∷ h)) ≡ true → (kind_of p (e ∷ h) ≡ Some core → ⊥) →
       OtherTicks (e ∷ h) (ticks_after h t e) (row_of (e ∷ h) p) p
   unfolding ticks
   charge_next m q k =

@@ -1,5 +1,6 @@
 -- The stores of an event line to nums, one after another: new rows, the target's state and number, the core's state and its holder's number, the counts, what is kept of the
 -- instance, and the places of new names. Each entry has the value that is stored to it, and every other one is as it was.
+use Rattle.std.proofs.Common.{None, Some, Option}
 use mathlib.Core.Path.{◌≡◌, refl, sym, ap, ◌∙◌}
 use mathlib.Core.Bool.{Bool, true, false, not, ◌&&◌, cond}
 use mathlib.Core.List.{List}
@@ -17,8 +18,6 @@ use Rattle.tables.specs.Entry.{line_count, name_count, core_count, instance_coun
 use Rattle.tables.specs.Entry.{standing_at, number_at, numbered_at, first_number_at}
 use Rattle.tables.proofs.Stores.{other, single, Outside}
 use Rattle.index.specs.Hash.{home_of}
-use Rattle.lookup.specs.declared.find.Found.{Found}
-use Rattle.lookup.specs.declared.find.Found.TheVariants.{At, Nothing}
 use Rattle.lookup.specs.declared.look.LookedUp.{LookedUp}
 use Rattle.lookup.specs.LookedUp.{new_core, new_name}
 use Rattle.store.specs.Store.{target_row, store_row, store_place, store_instance, store_standing, store_holder, store_number, store_activation}
@@ -162,19 +161,19 @@ module _ (nums : List ℕ) (a b : ℕ) where
 
 -- ---- what is kept of the instance: its row, or the row of another, and how many there are
 
-put_beside : (nums : List ℕ) (f : Found) (i n t x : ℕ) → Outside owner_column state_column x → (instances_index ≡ x → ⊥) → get_or (put_row nums f i n t) x 0 ≡ get_or nums x 0
+put_beside : (nums : List ℕ) (f : Option ℕ) (i n t x : ℕ) → Outside owner_column state_column x → (instances_index ≡ x → ⊥) → get_or (put_row nums f i n t) x 0 ≡ get_or nums x 0
 unfolding put_row
-put_beside nums (At j) i n t x out d = instance_beside nums j x i n t out
-put_beside nums Nothing i n t x out d =
+put_beside nums (Some j) i n t x out d = instance_beside nums j x i n t out
+put_beside nums None i n t x out d =
     kept_if (ltb (instance_count nums) instance_rows) _ nums x (λ l.
     other (store_instance nums (instance_count nums) i n t) instances_index x (instance_count nums + 1) d ∙ instance_beside nums (instance_count nums) x i n t out)
 
-without_beside : (nums : List ℕ) (f : Found) (x : ℕ) → Outside owner_column state_column x → (instances_index ≡ x → ⊥) → get_or (without_row nums f) x 0 ≡ get_or nums x 0
+without_beside : (nums : List ℕ) (f : Option ℕ) (x : ℕ) → Outside owner_column state_column x → (instances_index ≡ x → ⊥) → get_or (without_row nums f) x 0 ≡ get_or nums x 0
 unfolding without_row
-without_beside nums (At j) x out d = given_beside nums j x out d
-without_beside nums Nothing x out d = refl
+without_beside nums (Some j) x out d = given_beside nums j x out d
+without_beside nums None x out d = refl
 
-pub entry_beside : (nums : List ℕ) (f : Found) (i kind n t x : ℕ) → Outside owner_column state_column x → (instances_index ≡ x → ⊥) → get_or (with_entry nums f i kind n t) x 0 ≡ get_or nums x 0
+pub entry_beside : (nums : List ℕ) (f : Option ℕ) (i kind n t x : ℕ) → Outside owner_column state_column x → (instances_index ≡ x → ⊥) → get_or (with_entry nums f i kind n t) x 0 ≡ get_or nums x 0
 unfolding with_entry
 entry_beside nums f i kind n t x out d =
     kept_if (has_instances kind) _ nums x (λ k.

@@ -1,8 +1,8 @@
 -- A name as a core: it is unknown as one exactly if it is none; what the history says of a core that is idle or held, and of the instance that holds it; and
 -- what a core becomes by an event on it.
+use Rattle.std.proofs.Common.{Some}
 use mathlib.Core.Path.{◌≡◌, refl, sym, subst}
 use mathlib.Core.Bool.{Bool, true, false, ◌&&◌}
-use mathlib.Core.Option.{some}
 use mathlib.Core.List.{List, [], ◌∷◌}
 use Prim.Native.Nat.{ℕ}
 use native.Mathlib.Omega.{arith}
@@ -23,15 +23,15 @@ use Rattle.promises.proofs.KindTests.{tracked_range}
 -- ---- unknown, exactly if it is no core
 
 -- a core is not
-pub core_known : (c : List ℕ) (h : List Event) → kind_of c h ≡ some core → core_at c h ≡ unknown → ⊥
+pub core_known : (c : List ℕ) (h : List Event) → kind_of c h ≡ Some core → core_at c h ≡ unknown → ⊥
 unfolding kind_in
 core_known c [] q u = let z : ◌≡◌ {A = ℕ} 0 1 = cc in omega arith
 core_known c (e ∷ h) q u =
     by_test (on_core e && same_bytes c e.source) (is_tracked e.kind && same_bytes c e.target) refl (gives e.word) q u (core_known c h)
   where
     by_test : (b a : Bool) → is_tracked e.kind && same_bytes c e.target ≡ a → (g : Bool) →
-        or_else (or_else (when a e.kind) (when b core)) (kind_of c h) ≡ some core →
-        or_unknown (or_else (when b (becomes g (instance_of e))) (latest (effect_on c) h)) ≡ unknown → (kind_of c h ≡ some core → core_at c h ≡ unknown → ⊥) → ⊥
+        or_else (or_else (when a e.kind) (when b core)) (kind_of c h) ≡ Some core →
+        or_unknown (or_else (when b (becomes g (instance_of e))) (latest (effect_on c) h)) ≡ unknown → (kind_of c h ≡ Some core → core_at c h ≡ unknown → ⊥) → ⊥
     by_test true a t true q u i = let z : ◌≡◌ {A = ℕ} 0 1 = cc in omega arith
     by_test true a t false q u i = let z : ◌≡◌ {A = ℕ} 0 1 = cc in omega arith
     by_test false true t g q u i =
@@ -41,7 +41,7 @@ core_known c (e ∷ h) q u =
     by_test false false t g q u i = i q u
 
 -- any other name is
-pub core_unknown : (c : List ℕ) (h : List Event) → Accepted h → (kind_of c h ≡ some core → ⊥) → core_at c h ≡ unknown
+pub core_unknown : (c : List ℕ) (h : List Event) → Accepted h → (kind_of c h ≡ Some core → ⊥) → core_at c h ≡ unknown
 core_unknown c h a f = by_core (core_at c h) (tracked c h a)
   where
     by_core : (k : Core) → Tracked c h k → k ≡ unknown
@@ -56,13 +56,13 @@ absent_unknown h a n q = core_unknown n h a (λ k. let z = kind_named h n q in l
 -- ---- idle or held
 
 -- a name that is idle or held is a core's, and its holder's name is there
-pub idle_core : (h : List Event) → Accepted h → (c : List ℕ) → core_at c h ≡ idle → kind_of c h ≡ some core
+pub idle_core : (h : List Event) → Accepted h → (c : List ℕ) → core_at c h ≡ idle → kind_of c h ≡ Some core
 idle_core h a c q = subst (Tracked c h) q (tracked c h a)
 
-pub held_core : (h : List Event) → Accepted h → (c : List ℕ) (x : Instance) → core_at c h ≡ held x → kind_of c h ≡ some core
+pub held_core : (h : List Event) → Accepted h → (c : List ℕ) (x : Instance) → core_at c h ≡ held x → kind_of c h ≡ Some core
 held_core h a c x q = (subst (Tracked c h) q (tracked c h a)).0
 
-pub holder_kind : (h : List Event) → Accepted h → (c : List ℕ) (x : Instance) → core_at c h ≡ held x → kind_of x.name h ≡ some x.kind
+pub holder_kind : (h : List Event) → Accepted h → (c : List ℕ) (x : Instance) → core_at c h ≡ held x → kind_of x.name h ≡ Some x.kind
 holder_kind h a c x q = (subst (Tracked c h) q (tracked c h a)).1
 
 pub holder_named : (h : List Event) → Accepted h → (c : List ℕ) (x : Instance) → core_at c h ≡ held x → any (same_bytes x.name) (names h) ≡ true

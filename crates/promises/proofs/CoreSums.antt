@@ -1,7 +1,7 @@
 -- The ticks of each core after an event line is taken are those of the longer history: held, idle and unknown as sums over its gaps.
+use Rattle.std.proofs.Common.{Some}
 use mathlib.Core.Path.{◌≡◌, refl, sym, ap, subst, ◌∙◌}
 use mathlib.Core.Bool.{Bool, true, false}
-use mathlib.Core.Option.{some}
 use mathlib.Core.List.{List, [], ◌∷◌}
 use Prim.Native.Nat.{ℕ, ◌+◌, ◌-◌, ◌*◌, ◌%◌, ◌^◌, ◌<◌}
 use native.Mathlib.Omega.{arith}
@@ -54,7 +54,7 @@ uncounted x x' v g total p q w = rw q (omega arith)
 
 -- ---- a core is not unknown
 
-not_unknown : (n : List ℕ) (h : List Event) → kind_of n h ≡ some core → is_unknown (core_at n h) ≡ 0
+not_unknown : (n : List ℕ) (h : List Event) → kind_of n h ≡ Some core → is_unknown (core_at n h) ≡ 0
 not_unknown n h k = by_core (core_at n h) (core_known n h k)
   where
     by_core : (j : Core) → (j ≡ unknown → ⊥) → is_unknown j ≡ 0
@@ -76,7 +76,7 @@ module _ (h : List Event) (a : Accepted h) (t : Tables) (s : Shown h t) (e : Eve
   small n = omega (arith, core_total (e ∷ h) (accepted_next h a e f) n, m.time_size)
 
   -- a core that has a row, and stays as it is
-  stays : (n : List ℕ) → any (same_bytes n) (names h) ≡ true → kind_of n h ≡ some core → core_at n (e ∷ h) ≡ core_at n h →
+  stays : (n : List ℕ) → any (same_bytes n) (names h) ≡ true → kind_of n h ≡ Some core → core_at n (e ∷ h) ≡ core_at n h →
       sums_at (ticks_after h t e) (row_of (e ∷ h) n) ≡ sums_at t.ticks (row_of h n) → Next n
   unfolding ticks
   stays n q k same r =
@@ -90,7 +90,7 @@ module _ (h : List Event) (a : Accepted h) (t : Tables) (s : Shown h t) (e : Eve
       }
 
   -- the event's core has a row: what it was is settled, and what it becomes begins anew
-  module _ (o : on_core e ≡ true) (q : any (same_bytes e.source) (names h) ≡ true) (k : kind_of e.source h ≡ some core) where
+  module _ (o : on_core e ≡ true) (q : any (same_bytes e.source) (names h) ≡ true) (k : kind_of e.source h ≡ Some core) where
     had : CoreTicks h t.ticks (row_of h e.source) e.source
     had = (s.each_ticks e.source q).of_core k
 
@@ -153,11 +153,11 @@ module _ (h : List Event) (a : Accepted h) (t : Tables) (s : Shown h t) (e : Eve
       let k = held_core h a e.source (instance_of e) was in
       stays e.source q k (is ∙ sym was) (source_settled h t s e f o q c)
 
-  pub core_next : (n : List ℕ) → any (same_bytes n) (names (e ∷ h)) ≡ true → kind_of n (e ∷ h) ≡ some core →
+  pub core_next : (n : List ℕ) → any (same_bytes n) (names (e ∷ h)) ≡ true → kind_of n (e ∷ h) ≡ Some core →
       CoreTicks (e ∷ h) (ticks_after h t e) (row_of (e ∷ h) n) n
   core_next n q k = by_test (on n e) refl
     where
-      was_core : any (same_bytes n) (names h) ≡ true → kind_of n h ≡ some core
+      was_core : any (same_bytes n) (names h) ≡ true → kind_of n h ≡ Some core
       was_core w = let j = name_kind h n w in let g = kind_stays h e f.kinds n j.0 j.1 in let r = j.1 in cc
 
       by_test : (b : Bool) → on n e ≡ b → Next n

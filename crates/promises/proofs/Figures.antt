@@ -1,7 +1,7 @@
 -- The figures of tables that show a history are the history's own: a core's ticks, and a process's charge. No sum reaches the width of an entry.
+use Rattle.std.proofs.Common.{Some}
 use mathlib.Core.Path.{◌≡◌, refl, sym, ap, ◌∙◌}
 use mathlib.Core.Bool.{Bool, true, false, not, ◌&&◌, cond}
-use mathlib.Core.Option.{some}
 use mathlib.Core.List.{List, ◌∷◌}
 use Prim.Native.Nat.{ℕ, suc, ◌+◌, ◌*◌, ◌%◌, ◌^◌, ◌≤◌}
 use native.Mathlib.Nat.{mod-eq_of_lt}
@@ -86,7 +86,7 @@ module _ (h : List Event) (a : Accepted h) (met : AllMet h) (t : Tables) (s : Sh
       mod-eq_of_lt (omega arith) ∙ omega arith
   sum_shown false i v w u p e l = let z = rw (← p) at e in omega arith
 
-  module _ (c : List ℕ) (k : kind_of c h ≡ some core) where
+  module _ (c : List ℕ) (k : kind_of c h ≡ Some core) where
     listed : any (same_bytes c) (names h) ≡ true
     listed = named_kind h c core k _ refl
 
@@ -116,7 +116,7 @@ module _ (h : List Event) (a : Accepted h) (met : AllMet h) (t : Tables) (s : Sh
     pub unknown_shown : unknown_at t.ticks (row_of h c) ≡ unknown_ticks c h
     unknown_shown = stored.unknown_ticks_shown
 
-  pub charge_shown : (p : List ℕ) (k : ℕ) → kind_of p h ≡ some k → is_process k ≡ true → charge_in t.nums t.ticks (row_of h p) ≡ charge p h
+  pub charge_shown : (p : List ℕ) (k : ℕ) → kind_of p h ≡ Some k → is_process k ≡ true → charge_in t.nums t.ticks (row_of h p) ≡ charge p h
   unfolding charge_in charge_to open_at is_process
   charge_shown p k q r =
       rw s.singles.names_counted

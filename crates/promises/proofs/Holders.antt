@@ -1,5 +1,6 @@
 -- A core's state in the tables names the row of its holder's name, and its number is the holder's. So it serves an instance exactly if the core of
 -- the history does.
+use Rattle.std.proofs.Common.{None, Some}
 use mathlib.Core.Path.{◌≡◌, refl, sym, ap, subst, ◌∙◌}
 use mathlib.Core.Bool.{Bool, true, false, not, ◌&&◌, cond, and-false}
 use mathlib.Core.List.{List}
@@ -18,7 +19,6 @@ use Rattle.rules.specs.Refusals.{serves}
 use Rattle.rules.specs.Verdict.{Accepted}
 use Rattle.rules.proofs.Tests.{clash, instance_true, instance_refl}
 use Rattle.tables.specs.Entry.{idle_core, held_by}
-use Rattle.lookup.specs.declared.find.Found.TheVariants.{At, Nothing}
 use Rattle.decide.specs.Known.{another, is_holder, core_in}
 use Rattle.decide.proofs.Plans.{another_differs}
 use Rattle.promises.specs.Places.{seek, row_of}
@@ -53,7 +53,7 @@ module _ (h : List Event) (a : Accepted h) (x : Instance) (only : Only (kind_of 
       by_name false r = sym (and-false (eqb y.kind x.kind))
 
       by_row : (b : Bool) → any (same_bytes x.name) (names h) ≡ b →
-          is_holder (held_by (row_of h y.name)) y.number (cond b (At (row_of h x.name)) Nothing) x.number ≡ same_instance y x
+          is_holder (held_by (row_of h y.name)) y.number (cond b (Some (row_of h x.name)) None) x.number ≡ same_instance y x
       by_row true q =
           rw (standings_alike (row_of h y.name) (row_of h x.name), one_row same_bytes same_eq same_refl y.name x.name (names h) listed q)
           (by_name (same_bytes y.name x.name) refl)

@@ -1,5 +1,6 @@
 -- A line that is taken keeps the index: its new names go into it one after another, the source's before the target's, so the places are again those that the
 -- names give in their order. For any tables of the right sizes with names that fit; and so where the tables show a history.
+use Rattle.std.proofs.Common.{None, Some, Option}
 use mathlib.Core.Path.{◌≡◌, refl, sym, ap, subst, ◌∙◌}
 use mathlib.Core.Bool.{Bool, true, false, not, cond, and-false}
 use mathlib.Core.List.{List}
@@ -25,8 +26,6 @@ use Rattle.index.specs.Index.{free, index_of, home_at, index_from}
 use Rattle.index.proofs.Folds.{home_at_lt}
 use Rattle.index.proofs.Right.{free_met}
 use Rattle.index.proofs.Indexes.{same_places, index_names, place_stored}
-use Rattle.lookup.specs.declared.find.Found.{Found}
-use Rattle.lookup.specs.declared.find.Found.TheVariants.{At, Nothing}
 use Rattle.lookup.specs.declared.look.LookedUp.{LookedUp}
 use Rattle.lookup.specs.LookedUp.{rows_added, new_core, new_name}
 use Rattle.lookup.proofs.Added.{one_at_most, one_core}
@@ -44,10 +43,10 @@ use Rattle.promises.proofs.NameEntries.{name_kept, name_of_core, name_of_target}
 
 -- ---- the rows of new names are the next ones
 
-next_row : (b : Bool) (f : Found) (n : ℕ) → rows_added b f ≡ 1 → row_or f n ≡ n
+next_row : (b : Bool) (f : Option ℕ) (n : ℕ) → rows_added b f ≡ 1 → row_or f n ≡ n
 next_row false f n q = absurd (omega (arith, q))
-next_row true (At i) n q = absurd (omega (arith, q))
-next_row true Nothing n q = refl
+next_row true (Some i) n q = absurd (omega (arith, q))
+next_row true None n q = refl
 
 module _ (nums : List ℕ) (s : LookedUp) where
   core_next : new_core s ≡ 1 → core_row nums s ≡ name_count nums

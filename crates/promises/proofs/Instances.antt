@@ -1,9 +1,9 @@
 -- A line that is taken keeps what the rows of instances show, wherever they lie: the row of its own instance shows it, every other row shows the instance that it did, at the place that it
 -- then has, and no two rows are alike.
+use Rattle.std.proofs.Common.{Some}
 use mathlib.Core.Path.{◌≡◌, refl, sym, ap, subst, ◌∙◌}
 use mathlib.Core.Bool.{Bool, true, false}
 use mathlib.Core.Logic.{⊎_elim}
-use mathlib.Core.Option.{some}
 use mathlib.Core.List.{List, ◌∷◌}
 use Prim.Native.Nat.{ℕ, ◌<◌}
 use native.Mathlib.Omega.{arith}
@@ -57,7 +57,7 @@ module _ (h : List Event) (a : Accepted h) (met : AllMet h) (t : Tables) (s : Sh
   }
 
   -- an entry is of its name's own kind, which has instances
-  kind_after : (x : Instance) → has_entry (e ∷ h) x ≡ true → (has_instances x.kind ≡ true) × (kind_of x.name (e ∷ h) ≡ some x.kind)
+  kind_after : (x : Instance) → has_entry (e ∷ h) x ≡ true → (has_instances x.kind ≡ true) × (kind_of x.name (e ∷ h) ≡ Some x.kind)
   kind_after x q = instance_kind (e ∷ h) (passed_accepted h a e f) x (entry_listed (e ∷ h) x q)
 
   module _ (x : Instance) (p : has_entry h x ≡ true) (d : same_instance x own ≡ false) where

@@ -1,8 +1,8 @@
 -- The rules 11 to 14: where 9 is not broken, they give the same answer to what the tables have and to what the history has. The tables have nothing of an instance that needs
 -- no entry, which is terminated or was never activated: its number tells. And the state to which an event leads is the one that the history has after it.
+use Rattle.std.proofs.Common.{None, Option, Some}
 use mathlib.Core.Path.{◌≡◌, refl, sym, ap, subst, ◌∙◌}
 use mathlib.Core.Bool.{Bool, true, false, not, ◌&&◌, ◌||◌, cond}
-use mathlib.Core.Option.{Option, none, some}
 use mathlib.Core.List.{List, [], ◌∷◌}
 use Prim.Native.Nat.{ℕ}
 use lib.Dec.{eqb}
@@ -30,8 +30,6 @@ use Rattle.steps.specs.Rows.{opened, leads_to, move_by}
 use Rattle.steps.proofs.CoreClasses.{class_on}
 use Rattle.steps.proofs.Steps.{step_taken, step_state}
 use Rattle.tables.specs.Entry.{number_column, first_number_column, state_column}
-use Rattle.lookup.specs.declared.find.Found.{Found}
-use Rattle.lookup.specs.declared.find.Found.TheVariants.{Nothing}
 use Rattle.lookup.specs.LookedUp.{above_in}
 use Rattle.decide.specs.Known.{standing_in, number_in, entry_of, state_in, number_known, core_in, known_by}
 use Rattle.decide.specs.Decide.{enters}
@@ -54,7 +52,7 @@ chartless : (k : ℕ) → eqb k semaphore ≡ false → has_instances k ≡ fals
 unfolding chart_of has_instances
 chartless k q r = let p = neither (is_process k) (eqb k runnable) r in rw (p.0, p.1, q)
 
-stateless : (ws : List ℕ) → state_after [] ws ≡ none
+stateless : (ws : List ℕ) → state_after [] ws ≡ None
 stateless [] = refl
 stateless (w ∷ ws) = stateless ws
 
@@ -72,7 +70,7 @@ module _ (h : List Event) (t : Tables) (e : Event) where
   unfolding looked_up_in
   target_asked q = rw q
 
-  instance_unasked : has_instances e.kind ≡ false → (looked_up_in h t e).instance ≡ Nothing
+  instance_unasked : has_instances e.kind ≡ false → (looked_up_in h t e).instance ≡ None
   unfolding looked_up_in
   instance_unasked q = rw q
 
@@ -82,13 +80,13 @@ module _ (h : List Event) (a : Accepted h) (met : AllMet h) (t : Tables) (s : Sh
   -- the state that the tables have of the event's semaphore or instance is the history's; or they have none, since it has terminated and needs no entry
   data StateTold : Type 0 where
     told : opened (state_in t.nums (looked_up_in h t e) e.kind) ≡ state_of (instance_of e) h → StateTold
-    ended : has_instances e.kind ≡ true → opened (state_in t.nums (looked_up_in h t e) e.kind) ≡ none → GivenBack h (instance_of e) → StateTold
+    ended : has_instances e.kind ≡ true → opened (state_in t.nums (looked_up_in h t e) e.kind) ≡ None → GivenBack h (instance_of e) → StateTold
 
   -- of an instance, by whether it has an entry and whether it was seen
-  instance_told : has_instances e.kind ≡ true → opened (state_in t.nums (looked_up_in h t e) e.kind) ≡ cond (has_entry h (instance_of e)) (state_of (instance_of e) h) none → StateTold
+  instance_told : has_instances e.kind ≡ true → opened (state_in t.nums (looked_up_in h t e) e.kind) ≡ cond (has_entry h (instance_of e)) (state_of (instance_of e) h) None → StateTold
   instance_told i q = by_entry (has_entry h (instance_of e)) refl q (any (same_instance (instance_of e)) (instances h)) refl
     where
-      by_entry : (b : Bool) → has_entry h (instance_of e) ≡ b → opened (state_in t.nums (looked_up_in h t e) e.kind) ≡ cond b (state_of (instance_of e) h) none →
+      by_entry : (b : Bool) → has_entry h (instance_of e) ≡ b → opened (state_in t.nums (looked_up_in h t e) e.kind) ≡ cond b (state_of (instance_of e) h) None →
           (c : Bool) → any (same_instance (instance_of e)) (instances h) ≡ c → StateTold
       by_entry true b q c l = told q
       by_entry false b q true l = ended i q (given_back h (instance_of e) (sym (entry_exactly h (instance_of e) ∙ ap (λ (c : Bool). c && needs_entry h (instance_of e)) l) ∙ b))
@@ -113,7 +111,7 @@ module _ (h : List Event) (a : Accepted h) (met : AllMet h) (t : Tables) (s : Sh
       by_kind true q i r =
           let k = semaphore_tracked e.kind q in
           told (of_kind true q
-          ∙ ap (λ (x : Found). opened (standing_in t.nums x)) (target_asked h t e k)
+          ∙ ap (λ (x : Option ℕ). opened (standing_in t.nums x)) (target_asked h t e k)
           ∙ semaphore_told h a t s e.target (subst (Only (kind_of e.target h)) (eqb-true e.kind semaphore q) (target_is h e f k))
           ∙ ap (λ (x : Instance). state_of x h) (the_semaphore_lem q))
       by_kind false q true r = instance_told r (of_kind false q ∙ state_told h a t s (instance_of e) (looked_up_in h t e).instance (looked_up_instance h a met t s e f r))
@@ -162,8 +160,8 @@ module _ (h : List Event) (a : Accepted h) (met : AllMet h) (t : Tables) (s : Sh
     where
       by_last : (o : Option ℕ) → last_number e.kind e.target h ≡ o →
           is_next o (above_in t.nums (looked_up_in h t e).target e.target_instance) e.target_instance ≡ is_next o (above_all e.kind e.target e.target_instance h) e.target_instance
-      by_last (some m) l = refl
-      by_last none l =
+      by_last (Some m) l = refl
+      by_last None l =
           let k = instances_tracked e.kind i in
           let first = none_earlier (λ d. when (numbers e.kind e.target d) d.target_instance) h l in
           rw (target_asked h t e k) (above_told h a t s e.kind e.target e.target_instance first (target_is h e f k))

@@ -1,7 +1,7 @@
 -- An answer is at most 14, and so is a refusal; its line is at most the one past the last. So tables that show lines and remember such a refusal are
 -- in range.
+use Rattle.std.proofs.Common.{Option, None, Some}
 use mathlib.Core.Path.{◌≡◌, refl, ap}
-use mathlib.Core.Option.{Option, none, some}
 use mathlib.Core.List.{List, [], ◌∷◌}
 use Prim.Native.Nat.{ℕ, zero, suc, ◌+◌, ◌≤◌}
 use native.Mathlib.Omega.{arith}
@@ -44,8 +44,8 @@ unfolding answer_at
 answer_small h l = by_place (answer_in_place (place_of h) l) (omega (arith, place_most (place_of h) l)) (event_of_line l)
   where
     by_place : (n : ℕ) → n ≤ last_refusal → (o : Option Event) → if_zero n (event_answer o (events_of h)) n ≤ last_refusal
-    by_place zero p none = p
-    by_place zero p (some e) = event_small (look (events_of h) e) e
+    by_place zero p None = p
+    by_place zero p (Some e) = event_small (look (events_of h) e) e
     by_place (suc n) p o = p
 
 pub refusal_small : (ls h : List (List ℕ)) → Kept h → ((refusal_on h ls).0 ≤ last_refusal) × ((refusal_on h ls).1 ≤ verdict_line_limit)

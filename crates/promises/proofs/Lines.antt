@@ -1,8 +1,8 @@
 -- One line against tables that show a history of lines: the answer is the history's; a line taken leaves tables that show it too, and a refused line
 -- only the remembered verdict.
+use Rattle.std.proofs.Common.{Option, None, Some}
 use mathlib.Core.Path.{◌≡◌, refl, sym, ap, ap₂, ◌∙◌}
 use mathlib.Core.Bool.{true, not, cond}
-use mathlib.Core.Option.{Option, none, some}
 use mathlib.Core.List.{List, ◌∷◌}
 use Prim.Native.Nat.{ℕ, zero, suc, ◌+◌, ◌%◌, ◌^◌, ◌≤◌, ◌<◌}
 use native.Mathlib.Omega.{arith}
@@ -74,11 +74,11 @@ module _ (h : List (List ℕ)) (t : Tables) (s : Shows h t) (l : List ℕ) (q : 
   -- a line that changes only the line level
   level_outcome : (nums : List ℕ) → length nums ≡ length t.nums → AgreeFrom started_index t.nums nums →
       ((j : ℕ) → j < lines_index → get_or nums j 0 ≡ get_or t.nums j 0) → creator_entry nums ≤ 1 → date_entry nums ≤ 1 →
-      (r : Reading) → read_line l ≡ r → event_in r l ≡ none → place_in nums ≡ next_place (place_in t.nums) r →
+      (r : Reading) → read_line l ≡ r → event_in r l ≡ None → place_in nums ≡ next_place (place_in t.nums) r →
       LineOutcome h t l (after 0 t.names nums t.ticks)
   unfolding events_of event_of_line
   level_outcome nums z g v c d r e o p =
-      let no_event : event_of_line l ≡ none = ap (λ (x : Reading). event_in x l) e ∙ o in
+      let no_event : event_of_line l ≡ None = ap (λ (x : Reading). event_in x l) e ∙ o in
       let a : answer_at h l ≡ 0 = in_place_answer ∙ ap (λ (x : Option Event). event_answer x (events_of h)) no_event in
       record {
         answered = sym a;
@@ -100,7 +100,7 @@ module _ (h : List (List ℕ)) (t : Tables) (s : Shows h t) (l : List ℕ) (q : 
   sized = s.events.sized.nums_sized
 
   -- it is counted
-  counted_outcome : (r : Reading) → read_line l ≡ r → event_in r l ≡ none → next_place (place_in nums) r ≡ next_place (place_in nums) Comment →
+  counted_outcome : (r : Reading) → read_line l ≡ r → event_in r l ≡ None → next_place (place_in nums) r ≡ next_place (place_in nums) Comment →
       LineOutcome h t l (after 0 t.names (counted nums) t.ticks)
   unfolding place_in
   counted_outcome r e o n =
@@ -117,7 +117,7 @@ module _ (h : List (List ℕ)) (t : Tables) (s : Shows h t) (l : List ℕ) (q : 
     at : (j : ℕ) → get_or (counted (set nums k v)) j 0 ≡ cond (eqb lines_index j) ((line_count nums + 1) % 2 ^ 32) (entry j)
     at = stored_entry nums k v lo hi sized
 
-    stored_outcome : (r : Reading) → read_line l ≡ r → event_in r l ≡ none → entry creator_index ≤ 1 → entry date_index ≤ 1 →
+    stored_outcome : (r : Reading) → read_line l ≡ r → event_in r l ≡ None → entry creator_index ≤ 1 → entry date_index ≤ 1 →
         record {
           lines = line_count nums + 1;
           scale = entry scale_index;
@@ -151,7 +151,7 @@ module _ (h : List (List ℕ)) (t : Tables) (s : Shows h t) (l : List ℕ) (q : 
   unfolding event_of_line events_of place_in
   event_outcome e count r x o =
       let d = event_from e (field_of l 2) (field_of l 5) count in
-      let found : event_of_line l ≡ some d = ap (λ (y : Reading). event_in y l) r in
+      let found : event_of_line l ≡ Some d = ap (λ (y : Reading). event_in y l) r in
       let a : answer_at h l ≡ answer (events_of h) d = in_place_answer ∙ ap (λ (y : Option Event). event_answer y (events_of h)) found in
       record {
         answered = o.answered ∙ sym a;

@@ -1,8 +1,8 @@
 -- What the lists of a history hold: each name once, of one of the five kinds and with a row of its own, and each instance of its name's kind, told by the
 -- row of its name and its number. And of events as lines give them: names of 1 to 64 bytes.
+use Rattle.std.proofs.Common.{Option, None, Some}
 use mathlib.Core.Path.{◌≡◌, refl, sym, subst}
 use mathlib.Core.Bool.{Bool, true, false, ◌&&◌}
-use mathlib.Core.Option.{Option, none, some}
 use mathlib.Core.List.{List, [], ◌∷◌}
 use Prim.Native.Nat.{ℕ, ◌≤◌, ◌<◌}
 use native.Mathlib.Omega.{arith}
@@ -34,8 +34,8 @@ use Rattle.tables.specs.Entry.{name_room}
 
 -- one of the five
 abbrev OneOfFive : Option ℕ → Type 0
-OneOfFive none = ⊥
-OneOfFive (some k) = (core ≤ k) × (k ≤ semaphore)
+OneOfFive None = ⊥
+OneOfFive (Some k) = (core ≤ k) × (k ≤ semaphore)
 
 five : (h : List Event) (n : List ℕ) → any (same_bytes n) (names h) ≡ true → OneOfFive (kind_of n h)
 unfolding names kind_in
@@ -53,12 +53,12 @@ five (e ∷ h) n q =
     by_test false t false u (as_target w p) i =
         absurd (clash _ (and_true (is_tracked e.kind) (same_bytes n e.target) (both (is_tracked e.kind) _ w).0 (eq_same n e.target p)) t)
 
-pub name_kind : (h : List Event) (n : List ℕ) → any (same_bytes n) (names h) ≡ true → (k : ℕ) × (kind_of n h ≡ some k) × (core ≤ k) × (k ≤ semaphore)
+pub name_kind : (h : List Event) (n : List ℕ) → any (same_bytes n) (names h) ≡ true → (k : ℕ) × (kind_of n h ≡ Some k) × (core ≤ k) × (k ≤ semaphore)
 name_kind h n q = by_kind (kind_of n h) refl (five h n q)
   where
-    by_kind : (o : Option ℕ) → kind_of n h ≡ o → OneOfFive o → (k : ℕ) × (kind_of n h ≡ some k) × (core ≤ k) × (k ≤ semaphore)
-    by_kind none p r = absurd r
-    by_kind (some k) p r = (k, p, r.0, r.1)
+    by_kind : (o : Option ℕ) → kind_of n h ≡ o → OneOfFive o → (k : ℕ) × (kind_of n h ≡ Some k) × (core ≤ k) × (k ≤ semaphore)
+    by_kind None p r = absurd r
+    by_kind (Some k) p r = (k, p, r.0, r.1)
 
 -- ---- each name is listed once, and each row of a name has one
 
@@ -74,17 +74,17 @@ name_at_lem h = at_place same_bytes same_eq same_refl (names h) (names_distinct 
 
 -- an instance is one of its name's own kind
 pub instance_kind : (h : List Event) → Accepted h → (x : Instance) → any (same_instance x) (instances h) ≡ true →
-    (has_instances x.kind ≡ true) × (kind_of x.name h ≡ some x.kind)
+    (has_instances x.kind ≡ true) × (kind_of x.name h ≡ Some x.kind)
 unfolding instances
 instance_kind [] a x q = absurd (clash false q refl)
 instance_kind (e ∷ h) a x q = by_origin (instance_from h e x q) (instance_kind h a.1 x)
   where
-    by_origin : InstanceFrom h e x → (any (same_instance x) (instances h) ≡ true → (has_instances x.kind ≡ true) × (kind_of x.name h ≡ some x.kind)) →
-        (has_instances x.kind ≡ true) × (kind_of x.name (e ∷ h) ≡ some x.kind)
+    by_origin : InstanceFrom h e x → (any (same_instance x) (instances h) ≡ true → (has_instances x.kind ≡ true) × (kind_of x.name h ≡ Some x.kind)) →
+        (has_instances x.kind ≡ true) × (kind_of x.name (e ∷ h) ≡ Some x.kind)
     by_origin (before w) i = let r = i w in (r.0, kind_stays h e (passed h e a.0).kinds x.name x.kind r.1)
     by_origin (as_new w p) i =
         let t = (both (has_instances e.kind) _ w).0 in
-        subst (λ (y : Instance). (has_instances y.kind ≡ true) × (kind_of y.name (e ∷ h) ≡ some y.kind)) (sym p)
+        subst (λ (y : Instance). (has_instances y.kind ≡ true) × (kind_of y.name (e ∷ h) ≡ Some y.kind)) (sym p)
         (t, target_kind h e (instances_tracked e.kind t))
 
 -- so its name is listed
@@ -92,7 +92,7 @@ pub instance_named : (h : List Event) → Accepted h → (x : Instance) → any 
 instance_named h a x q = named_kind h x.name x.kind (instance_kind h a x q).1 _ refl
 
 -- an instance of its name's kind is told by the row of its name and by its number
-pub one_instance : (h : List Event) (x y : Instance) → kind_of x.name h ≡ some x.kind → kind_of y.name h ≡ some y.kind →
+pub one_instance : (h : List Event) (x y : Instance) → kind_of x.name h ≡ Some x.kind → kind_of y.name h ≡ Some y.kind →
     row_of h x.name ≡ row_of h y.name → x.number ≡ y.number → x ≡ y
 one_instance h x y p q r o =
     let w : x.name ≡ y.name =

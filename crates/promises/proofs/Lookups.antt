@@ -1,8 +1,8 @@
 -- What is looked up in tables that show a history: a name's row is its place in the list of the names, and an instance's row is one that shows it, so
 -- an event line finds in the tables what the history has. And the rows of names to which a line that is taken stores are those of the longer history.
+use Rattle.std.proofs.Common.{None, Some, Option}
 use mathlib.Core.Path.{◌≡◌, refl, sym, ap, subst, ◌∙◌}
 use mathlib.Core.Bool.{Bool, true, false, not, ◌&&◌, cond}
-use mathlib.Core.Option.{Option, none, some}
 use mathlib.Core.List.{List, ◌∷◌}
 use Prim.Native.Nat.{ℕ, ◌+◌, ◌<◌}
 use native.Mathlib.Omega.{arith}
@@ -27,8 +27,6 @@ use Rattle.rules.proofs.Tracked.{target_is}
 use Rattle.rules.proofs.Seen.{own_number}
 use Rattle.steps.proofs.CoreClasses.{class_on}
 use Rattle.tables.specs.Entry.{instance_rows, name_rows, name_count, instance_count, name_at}
-use Rattle.lookup.specs.declared.find.Found.{Found}
-use Rattle.lookup.specs.declared.find.Found.TheVariants.{At, Nothing}
 use Rattle.lookup.specs.Find.{last_below, row_is, find_name, row_found, walk_name, instance_is, find_instance}
 use Rattle.lookup.proofs.Found.{last_at, last_none, instance_found, row_name, name_row, instance_means}
 use Rattle.lookup.proofs.Walks.{find_walks}
@@ -49,16 +47,16 @@ use Rattle.promises.proofs.Grown.{row_stays, source_row_new, target_row_new}
 module _ {A : Type 0} (f : ℕ → Bool) (g : A → Bool) (xs : List A)
     (told : (i : ℕ) → i < length xs → f i ≡ true → (any g xs ≡ true) × (place g xs ≡ i)) (there : any g xs ≡ true → f (place g xs) ≡ true) where
   -- a row that passes, or no row passes
-  abbrev Searched : Found → Type 0
-  Searched (At i) = (i < length xs) × (f i ≡ true)
-  Searched Nothing = (i : ℕ) → i < length xs → f i ≡ false
+  abbrev Searched : Option ℕ → Type 0
+  Searched (Some i) = (i < length xs) × (f i ≡ true)
+  Searched None = (i : ℕ) → i < length xs → f i ≡ false
 
-  searched : (r : Found) → Searched r → r ≡ seek g xs
+  searched : (r : Option ℕ) → Searched r → r ≡ seek g xs
   unfolding seek
-  searched (At i) q = let p = told i q.0 q.1 in rw (p.0, p.1)
-  searched Nothing q = by_test (any g xs) refl
+  searched (Some i) q = let p = told i q.0 q.1 in rw (p.0, p.1)
+  searched None q = by_test (any g xs) refl
     where
-      by_test : (b : Bool) → any g xs ≡ b → Nothing ≡ cond b (At (place g xs)) Nothing
+      by_test : (b : Bool) → any g xs ≡ b → None ≡ cond b (Some (place g xs)) None
       by_test true t = absurd (clash (f (place g xs)) (there t) (q (place g xs) (place_bound g xs t)))
       by_test false t = refl
 
@@ -66,8 +64,8 @@ module _ {A : Type 0} (f : ℕ → Bool) (g : A → Bool) (xs : List A)
   first_sought = searched (row_found (first_of f 0 (length xs))) (by_found (first_of f 0 (length xs)) refl)
     where
       by_found : (r : Option ℕ) → first_of f 0 (length xs) ≡ r → Searched (row_found r)
-      by_found (some i) q = let p = first_at f (length xs) i q in (p.0, p.1)
-      by_found none q = first_none f (length xs) q
+      by_found (Some i) q = let p = first_at f (length xs) i q in (p.0, p.1)
+      by_found None q = first_none f (length xs) q
 
 -- ---- the rows that there are
 
@@ -100,7 +98,7 @@ module _ (h : List Event) (a : Accepted h) (m : AllMet h) (t : Tables) (s : Show
           name_row t.names t.nums n (row_of h n) s.sized.names_sized (name_below h a n q) (omega (arith, e.size, (name_size h m n q).1)) e.name
 
   -- some row that shows it, or nothing and it has no entry
-  pub found_instance : (x : Instance) → kind_of x.name h ≡ some x.kind →
+  pub found_instance : (x : Instance) → kind_of x.name h ≡ Some x.kind →
       InstanceFound h t.nums x (find_instance t.nums (row_of h x.name) x.number)
   found_instance x q =
       rw (instance_found t.nums (row_of h x.name) x.number s.sized.nums_sized) (by_found (last_below is (instance_count t.nums)) refl)
@@ -108,14 +106,14 @@ module _ (h : List Event) (a : Accepted h) (m : AllMet h) (t : Tables) (s : Show
       is : ℕ → Bool
       is = instance_is t.nums (row_of h x.name) x.number
 
-      by_found : (r : Found) → last_below is (instance_count t.nums) ≡ r → InstanceFound h t.nums x r
-      by_found (At j) p =
+      by_found : (r : Option ℕ) → last_below is (instance_count t.nums) ≡ r → InstanceFound h t.nums x r
+      by_found (Some j) p =
           let l = last_at is (instance_count t.nums) j p in
           let c = (instance_means t.nums (row_of h x.name) x.number j).holds l.1 in
           let r = s.instance_rows_shown.owned j l.0 in
           let z = one_instance h r.0 x (instance_kind h a r.0 (entry_listed h r.0 r.1)).1 q (sym r.2.owner ∙ c.1.1) (sym r.2.number ∙ c.1.0) in
           subst (λ (y : Instance). (has_entry h y ≡ true) × InstanceShown h t.nums j y) z (r.1, r.2)
-      by_found Nothing p =
+      by_found None p =
           is_false _ (λ b.
           let r = s.instance_rows_shown.each x b in
           let small = instance_below h a t s r.0 x r.1 in
@@ -143,10 +141,10 @@ module _ (h : List Event) (a : Accepted h) (m : AllMet h) (t : Tables) (s : Show
   looked_up_instance e k i = rw (i, instances_tracked e.kind i) (by_test (any (same_bytes e.target) (names h)) refl)
     where
       by_test : (b : Bool) → any (same_bytes e.target) (names h) ≡ b →
-          InstanceFound h t.nums (instance_of e) (instance_in t.nums true (cond b (At (row_of h e.target)) Nothing) e.target_instance)
+          InstanceFound h t.nums (instance_of e) (instance_in t.nums true (cond b (Some (row_of h e.target)) None) e.target_instance)
       by_test true q =
           let w = name_kind h e.target q in
-          let o : kind_of e.target h ≡ some e.kind = w.1 ∙ ap some (target_is h e k (instances_tracked e.kind i) w.0 w.1) in
+          let o : kind_of e.target h ≡ Some e.kind = w.1 ∙ ap Some (target_is h e k (instances_tracked e.kind i) w.0 w.1) in
           rw (lt-ltb (row_of h e.target) name_rows (name_below h a e.target q))
           (subst (λ (n : ℕ). InstanceFound h t.nums (instance_of e) (find_instance t.nums (row_of h e.target) n))
           (own_number e i) (found_instance (instance_of e) o))
@@ -158,16 +156,16 @@ module _ (h : List Event) (a : Accepted h) (m : AllMet h) (t : Tables) (s : Show
     class = core_class e.kind e.word;
     source = looked_up_source e i;
     target = looked_up_target e i;
-    instance = ap (λ (f : Found). instance_in t.nums (has_instances e.kind) f e.target_instance) (looked_up_target e) i;
+    instance = ap (λ (f : Option ℕ). instance_in t.nums (has_instances e.kind) f e.target_instance) (looked_up_target e) i;
   }
 
   -- there is a row exactly for an instance that has an entry
   pub entry_told : (e : Event) → second_kind (look h e) e ≡ false → has_instances e.kind ≡ true → not (is_nothing (looked_up_in h t e).instance) ≡ has_entry h (instance_of e)
   entry_told e k i = by_found (looked_up_in h t e).instance (looked_up_instance e k i)
     where
-      by_found : (r : Found) → InstanceFound h t.nums (instance_of e) r → not (is_nothing r) ≡ has_entry h (instance_of e)
-      by_found (At j) p = sym p.0
-      by_found Nothing p = sym p
+      by_found : (r : Option ℕ) → InstanceFound h t.nums (instance_of e) r → not (is_nothing r) ≡ has_entry h (instance_of e)
+      by_found (Some j) p = sym p.0
+      by_found None p = sym p
 
 -- ---- the rows of a line that is taken
 
@@ -177,7 +175,7 @@ module _ {A : Type 0} (g : A → Bool) (xs : List A) where
   unfolding seek
   sought_row n r f o = by_test (any g xs) f o
     where
-      by_test : (b : Bool) → (b ≡ true → r ≡ place g xs) → (b ≡ false → r ≡ n) → row_or (cond b (At (place g xs)) Nothing) n ≡ r
+      by_test : (b : Bool) → (b ≡ true → r ≡ place g xs) → (b ≡ false → r ≡ n) → row_or (cond b (Some (place g xs)) None) n ≡ r
       by_test true f o = sym (f refl)
       by_test false f o = sym (o refl)
 
@@ -186,7 +184,7 @@ module _ {A : Type 0} (g : A → Bool) (xs : List A) where
   sought_new false = refl
   sought_new true = by_test (any g xs)
     where
-      by_test : (c : Bool) → rows_added true (cond c (At (place g xs)) Nothing) ≡ one_if (not c)
+      by_test : (c : Bool) → rows_added true (cond c (Some (place g xs)) None) ≡ one_if (not c)
       by_test true = refl
       by_test false = refl
 

@@ -1,5 +1,6 @@
 -- The rows of instances when one of them is stored or given back: every other row is found again, unchanged, at the place that it then has, and there is no row but these and
 -- the one that was stored. For any nums of the right size: nothing is asked of a history.
+use Rattle.std.proofs.Common.{None, Some}
 use mathlib.Core.Path.{◌≡◌, refl, sym, ap, ◌∙◌}
 use mathlib.Core.Bool.{Bool, true, false, cond}
 use mathlib.Core.Logic.{◌⊎◌, inl, inr, ⊎_elim}
@@ -12,7 +13,6 @@ use borrow.Author.Tests.{eqb-true, eqb-false, eq-eqb, ne_eqb, lt-ltb}
 use Rattle.text.proofs.Bools.{same_or_not}
 use Rattle.tables.specs.Entry.{name_rows, instance_rows, nums_size, instances_index, owner_column, instance_column, state_column, instance_count, owner_at, instance_at, state_at}
 use Rattle.tables.proofs.Stores.{same, before}
-use Rattle.lookup.specs.declared.find.Found.TheVariants.{At, Nothing}
 use Rattle.store.specs.Store.{store_instance, put_row, given_back}
 use Rattle.store.proofs.Stores.{length_store_instance}
 use Rattle.promises.proofs.RowStores.{instance_beside, instance_owner, instance_number, instance_state, given_count, given_owner, given_number, given_state}
@@ -84,15 +84,15 @@ module _ (nums : List ℕ) (z : length nums ≡ nums_size) where
 
   -- in the row found
   module _ (j i n t : ℕ) (o : i < name_rows) (b : j < instance_count nums) (m : instance_count nums ≤ instance_rows) where
-    pub found_count : instance_count (put_row nums (At j) i n t) ≡ instance_count nums
+    pub found_count : instance_count (put_row nums (Some j) i n t) ≡ instance_count nums
     unfolding put_row
     found_count = instance_beside nums j instances_index i n t (λ a b. omega arith)
 
-    pub found_own : HasRow (put_row nums (At j) i n t) j i n t
+    pub found_own : HasRow (put_row nums (Some j) i n t) j i n t
     unfolding put_row
     found_own = own_row nums _ j i n t (stored j i n t o) (omega arith) (omega (arith, found_count))
 
-    pub found_carried : Carried nums (put_row nums (At j) i n t) j (λ q. q ≡ j)
+    pub found_carried : Carried nums (put_row nums (Some j) i n t) j (λ q. q ≡ j)
     unfolding put_row
     found_carried =
         put_carried nums _ j i n t (stored j i n t o) (omega (arith, found_count)) (omega (arith, found_count)) (omega (arith, found_count)) (λ q a d. omega (arith, found_count))
@@ -102,16 +102,16 @@ module _ (nums : List ℕ) (z : length nums ≡ nums_size) where
     abbrev one : List ℕ
     one = store_instance nums (instance_count nums) i n t
 
-    opened_put : put_row nums Nothing i n t ≡ set one instances_index (instance_count nums + 1)
+    opened_put : put_row nums None i n t ≡ set one instances_index (instance_count nums + 1)
     unfolding put_row
     opened_put = rw (lt-ltb (instance_count nums) instance_rows b)
 
-    pub next_count : instance_count (put_row nums Nothing i n t) ≡ instance_count nums + 1
+    pub next_count : instance_count (put_row nums None i n t) ≡ instance_count nums + 1
     next_count =
         ap instance_count opened_put
         ∙ same one instances_index (instance_count nums + 1) (omega (arith, length_store_instance nums (instance_count nums) i n t))
 
-    next_written : Written nums (put_row nums Nothing i n t) (instance_count nums) i n t
+    next_written : Written nums (put_row nums None i n t) (instance_count nums) i n t
     next_written =
         let w = stored (instance_count nums) i n t o in
         record {
@@ -120,10 +120,10 @@ module _ (nums : List ℕ) (z : length nums ≡ nums_size) where
           states = λ q h. ap (λ (l : List ℕ). state_at l q) opened_put ∙ before one instances_index state_column.base q (instance_count nums + 1) refl ∙ w.states q h;
         }
 
-    pub next_own : HasRow (put_row nums Nothing i n t) (instance_count nums) i n t
+    pub next_own : HasRow (put_row nums None i n t) (instance_count nums) i n t
     next_own = own_row nums _ (instance_count nums) i n t next_written b (omega (arith, next_count))
 
-    pub next_carried : Carried nums (put_row nums Nothing i n t) (instance_count nums) (λ q. q ≡ instance_count nums)
+    pub next_carried : Carried nums (put_row nums None i n t) (instance_count nums) (λ q. q ≡ instance_count nums)
     next_carried =
         put_carried nums _ (instance_count nums) i n t next_written (omega (arith, next_count)) (omega (arith, next_count)) (omega (arith, next_count)) (λ q a d. omega (arith, next_count))
 

@@ -1,5 +1,6 @@
 -- What each name is after an event line is taken: its bytes in names and its length in nums. For any tables of the right sizes: nothing is asked of a
 -- history.
+use Rattle.std.proofs.Common.{None, Some, Option}
 use mathlib.Core.Path.{◌≡◌, refl, ap, ◌∙◌}
 use mathlib.Core.Bool.{Bool, true, false, ◌&&◌, cond}
 use mathlib.Core.List.{List, [], ◌∷◌, append_assoc}
@@ -16,8 +17,6 @@ use Rattle.text.proofs.Writes.{written_parts, put_fits}
 use Rattle.rules.specs.Event.{Event}
 use Rattle.rules.specs.History.{is_tracked}
 use Rattle.tables.specs.Entry.{name_rows, name_room, names_size, nums_size, name_count, length_at, name_at}
-use Rattle.lookup.specs.declared.find.Found.{Found}
-use Rattle.lookup.specs.declared.find.Found.TheVariants.{At, Nothing}
 use Rattle.lookup.specs.declared.look.LookedUp.{LookedUp}
 use Rattle.lookup.specs.LookedUp.{rows_added, new_core, new_name}
 use Rattle.store.specs.Store.{row_or, target_row, store_name, taken_names, taken_nums}
@@ -84,10 +83,10 @@ new_apart : (nums : List ℕ) (s : LookedUp) (k : ℕ) → new_core s ≡ 1 → 
 unfolding target_row
 new_apart nums s k e = rw e (by_target (is_tracked k) s.target)
   where
-    by_target : (b : Bool) (f : Found) → eqb (rows_added b f) 1 && eqb (name_count nums) (row_or f (name_count nums + 1)) ≡ false
+    by_target : (b : Bool) (f : Option ℕ) → eqb (rows_added b f) 1 && eqb (name_count nums) (row_or f (name_count nums + 1)) ≡ false
     by_target false f = refl
-    by_target true (At i) = refl
-    by_target true Nothing = ne_eqb (name_count nums) (name_count nums + 1) (λ q. omega arith)
+    by_target true (Some i) = refl
+    by_target true None = ne_eqb (name_count nums) (name_count nums + 1) (λ q. omega arith)
 
 module _ (names nums : List ℕ) (s : LookedUp) (e : Event) (f : length e.source ≤ name_room) (g : length e.target ≤ name_room) where
   abbrev cores_named : List ℕ

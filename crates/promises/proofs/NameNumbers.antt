@@ -1,8 +1,8 @@
 -- The numbers of a name in its row after a line that is taken: the last and the first one that the longer history gives it, or none. A core has none, and the
 -- entry of the last is free for that of the instance that holds it.
+use Rattle.std.proofs.Common.{Option, Some}
 use mathlib.Core.Path.{◌≡◌, refl, sym, ap, ◌∙◌}
 use mathlib.Core.Bool.{Bool, true, false, ◌&&◌, cond}
-use mathlib.Core.Option.{Option, some}
 use mathlib.Core.List.{List, ◌∷◌}
 use Prim.Native.Nat.{ℕ, ◌≤◌}
 use native.Mathlib.Omega.{arith}
@@ -90,8 +90,8 @@ module _ (h : List Event) (t : Tables) (s : Shown h t) (e : Event) (f : Passed h
       (given_shown (eqb e.kind semaphore && same_bytes n e.target) (activates e.kind e.word && same_bytes n e.target)
       e.count e.target_instance _ _
       ∙ ap
-      (λ (r : Option ℕ). cond (eqb e.kind semaphore && same_bytes n e.target) (some e.count)
-      (cond (activates e.kind e.word && same_bytes n e.target) (some e.target_instance) r))
+      (λ (r : Option ℕ). cond (eqb e.kind semaphore && same_bytes n e.target) (Some e.count)
+      (cond (activates e.kind e.word && same_bytes n e.target) (Some e.target_instance) r))
       (by_age (age h e n (two_names h e f.kinds) (name_from h e n q)))
       ∙ sym (number_grows h e n (kind_at after.nums row) (target_kinded h t s e f state n q))))
     where
@@ -177,7 +177,7 @@ module _ (h : List Event) (t : Tables) (s : Shown h t) (e : Event) (f : Passed h
           let was = sym (core_other n e h o) ∙ p in
           let c = held_core h a n x was in
           let there = named_kind h n core c _ refl in
-          let k : some (kind_at after.nums row) ≡ some core = sym (kind_next h t s e f state n q) ∙ kind_stays h e f.kinds n core c in
+          let k : Some (kind_at after.nums row) ≡ Some core = sym (kind_next h t s e f state n q) ∙ kind_stays h e f.kinds n core c in
           core_given (let y : kind_at after.nums row ≡ core = cc in y) e.count e.target_instance _
           ∙ old_same h e n there 0 0 (number_at t.nums row)
           ∙ ap (number_at t.nums) (row_stays h e f.kinds n there)

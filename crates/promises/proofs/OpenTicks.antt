@@ -1,8 +1,8 @@
 -- The open ticks of a core, from the time up to which it is settled to the last event: an event that does not settle them lengthens them by its gap,
 -- and one that does begins them anew.
+use Rattle.std.proofs.Common.{Some}
 use mathlib.Core.Path.{◌≡◌, refl, ap, ◌∙◌}
 use mathlib.Core.Bool.{Bool, true, false, ◌&&◌}
-use mathlib.Core.Option.{some}
 use mathlib.Core.List.{List, [], ◌∷◌}
 use Prim.Native.Nat.{ℕ, ◌+◌, ◌-◌, ◌≤◌}
 use native.Mathlib.Omega.{arith}
@@ -31,18 +31,18 @@ moved [] a e f n q = absurd (clash false q refl)
 moved (d ∷ h) a e f n q = omega (arith, neighbours e d h (accepted_next (d ∷ h) a e f))
 
 -- a core is not the target of an event, which has another kind
-pub not_target : (h : List Event) (e : Event) (n : List ℕ) → kind_of n (e ∷ h) ≡ some core → (b : Bool) →
+pub not_target : (h : List Event) (e : Event) (n : List ℕ) → kind_of n (e ∷ h) ≡ Some core → (b : Bool) →
     is_tracked e.kind && same_bytes n e.target ≡ b → b ≡ false
 not_target h e n k false w = refl
 not_target h e n k true w =
     let p = both (is_tracked e.kind) (same_bytes n e.target) w in
-    let j : kind_of n (e ∷ h) ≡ some e.kind = ap (λ (m : List ℕ). kind_of m (e ∷ h)) (same_eq n e.target p.1) ∙ target_kind h e p.0 in
+    let j : kind_of n (e ∷ h) ≡ Some e.kind = ap (λ (m : List ℕ). kind_of m (e ∷ h)) (same_eq n e.target p.1) ∙ target_kind h e p.0 in
     let z : e.kind ≡ core = cc in
     absurd (omega (arith, tracked_range e.kind p.0))
 
 module _ (h : List Event) (a : Accepted h) (t : Tables) (s : Shown h t) (e : Event) (f : Passed h e) where
   -- the ticks since a core was settled, up to the event
-  pub until_event : (n : List ℕ) → any (same_bytes n) (names h) ≡ true → kind_of n h ≡ some core →
+  pub until_event : (n : List ℕ) → any (same_bytes n) (names h) ≡ true → kind_of n h ≡ Some core →
       e.time - since_at t.ticks (row_of h n) ≡ open_ticks h t.ticks n + gap e h
   until_event n q k =
       let time-moved = moved h a e f n q in
@@ -50,7 +50,7 @@ module _ (h : List Event) (a : Accepted h) (t : Tables) (s : Shown h t) (e : Eve
       let since-before = ((s.each_ticks n q).of_core k).since in
       omega arith
 
-  pub unsettled : (n : List ℕ) → any (same_bytes n) (names h) ≡ true → kind_of n h ≡ some core →
+  pub unsettled : (n : List ℕ) → any (same_bytes n) (names h) ≡ true → kind_of n h ≡ Some core →
       since_at (ticks_after h t e) (row_of (e ∷ h) n) ≡ since_at t.ticks (row_of h n) →
       (open_ticks (e ∷ h) (ticks_after h t e) n ≡ open_ticks h t.ticks n + gap e h)
       × (since_at (ticks_after h t e) (row_of (e ∷ h) n) ≤ last_time (ticks_after h t e))

@@ -1,7 +1,7 @@
 -- What is printed of an accepted trace is the print of its bill (`printed_bill`), and may always be added (`printed_sound`): 21 is never said of it.
+use Rattle.std.proofs.Common.{Some}
 use mathlib.Core.Path.{◌≡◌, refl, sym, ◌∙◌}
 use mathlib.Core.Bool.{Bool, true, false}
-use mathlib.Core.Option.{some}
 use mathlib.Core.List.{List, [], reverse}
 use Prim.Native.Nat.{ℕ, ◌+◌, ◌≤◌}
 use native.Mathlib.Omega.{arith}
@@ -87,5 +87,5 @@ module _ (ls : List (List ℕ)) (accepted : (verdict_on [] ls).0 ≡ 0) where
     charges = first_figures (core_rows (cores h) h) ∙ sym (charges_balanced ls) ∙ sym (first_figures (process_rows (processes h) h));
   }
 
-  pub printed_sound : sound_sheet (trace_text ls) ≡ some (bill_of ls)
+  pub printed_sound : sound_sheet (trace_text ls) ≡ Some (bill_of ls)
   printed_sound = rw printed_bill (fine_printed (bill_of ls) fine)

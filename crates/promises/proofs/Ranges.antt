@@ -1,7 +1,7 @@
 -- Tables that show a history of lines that were read are in range: where the line level's entries are, answer 16 does not come.
+use Rattle.std.proofs.Common.{Some}
 use mathlib.Core.Path.{◌≡◌, refl, ap, subst, ◌∙◌}
 use mathlib.Core.Bool.{Bool, true, false, not, ◌||◌, cond}
-use mathlib.Core.Option.{some}
 use mathlib.Core.List.{List}
 use Prim.Native.Nat.{ℕ, zero, suc, ◌-◌, ◌≤◌, ◌<◌}
 use native.Mathlib.Omega.{arith}
@@ -46,7 +46,7 @@ use Rattle.promises.proofs.Bounds.{stored_state, started_one, first_last, last_m
 
 module _ (h : List Event) (a : Accepted h) (met : AllMet h) (t : Tables) (s : Shown h t) where
   -- the row of a name that has a kind is there and has that kind
-  name_of : (n : List ℕ) (k : ℕ) → kind_of n h ≡ some k → (row_of h n < name_count t.nums) × (kind_at t.nums (row_of h n) ≡ k)
+  name_of : (n : List ℕ) (k : ℕ) → kind_of n h ≡ Some k → (row_of h n < name_count t.nums) × (kind_at t.nums (row_of h n) ≡ k)
   name_of n k q =
       let listed = named_kind h n k q _ refl in
       (omega (arith, s.singles.names_counted, place_bound (same_bytes n) (names h) listed), let r = (s.each_name n listed).kind in cc)
@@ -76,7 +76,7 @@ module _ (h : List Event) (a : Accepted h) (met : AllMet h) (t : Tables) (s : Sh
 
       by_kind : (b : Bool) → eqb k core ≡ b → (d : Bool) → eqb k semaphore ≡ d →
           cond b (core_ok t.nums m) (cond d (eqb m 0 || is_state_of (chart_of semaphore) m) (eqb m 0)) ≡ true
-      by_kind true p d u = rw (r.standing.of_core p) (core_ok_lem n (core_at n h) refl (core_known n h (r.kind ∙ ap some (eqb-true k core p))))
+      by_kind true p d u = rw (r.standing.of_core p) (core_ok_lem n (core_at n h) refl (core_known n h (r.kind ∙ ap Some (eqb-true k core p))))
       by_kind false p true u = stored_state (chart_of semaphore) (words_of (the_semaphore n) h) m (r.standing.of_semaphore u)
       by_kind false p false u = eq-eqb m 0 (r.standing.of_other p u)
 
@@ -91,7 +91,7 @@ module _ (h : List Event) (a : Accepted h) (met : AllMet h) (t : Tables) (s : Sh
   sums_most : (n : List ℕ) → any (same_bytes n) (names h) ≡ true → SumsMost (row_of h n)
   sums_most n q = by_kind (eqb (kind_at t.nums (row_of h n)) core) refl
     where
-      kind : kind_of n h ≡ some (kind_at t.nums (row_of h n))
+      kind : kind_of n h ≡ Some (kind_at t.nums (row_of h n))
       kind = (s.each_name n q).kind
 
       whole : span h ≤ max_time
@@ -99,7 +99,7 @@ module _ (h : List Event) (a : Accepted h) (met : AllMet h) (t : Tables) (s : Sh
 
       by_kind : (b : Bool) → eqb (kind_at t.nums (row_of h n)) core ≡ b → SumsMost (row_of h n)
       by_kind true p =
-          let r = (s.each_ticks n q).of_core (kind ∙ ap some (eqb-true _ core p)) in
+          let r = (s.each_ticks n q).of_core (kind ∙ ap Some (eqb-true _ core p)) in
           let sum = core_total h a n in
           let w = whole in
           record {

@@ -1,8 +1,8 @@
 -- The rows of instances after a line that is taken: its own instance has one from then on exactly if it needs an entry, and every other row is carried. So there are as many rows as
 -- there are entries.
+use Rattle.std.proofs.Common.{None, Some, Option}
 use mathlib.Core.Path.{◌≡◌, refl, sym, ap, ap₂, subst, ◌∙◌}
 use mathlib.Core.Bool.{Bool, true, false, not, ◌&&◌, cond}
-use mathlib.Core.Option.{Option, none, some}
 use mathlib.Core.List.{List, ◌∷◌}
 use Prim.Native.Nat.{ℕ, zero, suc, ◌+◌, ◌≤◌, ◌<◌}
 use native.Mathlib.Omega.{arith}
@@ -25,8 +25,6 @@ use Rattle.rules.proofs.Entries.{entry_exactly, entry_listed, listed, entries_co
 use Rattle.steps.specs.Rows.{opened}
 use Rattle.tables.specs.Entry.{column, entry_at, instance_rows, name_rows, nums_size, instances_index, numbered_column, first_number_column, owner_column, instance_column, state_column, place_column}
 use Rattle.tables.specs.Entry.{instance_count, kind_at, numbered_at, first_number_at}
-use Rattle.lookup.specs.declared.find.Found.{Found}
-use Rattle.lookup.specs.declared.find.Found.TheVariants.{At, Nothing}
 use Rattle.store.specs.Store.{target_row, needs_row, put_row, without_row, with_entry, taken_entries, taken_tables}
 use Rattle.judge.specs.Feed.{Tables}
 use Rattle.promises.specs.Places.{row_of}
@@ -84,7 +82,7 @@ module _ (h : List Event) (a : Accepted h) (met : AllMet h) (t : Tables) (s : Sh
   terminated_told zero = refl
   terminated_told (suc n) = refl
 
-  reached_told : (b : Bool) (g n : ℕ) → reaches (cond b none (some g)) n ≡ not b && leb g n
+  reached_told : (b : Bool) (g n : ℕ) → reaches (cond b None (Some g)) n ≡ not b && leb g n
   reached_told true g n = refl
   reached_told false g n = refl
 
@@ -96,13 +94,13 @@ module _ (h : List Event) (a : Accepted h) (met : AllMet h) (t : Tables) (s : Sh
         sym (from_counted t.nums s.sized.nums_sized (looked_up_in h t e) state e (base + owner) (omega (arith, bound i)) (λ q. omega arith))
 
     -- the first number of its process or runnable, as it is from now on
-    first_after : cond (eqb (numbered_at one owner) 0) none (some (first_number_at one owner)) ≡ first_number e.kind e.target (e ∷ h)
+    first_after : cond (eqb (numbered_at one owner) 0) None (Some (first_number_at one owner)) ≡ first_number e.kind e.target (e ∷ h)
     first_after =
         let k = instances_tracked e.kind i in
         let p = target_row_lem h t s e f.kinds k in
         let r = each_name_next h a met t s e f m state l e.target (target_named h e k) in
         let kind : kind_at after.nums (row_of (e ∷ h) e.target) ≡ e.kind = cc (r.kind, target_kind h e k) in
-        ap₂ {C = Option ℕ} (λ (u v : ℕ). cond (eqb u 0) none (some v))
+        ap₂ {C = Option ℕ} (λ (u v : ℕ). cond (eqb u 0) None (Some v))
         (name_entry numbered_column.base (omega arith) (omega arith) ∙ ap (numbered_at after.nums) p)
         (name_entry first_number_column.base (omega arith) (omega arith) ∙ ap (first_number_at after.nums) p)
         ∙ r.first_number_stands (ap (λ (j : ℕ). eqb j semaphore) kind ∙ no_semaphore e.kind i)
@@ -145,8 +143,8 @@ module _ (h : List Event) (a : Accepted h) (met : AllMet h) (t : Tables) (s : Sh
 
   module _ (i : has_instances e.kind ≡ true) where
     -- stored in the row that it had, or in a new one
-    put_rows : (r : Found) → InstanceFound h nums own r → has_entry (e ∷ h) own ≡ true → RowsAfter (put_row one r owner e.target_instance state)
-    put_rows (At j) p q =
+    put_rows : (r : Option ℕ) → InstanceFound h nums own r → has_entry (e ∷ h) own ≡ true → RowsAfter (put_row one r owner e.target_instance state)
+    put_rows (Some j) p q =
         let b : j < instance_count one = omega (arith, same_count, p.1.below) in
         record {
           row = j;
@@ -159,7 +157,7 @@ module _ (h : List Event) (a : Accepted h) (met : AllMet h) (t : Tables) (s : Sh
           has = λ y. found_own one one_size j owner e.target_instance state (bound i) b few;
           counts = omega (arith, found_count one one_size j owner e.target_instance state (bound i) b few, same_count, ap one_if p.0, ap one_if q);
         }
-    put_rows Nothing p q =
+    put_rows None p q =
         let fit = entries_now (e ∷ h) (all_fit (e ∷ h) (passed_accepted h a e f)) in
         let b : instance_count one < instance_rows =
         omega (arith, same_count, s.singles.entries_counted, entries_counted h e f.number, ap one_if p, ap one_if q, fit) in
@@ -167,7 +165,7 @@ module _ (h : List Event) (a : Accepted h) (met : AllMet h) (t : Tables) (s : Sh
           row = instance_count nums;
           to = instance_count one;
           carried =
-              subst (λ (k : ℕ). Carried nums (put_row one Nothing owner e.target_instance state) k (Stored (instance_count one))) same_count
+              subst (λ (k : ℕ). Carried nums (put_row one None owner e.target_instance state) k (Stored (instance_count one))) same_count
               (carried_over nums one _ (instance_count one) (Stored (instance_count one)) same_count same_rows
               (carried_as one _ (instance_count one) (λ r. r ≡ instance_count one) (Stored (instance_count one)) (λ r y. (q, y))
               (next_carried one one_size owner e.target_instance state (bound i) b)));
@@ -178,9 +176,9 @@ module _ (h : List Event) (a : Accepted h) (met : AllMet h) (t : Tables) (s : Sh
         }
 
     -- given back, if it had one
-    back_rows : (r : Found) → InstanceFound h nums own r → has_entry (e ∷ h) own ≡ false → RowsAfter (without_row one r)
+    back_rows : (r : Option ℕ) → InstanceFound h nums own r → has_entry (e ∷ h) own ≡ false → RowsAfter (without_row one r)
     unfolding without_row
-    back_rows (At j) p q =
+    back_rows (Some j) p q =
         let b : j < instance_count one = omega (arith, same_count, p.1.below) in
         record {
           row = j;
@@ -193,9 +191,9 @@ module _ (h : List Event) (a : Accepted h) (met : AllMet h) (t : Tables) (s : Sh
           has = λ y. absurd (clash _ y q);
           counts = omega (arith, back_count one one_size j b few, same_count, ap one_if p.0, ap one_if q);
         }
-    back_rows Nothing p q = no_rows p q
+    back_rows None p q = no_rows p q
 
-    kept_rows : (r : Found) → InstanceFound h nums own r → (b : Bool) → needs_row one owner e.target_instance state ≡ b →
+    kept_rows : (r : Option ℕ) → InstanceFound h nums own r → (b : Bool) → needs_row one owner e.target_instance state ≡ b →
         RowsAfter (cond b (put_row one r owner e.target_instance state) (without_row one r))
     kept_rows r p true q = put_rows r p (has_told i ∙ q)
     kept_rows r p false q = back_rows r p (has_told i ∙ q)

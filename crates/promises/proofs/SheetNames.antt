@@ -1,7 +1,7 @@
 -- The names in the sheet of a history: a name is listed as a core or as a process exactly if it is of that kind; once; and none as both.
+use Rattle.std.proofs.Common.{Option, None, Some}
 use mathlib.Core.Path.{◌≡◌, refl, sym, ap, fun_ext, ◌∙◌}
 use mathlib.Core.Bool.{Bool, true, false, ◌&&◌}
-use mathlib.Core.Option.{Option, none, some}
 use mathlib.Core.List.{List, [], ◌∷◌}
 use Prim.Native.Nat.{ℕ, ◌+◌, ◌≤◌}
 use native.Mathlib.Omega.{arith}
@@ -87,8 +87,8 @@ of_kind k h = only (λ n. is_kind k (kind_of n h)) (names h)
 
 kinds_apart : (o : Option ℕ) → is_kind (eqb core) o ≡ true → is_kind is_process o ≡ false
 unfolding is_process
-kinds_apart none e = refl
-kinds_apart (some k) e = rw (← eqb-true core k e)
+kinds_apart None e = refl
+kinds_apart (Some k) e = rw (← eqb-true core k e)
 
 module _ (h : List Event) where
   pub listed : (k : ℕ → Bool) (n : Name) → has n (of_kind k h) ≡ is_kind k (kind_of n h)

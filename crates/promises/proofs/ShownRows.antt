@@ -1,7 +1,7 @@
 -- The sheet of tables that show a history is the history's sheet: its span, and a row for each core and each process with its own figures.
+use Rattle.std.proofs.Common.{Some}
 use mathlib.Core.Path.{◌≡◌, refl, sym, ap, ◌∙◌}
 use mathlib.Core.Bool.{Bool, true, false}
-use mathlib.Core.Option.{some}
 use mathlib.Core.List.{List, [], ◌∷◌, ◌++◌, append-nil, append_assoc}
 use Prim.Native.Nat.{ℕ, suc, ◌-◌}
 use lib.Dec.{eqb}
@@ -41,7 +41,7 @@ abbrev section_rows : Section → List (List ℕ) → List Event → List Row
 section_rows Cores ns h = core_rows ns h
 section_rows Processes ns h = process_rows ns h
 
-kind_belongs : (x : Section) (h : List Event) (n : List ℕ) (k : ℕ) → kind_of n h ≡ some k → belongs x k ≡ is_in x h n
+kind_belongs : (x : Section) (h : List Event) (n : List ℕ) (k : ℕ) → kind_of n h ≡ Some k → belongs x k ≡ is_in x h n
 kind_belongs Cores h n k q = eqb_turned k core ∙ sym (ap (is_kind (eqb core)) q)
 kind_belongs Processes h n k q = sym (ap (is_kind is_process) q)
 
@@ -51,7 +51,7 @@ module _ (h : List Event) (a : Accepted h) (met : AllMet h) (t : Tables) (s : Sh
       (ns : List (List ℕ)) → row_in x t.names t.nums t.ticks (row_of h n) ∷ section_rows x ns h ≡ section_rows x (n ∷ ns) h
   row_shown Cores n q b ns =
       let r = s.each_name n q in
-      let k : kind_of n h ≡ some core = r.kind ∙ ap some (eqb-true _ core b) in
+      let k : kind_of n h ≡ Some core = r.kind ∙ ap Some (eqb-true _ core b) in
       rw (r.name, held_shown h a met t s n k, idle_shown h a met t s n k, unknown_shown h a met t s n k)
   row_shown Processes n q b ns =
       let r = s.each_name n q in

@@ -1,5 +1,6 @@
 -- What each entry of ticks is after an event line is taken, for any tables of the right size: the two times, and the four sums of each row. The
 -- rows of the line's core and target are stored to, every other row is kept.
+use Rattle.std.proofs.Common.{None, Some, Option}
 use mathlib.Core.Path.{◌≡◌, refl, sym, ap, ◌∙◌}
 use mathlib.Core.Bool.{Bool, true, false, not, ◌&&◌, cond}
 use mathlib.Core.List.{List}
@@ -11,8 +12,6 @@ use borrow.Author.Tests.{eqb-true, eq-eqb, ne_eqb}
 use Rattle.rules.specs.Core.{no_core, takes_core, gives_core}
 use Rattle.tables.specs.Entry.{name_rows, ticks_size, first_index, last_index, started_entry, name_count, first_time, last_time, since_at}
 use Rattle.tables.proofs.Stores.{single, before}
-use Rattle.lookup.specs.declared.find.Found.{Found}
-use Rattle.lookup.specs.declared.find.Found.TheVariants.{At, Nothing}
 use Rattle.lookup.specs.declared.look.LookedUp.{LookedUp}
 use Rattle.lookup.specs.LookedUp.{rows_added, new_core, new_name}
 use Rattle.store.specs.Store.{row_or, core_row, target_row, store_sums, settled, with_times, with_sums, taken_ticks}
@@ -33,10 +32,10 @@ new_core_lem : (nums : List ℕ) (s : LookedUp) → new_core s ≡ 1 → (eqb s.
 unfolding core_row
 new_core_lem nums s q = by_case (eqb s.class no_core) s.source q
   where
-    by_case : (b : Bool) (f : Found) → rows_added (not b) f ≡ 1 → (b ≡ false) × (row_or f (name_count nums) ≡ name_count nums)
+    by_case : (b : Bool) (f : Option ℕ) → rows_added (not b) f ≡ 1 → (b ≡ false) × (row_or f (name_count nums) ≡ name_count nums)
     by_case true f q = absurd (omega (arith, q))
-    by_case false (At i) q = absurd (omega (arith, q))
-    by_case false Nothing q = (refl, refl)
+    by_case false (Some i) q = absurd (omega (arith, q))
+    by_case false None q = (refl, refl)
 
 -- a new core's ticks before the line: none where nothing started
 abbrev pub unknown_before : List ℕ → List ℕ → ℕ → ℕ

@@ -1,8 +1,8 @@
 -- The ticks of each name after an event line is taken, against those before: its core's are settled, its target gets what a core had that is given
 -- back, and every other name's are kept.
+use Rattle.std.proofs.Common.{Some}
 use mathlib.Core.Path.{◌≡◌, refl, sym, ap, ◌∙◌}
 use mathlib.Core.Bool.{Bool, true, false, ◌&&◌, cond}
-use mathlib.Core.Option.{some}
 use mathlib.Core.List.{List, ◌∷◌}
 use Prim.Native.Nat.{ℕ, ◌+◌, ◌-◌, ◌%◌, ◌^◌}
 use native.Mathlib.Omega.{arith}
@@ -182,7 +182,7 @@ module _ (h : List Event) (t : Tables) (s : Shown h t) (e : Event) (f : Passed h
   -- ---- a name that is no core
 
   -- what it has from the event's core
-  pub other_next : (n : List ℕ) → any (same_bytes n) (names (e ∷ h)) ≡ true → (kind_of n (e ∷ h) ≡ some core → ⊥) → sums_at (ticks_after h t e) (row_of (e ∷ h) n)
+  pub other_next : (n : List ℕ) → any (same_bytes n) (names (e ∷ h)) ≡ true → (kind_of n (e ∷ h) ≡ Some core → ⊥) → sums_at (ticks_after h t e) (row_of (e ∷ h) n)
       ≡ cond (is_tracked e.kind && same_bytes n e.target)
       (target_settled (core_class e.kind e.word) (since_settled h e t.ticks) (ticks_before h t.ticks n))
       (ticks_before h t.ticks n)

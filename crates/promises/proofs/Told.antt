@@ -1,8 +1,8 @@
 -- What the tables that show a history say of a name or an instance that they are asked for: its kind, its state, its last number or count, its first number. Where
 -- there is no row of it, the history tells nothing of it either.
+use Rattle.std.proofs.Common.{None, Some, Option}
 use mathlib.Core.Path.{◌≡◌, refl, sym, ap, ◌∙◌}
 use mathlib.Core.Bool.{Bool, true, false, cond}
-use mathlib.Core.Option.{Option, none, some}
 use mathlib.Core.List.{List, [], ◌∷◌}
 use Prim.Native.Nat.{ℕ, zero, suc, ◌≤◌}
 use native.Mathlib.Omega.{arith}
@@ -22,8 +22,6 @@ use Rattle.rules.proofs.Tests.{clash}
 use Rattle.rules.proofs.Tracked.{kind_named, named_kind}
 use Rattle.steps.specs.Rows.{opened}
 use Rattle.tables.specs.Entry.{Column, column, entry_at, name_rows, instance_rows, kind_column, standing_column, number_column, numbered_column, first_number_column, state_column, kind_at}
-use Rattle.lookup.specs.declared.find.Found.{Found}
-use Rattle.lookup.specs.declared.find.Found.TheVariants.{At, Nothing}
 use Rattle.decide.specs.Known.{entry_of, kind_in, standing_in, number_in, number_known}
 use Rattle.judge.specs.Feed.{Tables}
 use Rattle.promises.specs.Places.{place, seek, row_of}
@@ -49,7 +47,7 @@ module _ {A : Type 0} (f : A → Bool) (xs : List A) (nums : List ℕ) (c : Colu
 
 -- ---- what may be missing
 
-opened_some : (n : ℕ) → 1 ≤ n → opened n ≡ some n
+opened_some : (n : ℕ) → 1 ≤ n → opened n ≡ Some n
 opened_some zero l = absurd (omega arith)
 opened_some (suc n) l = refl
 
@@ -59,7 +57,7 @@ all_worded (e ∷ h) m = (m.0.worded, all_worded h m.1)
 
 -- what 9 leaves: a name that has a kind has this one
 abbrev pub Only : Option ℕ → ℕ → Type 0
-Only o k = (j : ℕ) → o ≡ some j → j ≡ k
+Only o k = (j : ℕ) → o ≡ Some j → j ≡ k
 
 module _ (h : List Event) (a : Accepted h) (t : Tables) (s : Shown h t) where
   -- ---- names
@@ -109,7 +107,7 @@ module _ (h : List Event) (a : Accepted h) (t : Tables) (s : Shown h t) where
     pub number_told : (k : ℕ) → Only (kind_of n h) k → number_known number_column t.nums (seek (same_bytes n) (names h)) ≡ number_of h n k
     number_told k d = by_test (any (same_bytes n) (names h)) refl
       where
-        no_entry : kind_of n h ≡ none → (b : Bool) → cond b (last_count n h) (last_number k n h) ≡ none
+        no_entry : kind_of n h ≡ None → (b : Bool) → cond b (last_count n h) (last_number k n h) ≡ None
         no_entry q true = no_count n h q
         no_entry q false = no_number k n h q
 
@@ -131,7 +129,7 @@ module _ (h : List Event) (a : Accepted h) (t : Tables) (s : Shown h t) where
   -- ---- instances
 
   -- the state in the row that was found of an instance: that of one that has an entry
-  pub state_told : (x : Instance) (r : Found) → InstanceFound h t.nums x r → opened (entry_of state_column t.nums r) ≡ cond (has_entry h x) (state_of x h) none
+  pub state_told : (x : Instance) (r : Option ℕ) → InstanceFound h t.nums x r → opened (entry_of state_column t.nums r) ≡ cond (has_entry h x) (state_of x h) None
   unfolding entry_of
-  state_told x (At j) p = rw (lt-ltb j instance_rows (instance_below h a t s j x p.1), p.0) p.1.state
-  state_told x Nothing p = rw p
+  state_told x (Some j) p = rw (lt-ltb j instance_rows (instance_below h a t s j x p.1), p.0) p.1.state
+  state_told x None p = rw p

@@ -1,8 +1,8 @@
 -- What an event that is taken does to its core: it is the core's first event, or it takes the core from idle, or it gives it back or keeps it as the
 -- instance that holds it.
+use Rattle.std.proofs.Common.{Some}
 use mathlib.Core.Path.{◌≡◌, refl, ap, ◌∙◌}
 use mathlib.Core.Bool.{Bool, true, false}
-use mathlib.Core.Option.{some}
 use mathlib.Core.List.{List, ◌∷◌}
 use Rattle.text.specs.Bytes.{same_bytes}
 use Rattle.text.specs.Lists.{any}
@@ -37,9 +37,9 @@ module _ (h : List Event) (a : Accepted h) (e : Event) (f : Passed h e) (o : on_
   unnamed q false t = refl
   unnamed q true t =
       let k = name_kind h e.source t in
-      absurd (core_known e.source h (k.1 ∙ ap some (source_is h e f.kinds o k.0 k.1)) q)
+      absurd (core_known e.source h (k.1 ∙ ap Some (source_is h e f.kinds o k.0 k.1)) q)
 
-  named : kind_of e.source h ≡ some core → any (same_bytes e.source) (names h) ≡ true
+  named : kind_of e.source h ≡ Some core → any (same_bytes e.source) (names h) ≡ true
   named k = named_kind h e.source core k _ refl
 
   becoming : {b : Bool} → gives e.word ≡ b → core_at e.source (e ∷ h) ≡ becomes b (instance_of e)

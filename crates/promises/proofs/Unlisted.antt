@@ -1,7 +1,7 @@
 -- The figures of a name that is not of the kind that has them: a name that is no core was unknown all along, and one that is no process has no charge.
+use Rattle.std.proofs.Common.{Option, None, Some}
 use mathlib.Core.Path.{◌≡◌, refl, sym, ap, ◌∙◌}
 use mathlib.Core.Bool.{Bool, true, false}
-use mathlib.Core.Option.{Option, none, some}
 use mathlib.Core.List.{List, [], ◌∷◌}
 use Prim.Native.Nat.{ℕ}
 use native.Mathlib.Omega.{arith}
@@ -31,8 +31,8 @@ module _ (k : ℕ → Bool) (n : List ℕ) where
   earlier e h a q = by_kind (kind_of n h) refl
     where
       by_kind : (o : Option ℕ) → kind_of n h ≡ o → is_kind k o ≡ false
-      by_kind none p = refl
-      by_kind (some j) p = sym (ap (is_kind k) (kind_stays h e (passed h e a.0).kinds n j p)) ∙ q
+      by_kind None p = refl
+      by_kind (Some j) p = sym (ap (is_kind k) (kind_stays h e (passed h e a.0).kinds n j p)) ∙ q
 
   -- so what counts nothing for it never counted
   never_counted : (count : List Event → ℕ) → ((h : List Event) → Accepted h → is_kind k (kind_of n h) ≡ false → count h ≡ 0) →

@@ -1,7 +1,7 @@
 -- A name without a kind: no line told anything of it, so there is no number, no count and no state of it.
+use Rattle.std.proofs.Common.{Option, None, Some}
 use mathlib.Core.Path.{◌≡◌, refl, subst, ◌∙◌}
 use mathlib.Core.Bool.{Bool, true, false, ◌&&◌}
-use mathlib.Core.Option.{Option, none, some}
 use mathlib.Core.List.{List, [], ◌∷◌}
 use Prim.Native.Nat.{ℕ}
 use native.Mathlib.Omega.{arith}
@@ -21,24 +21,24 @@ use Rattle.promises.proofs.KindTests.{instances_range, instances_tracked, semaph
 
 -- ---- nothing was told
 
-neither_some : {A : Type 0} (o p : Option A) → or_else o p ≡ none → (o ≡ none) × (p ≡ none)
-neither_some none p q = (refl, q)
-neither_some (some x) p q = (q, cc)
+neither_some : {A : Type 0} (o p : Option A) → or_else o p ≡ None → (o ≡ None) × (p ≡ None)
+neither_some None p q = (refl, q)
+neither_some (Some x) p q = (q, cc)
 
 -- the event is of the name n
 abbrev of : List ℕ → Event → Bool
 of n e = is_tracked e.kind && same_bytes n e.target
 
-not_of : (n : List ℕ) (e : Event) → kind_in n e ≡ none → of n e ≡ false
+not_of : (n : List ℕ) (e : Event) → kind_in n e ≡ None → of n e ≡ false
 unfolding kind_in
 not_of n e = by_test (of n e)
   where
-    by_test : (b : Bool) → or_else (when b e.kind) (when (on n e) core) ≡ none → b ≡ false
+    by_test : (b : Bool) → or_else (when b e.kind) (when (on n e) core) ≡ None → b ≡ false
     by_test true q = cc
     by_test false q = refl
 
-untold : {B : Type 0} (n : List ℕ) (f : Event → Option B) → ((e : Event) → of n e ≡ false → f e ≡ none) → (h : List Event) → kind_of n h ≡ none →
-    latest f h ≡ none
+untold : {B : Type 0} (n : List ℕ) (f : Event → Option B) → ((e : Event) → of n e ≡ false → f e ≡ None) → (h : List Event) → kind_of n h ≡ None →
+    latest f h ≡ None
 untold n f g [] q = refl
 untold n f g (e ∷ h) q = let p = neither_some (kind_in n e) (kind_of n h) q in rw (g e (not_of n e p.0)) (untold n f g h p.1)
 
@@ -46,11 +46,11 @@ untold n f g (e ∷ h) q = let p = neither_some (kind_in n e) (kind_of n h) q in
 abbrev implied : Bool → Bool → Type 0
 implied a b = a ≡ true → b ≡ true
 
-unless : {B : Type 0} (a b : Bool) (x : B) → implied a b → b ≡ false → when a x ≡ none
+unless : {B : Type 0} (a b : Bool) (x : B) → implied a b → b ≡ false → when a x ≡ None
 unless true b x f q = absurd (clash b (f refl) q)
 unless false b x f q = refl
 
-pub no_number : (k : ℕ) (n : List ℕ) (h : List Event) → kind_of n h ≡ none → last_number k n h ≡ none
+pub no_number : (k : ℕ) (n : List ℕ) (h : List Event) → kind_of n h ≡ None → last_number k n h ≡ None
 unfolding last_number
 no_number k n = untold n _ (λ e. unless (numbers k n e) (of n e) e.target_instance (own e))
   where
@@ -59,12 +59,12 @@ no_number k n = untold n _ (λ e. unless (numbers k n e) (of n e) e.target_insta
         let r = what_numbers k n e q in
         and_true _ _ (instances_tracked e.kind (activates_instances e.kind e.word r.activation)) (eq_same n e.target r.of_name)
 
-pub no_first_number : (k : ℕ) (n : List ℕ) (h : List Event) → kind_of n h ≡ none → first_number k n h ≡ none
+pub no_first_number : (k : ℕ) (n : List ℕ) (h : List Event) → kind_of n h ≡ None → first_number k n h ≡ None
 unfolding last_number first_number
 no_first_number k n h q = none_earlier (λ e. when (numbers k n e) e.target_instance) h (no_number k n h q)
 
 -- a core is given none
-pub core_unnumbered : (n : List ℕ) (h : List Event) → last_number core n h ≡ none
+pub core_unnumbered : (n : List ℕ) (h : List Event) → last_number core n h ≡ None
 unfolding last_number
 core_unnumbered n [] = refl
 core_unnumbered n (e ∷ h) = rw (never e) (core_unnumbered n h)
@@ -76,14 +76,14 @@ core_unnumbered n (e ∷ h) = rw (never e) (core_unnumbered n h)
         let r = instances_range d.kind (activates_instances d.kind d.word w.activation) in
         omega (arith, w.of_kind))
 
-pub no_count : (n : List ℕ) (h : List Event) → kind_of n h ≡ none → last_count n h ≡ none
+pub no_count : (n : List ℕ) (h : List Event) → kind_of n h ≡ None → last_count n h ≡ None
 unfolding last_count
 no_count n = untold n _ (λ e. unless (eqb e.kind semaphore && same_bytes n e.target) (of n e) e.count (own e))
   where
     own : (e : Event) → implied (eqb e.kind semaphore && same_bytes n e.target) (of n e)
     own e q = let p = both (eqb e.kind semaphore) (same_bytes n e.target) q in and_true _ _ (semaphore_tracked e.kind p.0) p.1
 
-pub no_state : (x : Instance) → is_tracked x.kind ≡ true → (h : List Event) → kind_of x.name h ≡ none → state_of x h ≡ none
+pub no_state : (x : Instance) → is_tracked x.kind ≡ true → (h : List Event) → kind_of x.name h ≡ None → state_of x h ≡ None
 no_state x t [] q = refl
 no_state x t (e ∷ h) q =
     let p = neither_some (kind_in x.name e) (kind_of x.name h) q in

@@ -1,11 +1,9 @@
 -- Where an element stands in a list.
-use Rattle.std.specs.Prelude.{Bool, cond, List, [], ◌∷◌, ℕ, suc}
+use Rattle.std.specs.Prelude.{Bool, cond, List, [], ◌∷◌, ℕ, suc, None, Some, Option}
 use Rattle.text.specs.Bytes.{same_bytes}
 use Rattle.text.specs.Lists.{any}
 use Rattle.rules.specs.Event.{Event}
 use Rattle.rules.specs.History.{names}
-use Rattle.lookup.specs.declared.find.Found.{Found}
-use Rattle.lookup.specs.declared.find.Found.TheVariants.{At, Nothing}
 
 module _ {A : Type 0} where
   -- the place of the first element that passes the test; the length where none does
@@ -13,8 +11,8 @@ module _ {A : Type 0} where
   place f [] = 0
   place f (x ∷ xs) = cond (f x) 0 (suc (place f xs))
 
-  unfoldable pub seek : (A → Bool) → List A → Found
-  seek f xs = cond (any f xs) (At (place f xs)) Nothing
+  unfoldable pub seek : (A → Bool) → List A → Option ℕ
+  seek f xs = cond (any f xs) (Some (place f xs)) None
 
 -- the row of a name: "in order of first mention"
 abbrev pub row_of : List Event → List ℕ → ℕ

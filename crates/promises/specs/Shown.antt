@@ -1,6 +1,5 @@
 -- What it is that tables show a history of events, and of lines. Histories have THE NEWEST FIRST.
-use Rattle.std.specs.Prelude.{◌≡◌, true, false, cond, List, [], ◌∷◌, ℕ, ◌+◌, ◌-◌, ◌*◌, ◌≤◌, ◌<◌, eqb, length}
-use Rattle.std.proofs.Math.Option.{Option, none, some}
+use Rattle.std.specs.Prelude.{◌≡◌, true, false, cond, List, [], ◌∷◌, ℕ, ◌+◌, ◌-◌, ◌*◌, ◌≤◌, ◌<◌, eqb, length, Option, None, Some}
 use Rattle.text.specs.Bytes.{same_bytes}
 use Rattle.text.specs.Lists.{any, sum_over}
 use Rattle.rules.specs.Words.{core, semaphore}
@@ -65,15 +64,15 @@ number_of h n k = cond (eqb k semaphore) (last_count n h) (last_number k n h)
 pub record NameShown (h : List Event) (names nums : List ℕ) (i : ℕ) (n : List ℕ) : Type 0 where
   pub name : name_at names nums i ≡ n
   pub size : length_at nums i ≡ length n
-  pub kind : kind_of n h ≡ some (kind_at nums i)
+  pub kind : kind_of n h ≡ Some (kind_at nums i)
   pub standing : StandingShown h n (kind_at nums i) (standing_at nums i)
   -- a core has no number of its own: the entry is free for that of the instance that holds it
   pub holder : (x : Instance) → core_at n h ≡ held x → number_at nums i ≡ x.number
   pub numbered : numbered_at nums i ≤ 1
-  pub number : cond (eqb (numbered_at nums i) 0) none (some (number_at nums i)) ≡ number_of h n (kind_at nums i)
+  pub number : cond (eqb (numbered_at nums i) 0) None (Some (number_at nums i)) ≡ number_of h n (kind_at nums i)
   -- and of the first activation or start; a semaphore has none
   pub first_number_stands : eqb (kind_at nums i) semaphore ≡ false →
-      cond (eqb (numbered_at nums i) 0) none (some (first_number_at nums i)) ≡ first_number (kind_at nums i) n h
+      cond (eqb (numbered_at nums i) 0) None (Some (first_number_at nums i)) ≡ first_number (kind_at nums i) n h
 
 -- ---- the row j of the instance x
 
@@ -111,8 +110,8 @@ pub record OtherTicks (h : List Event) (ticks : List ℕ) (i : ℕ) (n : List �
   pub no_since : since_at ticks i ≡ 0
 
 pub record TicksShown (h : List Event) (ticks : List ℕ) (i : ℕ) (n : List ℕ) : Type 0 where
-  pub of_core : kind_of n h ≡ some core → CoreTicks h ticks i n
-  pub of_other : (kind_of n h ≡ some core → ⊥) → OtherTicks h ticks i n
+  pub of_core : kind_of n h ≡ Some core → CoreTicks h ticks i n
+  pub of_other : (kind_of n h ≡ Some core → ⊥) → OtherTicks h ticks i n
 
 -- ---- all of it
 

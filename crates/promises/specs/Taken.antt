@@ -1,11 +1,9 @@
 -- What an event line finds in the tables that show a history.
-use Rattle.std.specs.Prelude.{◌≡◌, true, false, not, List, ℕ, eqb}
+use Rattle.std.specs.Prelude.{◌≡◌, true, false, not, List, ℕ, eqb, None, Some, Option}
 use Rattle.text.specs.Bytes.{same_bytes}
 use Rattle.rules.specs.Core.{no_core, core_class}
 use Rattle.rules.specs.Event.{Event, Instance}
 use Rattle.rules.specs.History.{has_instances, is_tracked, names, has_entry}
-use Rattle.lookup.specs.declared.find.Found.{Found}
-use Rattle.lookup.specs.declared.find.Found.TheVariants.{At, Nothing}
 use Rattle.lookup.specs.declared.look.LookedUp.{LookedUp}
 use Rattle.lookup.specs.LookedUp.{look_if, instance_in}
 use Rattle.judge.specs.Feed.{Tables}
@@ -24,6 +22,6 @@ looked_up_in h t e =
     }
 
 -- what is found of an instance: some row that shows it, or nothing and it has no entry
-abbrev pub InstanceFound : List Event → List ℕ → Instance → Found → Type 0
-InstanceFound h nums x (At j) = (has_entry h x ≡ true) × InstanceShown h nums j x
-InstanceFound h nums x Nothing = has_entry h x ≡ false
+abbrev pub InstanceFound : List Event → List ℕ → Instance → Option ℕ → Type 0
+InstanceFound h nums x (Some j) = (has_entry h x ≡ true) × InstanceShown h nums j x
+InstanceFound h nums x None = has_entry h x ≡ false

@@ -1,8 +1,8 @@
 -- How the code tests an index: the test passes exactly where the index is right, and so exactly where it is the one that inserting gives. First for any homes, then for the names of
 -- lent tables.
+use Rattle.std.proofs.Common.{Option, None, Some}
 use mathlib.Core.Path.{◌≡◌, refl, sym, ap, subst, ◌∙◌}
 use mathlib.Core.Bool.{Bool, true, false, ◌&&◌, and_assoc}
-use mathlib.Core.Option.{Option, none, some}
 use mathlib.Core.List.{List}
 use Prim.Native.Nat.{ℕ, zero, suc, ◌≤◌, ◌<◌}
 use native.Mathlib.Omega.{arith}
@@ -55,13 +55,13 @@ module _ (l : List ℕ) (home : ℕ → ℕ) where
       (eq-eqb _ _ x.there)
 
   -- where a row passes, it lies where it is looked for
-  placed_found : (r : ℕ) → row_placed l (home r) r ≡ true → (d : ℕ) × (looked r ≡ some d) × (entry l (home r) d ≡ suc r)
+  placed_found : (r : ℕ) → row_placed l (home r) r ≡ true → (d : ℕ) × (looked r ≡ Some d) × (entry l (home r) d ≡ suc r)
   unfolding row_placed
   placed_found r t = by_found (looked r) refl t
     where
-      by_found : (o : Option ℕ) → looked r ≡ o → holds_row l (home r) r o ≡ true → (d : ℕ) × (looked r ≡ some d) × (entry l (home r) d ≡ suc r)
-      by_found (some d) e t = (d, e, eqb-true _ _ t)
-      by_found none e t = absurd (clash false t refl)
+      by_found : (o : Option ℕ) → looked r ≡ o → holds_row l (home r) r o ≡ true → (d : ℕ) × (looked r ≡ Some d) × (entry l (home r) d ≡ suc r)
+      by_found (Some d) e t = (d, e, eqb-true _ _ t)
+      by_found None e t = absurd (clash false t refl)
 
   module _ (n : ℕ) (size : length l ≡ place_rows) (rows : (r : ℕ) → r < n → row_placed l (home r) r ≡ true) (count : taken_places l ≡ n) where
     there : (r : ℕ) → r < n → get_or l (spot r) 0 ≡ suc r

@@ -1,7 +1,6 @@
 -- How the code tests an index, without a second one: each row is where it belongs, and as many places are taken as there are rows (`taken_places`, index/specs/Taken.antt). That this
 -- is the test of `index_ok` is `index_tested` (ranges/proofs/Tested.antt).
-use Rattle.std.specs.Prelude.{Bool, false, ◌&&◌, ◌||◌, List, ℕ, suc, eqb, ltb}
-use Rattle.std.proofs.Math.Option.{Option, none, some}
+use Rattle.std.specs.Prelude.{Bool, false, ◌&&◌, ◌||◌, List, ℕ, suc, eqb, ltb, Option, None, Some}
 use Rattle.index.specs.Index.{entry, sought, home_at}
 use Rattle.ranges.specs.Range.{name_ok}
 
@@ -11,8 +10,8 @@ vacant r e = eqb e 0 || ltb r e
 
 -- the entry at the distance found is row r's
 abbrev pub holds_row : List ℕ → ℕ → ℕ → Option ℕ → Bool
-holds_row l home r none = false
-holds_row l home r (some d) = eqb (entry l home d) (suc r)
+holds_row l home r None = false
+holds_row l home r (Some d) = eqb (entry l home d) (suc r)
 
 -- the first place from home on that holds no row before row r holds row r
 unfoldable pub row_placed : List ℕ → ℕ → ℕ → Bool

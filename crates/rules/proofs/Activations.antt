@@ -1,8 +1,8 @@
 -- Activations, of processes and runnables: whose they are, that they are steps of a chart, and what an instance has that begins with one. And what the first and the
 -- last of a list tell of each other.
+use Rattle.std.proofs.Common.{Option, None, Some}
 use mathlib.Core.Path.{◌≡◌, refl, sym, ap, subst, ◌∙◌}
 use mathlib.Core.Bool.{Bool, true, false, ◌&&◌, ◌||◌, and-true}
-use mathlib.Core.Option.{Option, none, some}
 use mathlib.Core.List.{List, [], ◌∷◌}
 use Prim.Native.Nat.{ℕ, ◌≤◌}
 use native.Mathlib.Omega.{arith}
@@ -24,34 +24,34 @@ use Rattle.rules.proofs.CoreWords.{of_member, is_step}
 -- ---- lists
 
 module _ {A B : Type 0} (f : A → Option B) where
-  pub none_earlier : (xs : List A) → latest f xs ≡ none → earliest f xs ≡ none
+  pub none_earlier : (xs : List A) → latest f xs ≡ None → earliest f xs ≡ None
   none_earlier [] q = refl
   none_earlier (x ∷ xs) q = by_first (f x) q (none_earlier xs)
     where
-      by_first : (o : Option B) → or_else o (latest f xs) ≡ none → (latest f xs ≡ none → earliest f xs ≡ none) → or_else (earliest f xs) o ≡ none
-      by_first none q i = rw (i q)
-      by_first (some b) q i = cc
+      by_first : (o : Option B) → or_else o (latest f xs) ≡ None → (latest f xs ≡ None → earliest f xs ≡ None) → or_else (earliest f xs) o ≡ None
+      by_first None q i = rw (i q)
+      by_first (Some b) q i = cc
 
-  pub none_later : (xs : List A) → earliest f xs ≡ none → latest f xs ≡ none
+  pub none_later : (xs : List A) → earliest f xs ≡ None → latest f xs ≡ None
   none_later [] q = refl
   none_later (x ∷ xs) q = by_rest (earliest f xs) q refl (none_later xs)
     where
-      by_rest : (o : Option B) → or_else o (f x) ≡ none → earliest f xs ≡ o → (earliest f xs ≡ none → latest f xs ≡ none) → or_else (f x) (latest f xs) ≡ none
-      by_rest none q e i = rw (q, i e)
-      by_rest (some b) q e i = cc
+      by_rest : (o : Option B) → or_else o (f x) ≡ None → earliest f xs ≡ o → (earliest f xs ≡ None → latest f xs ≡ None) → or_else (f x) (latest f xs) ≡ None
+      by_rest None q e i = rw (q, i e)
+      by_rest (Some b) q e i = cc
 
   -- where no element has an answer, the first one has none
-  last_none : (xs : List A) (x : A) → earliest some xs ≡ some x → latest f xs ≡ none → f x ≡ none
+  last_none : (xs : List A) (x : A) → earliest Some xs ≡ Some x → latest f xs ≡ None → f x ≡ None
   last_none [] x q n = cc
-  last_none (y ∷ ys) x q n = by_rest (earliest some ys) refl q (f y) refl n (last_none ys x)
+  last_none (y ∷ ys) x q n = by_rest (earliest Some ys) refl q (f y) refl n (last_none ys x)
     where
-      by_rest : (o : Option A) → earliest some ys ≡ o → or_else o (some y) ≡ some x → (p : Option B) → f y ≡ p → or_else p (latest f ys) ≡ none →
-          (earliest some ys ≡ some x → latest f ys ≡ none → f x ≡ none) → f x ≡ none
-      by_rest o e q (some b) g n i = cc
-      by_rest (some z) e q none g n i = i (e ∙ q) n
-      by_rest none e q none g n i = let s : y ≡ x = cc in subst (λ (z : A). f z ≡ none) s g
+      by_rest : (o : Option A) → earliest Some ys ≡ o → or_else o (Some y) ≡ Some x → (p : Option B) → f y ≡ p → or_else p (latest f ys) ≡ None →
+          (earliest Some ys ≡ Some x → latest f ys ≡ None → f x ≡ None) → f x ≡ None
+      by_rest o e q (Some b) g n i = cc
+      by_rest (Some z) e q None g n i = i (e ∙ q) n
+      by_rest None e q None g n i = let s : y ≡ x = cc in subst (λ (z : A). f z ≡ None) s g
 
-pub no_value : {A : Type 0} {x : A} → some x ≡ none → ⊥
+pub no_value : {A : Type 0} {x : A} → Some x ≡ None → ⊥
 no_value q = let z : ◌≡◌ {A = ℕ} 0 1 = cc in omega arith
 
 -- ---- activations
@@ -112,62 +112,62 @@ what_from k n i x q =
     record { of_kind = eqb-true k x.kind r.0; of_name = same_eq n x.name s.0; high = leb-true i x.number s.1 }
 
 -- a first number is a process's or a runnable's
-pub numbered_instances : (h : List Event) (k : ℕ) (n : List ℕ) (f : ℕ) → first_number k n h ≡ some f → has_instances k ≡ true
+pub numbered_instances : (h : List Event) (k : ℕ) (n : List ℕ) (f : ℕ) → first_number k n h ≡ Some f → has_instances k ≡ true
 unfolding first_number
 numbered_instances [] k n f q = absurd (no_value (sym q))
 numbered_instances (e ∷ h) k n f q = by_rest (first_number k n h) refl q (numbered_instances h k n)
   where
-    by_test : (t : Bool) → numbers k n e ≡ t → when t e.target_instance ≡ some f → has_instances k ≡ true
+    by_test : (t : Bool) → numbers k n e ≡ t → when t e.target_instance ≡ Some f → has_instances k ≡ true
     by_test true t q = let r = what_numbers k n e t in rw r.of_kind (activates_instances e.kind e.word r.activation)
     by_test false t q = absurd (no_value (sym q))
 
-    by_rest : (o : Option ℕ) → first_number k n h ≡ o → or_else o (when (numbers k n e) e.target_instance) ≡ some f →
-        ((g : ℕ) → first_number k n h ≡ some g → has_instances k ≡ true) → has_instances k ≡ true
-    by_rest (some g) p q i = i g p
-    by_rest none p q i = by_test (numbers k n e) refl q
+    by_rest : (o : Option ℕ) → first_number k n h ≡ o → or_else o (when (numbers k n e) e.target_instance) ≡ Some f →
+        ((g : ℕ) → first_number k n h ≡ Some g → has_instances k ≡ true) → has_instances k ≡ true
+    by_rest (Some g) p q i = i g p
+    by_rest None p q i = by_test (numbers k n e) refl q
 
 -- ---- an instance that begins with an activation
 
 -- its process or runnable has a first number
-pub begun_numbered : (h : List Event) (x : Instance) (a : ℕ) → first_word x h ≡ some a → activates x.kind a ≡ true → first_number x.kind x.name h ≡ none → ⊥
+pub begun_numbered : (h : List Event) (x : Instance) (a : ℕ) → first_word x h ≡ Some a → activates x.kind a ≡ true → first_number x.kind x.name h ≡ None → ⊥
 unfolding first_number
 begun_numbered [] x a w s q = no_value (sym w)
 begun_numbered (e ∷ h) x a w s q = by_rest (first_number x.kind x.name h) refl q (λ v. begun_numbered h x a v s)
   where
     Before : Type 0
-    Before = first_word x h ≡ some a → first_number x.kind x.name h ≡ none → ⊥
+    Before = first_word x h ≡ Some a → first_number x.kind x.name h ≡ None → ⊥
 
-    word : (o : Option ℕ) → first_word (instance_of e) h ≡ o → or_else o (some e.word) ≡ some a → x ≡ instance_of e →
-        first_number x.kind x.name h ≡ none → when (numbers x.kind x.name e) e.target_instance ≡ none → Before → ⊥
-    word (some b) p v z f n i = i (ap (λ (y : Instance). first_word y h) z ∙ p ∙ v) f
-    word none p v z f n i =
+    word : (o : Option ℕ) → first_word (instance_of e) h ≡ o → or_else o (Some e.word) ≡ Some a → x ≡ instance_of e →
+        first_number x.kind x.name h ≡ None → when (numbers x.kind x.name e) e.target_instance ≡ None → Before → ⊥
+    word (Some b) p v z f n i = i (ap (λ (y : Instance). first_word y h) z ∙ p ∙ v) f
+    word None p v z f n i =
         let t : e.word ≡ a = cc in
         let act : activates e.kind e.word ≡ true = rw t (subst (λ (y : Instance). activates y.kind a ≡ true) z s) in
-        let m : when (numbers e.kind e.target e) e.target_instance ≡ none =
-        subst (λ (y : Instance). when (numbers y.kind y.name e) e.target_instance ≡ none) z n in
+        let m : when (numbers e.kind e.target e) e.target_instance ≡ None =
+        subst (λ (y : Instance). when (numbers y.kind y.name e) e.target_instance ≡ None) z n in
         no_value (ap (λ (b : Bool). when b e.target_instance) (sym (own_activation e ∙ act)) ∙ m)
 
-    by_instance : (b : Bool) → same_instance x (instance_of e) ≡ b → first_number x.kind x.name h ≡ none →
-        when (numbers x.kind x.name e) e.target_instance ≡ none → Before → ⊥
+    by_instance : (b : Bool) → same_instance x (instance_of e) ≡ b → first_number x.kind x.name h ≡ None →
+        when (numbers x.kind x.name e) e.target_instance ≡ None → Before → ⊥
     by_instance true p f n i =
         let z = instance_true x (instance_of e) p in
         word (first_word (instance_of e) h) refl (sym (first_own e h) ∙ ap (λ (y : Instance). first_word y (e ∷ h)) (sym z) ∙ w) z f n i
     by_instance false p f n i = i (sym (first_other x e h p) ∙ w) f
 
-    by_rest : (o : Option ℕ) → first_number x.kind x.name h ≡ o → or_else o (when (numbers x.kind x.name e) e.target_instance) ≡ none → Before → ⊥
-    by_rest none f n i = by_instance (same_instance x (instance_of e)) refl f n i
-    by_rest (some g) f n i = no_value n
+    by_rest : (o : Option ℕ) → first_number x.kind x.name h ≡ o → or_else o (when (numbers x.kind x.name e) e.target_instance) ≡ None → Before → ⊥
+    by_rest None f n i = by_instance (same_instance x (instance_of e)) refl f n i
+    by_rest (Some g) f n i = no_value n
 
 -- and it has a state
-pub begun_stated : (h : List Event) (x : Instance) (a : ℕ) → first_word x h ≡ some a → activates x.kind a ≡ true → unseen (state_of x h) ≡ true → ⊥
+pub begun_stated : (h : List Event) (x : Instance) (a : ℕ) → first_word x h ≡ Some a → activates x.kind a ≡ true → unseen (state_of x h) ≡ true → ⊥
 unfolding is_step
 begun_stated h x a w s u = by_state (state_of x h) refl u
   where
-    no_step : (o : Option Step) → entered o ≡ none → is_step o ≡ true → ⊥
-    no_step none q t = clash false t refl
-    no_step (some r) q t = no_value q
+    no_step : (o : Option Step) → entered o ≡ None → is_step o ≡ true → ⊥
+    no_step None q t = clash false t refl
+    no_step (Some r) q t = no_value q
 
     by_state : (o : Option ℕ) → state_of x h ≡ o → unseen o ≡ true → ⊥
-    by_state none q u =
+    by_state None q u =
         no_step (step_for (chart_of x.kind) a) (last_none (λ b. entered (step_for (chart_of x.kind) b)) (words_of x h) a w q) (activation_step x.kind a s)
-    by_state (some m) q u = clash false u refl
+    by_state (Some m) q u = clash false u refl

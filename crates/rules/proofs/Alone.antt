@@ -1,8 +1,8 @@
 -- Nobody shares a core: after any accepted history an instance in RUNNING or POLLING holds exactly one core, a held core is held by such an instance,
 -- and an instance in another state holds none.
+use Rattle.std.proofs.Common.{Option, None, Some}
 use mathlib.Core.Path.{◌≡◌, refl, sym, ap, subst, ◌∙◌}
 use mathlib.Core.Bool.{Bool, true, false, not, ◌||◌}
-use mathlib.Core.Option.{Option, none, some}
 use mathlib.Core.List.{List, [], ◌∷◌}
 use Prim.Native.Nat.{ℕ}
 use native.Mathlib.Omega.{arith}
@@ -31,10 +31,10 @@ unfolding chart_of
 process_chart_lem k q = rw q
 
 -- an instance that occupies a core leaves its state only by a word that gives or keeps
-leaving : (a : ℕ) (r : Step) (o : Option ℕ) → step_for process_chart a ≡ some r → allowed_by (some r) o ≡ true → occupies o ≡ true → gives a || keeps a ≡ true
+leaving : (a : ℕ) (r : Step) (o : Option ℕ) → step_for process_chart a ≡ Some r → allowed_by (Some r) o ≡ true → occupies o ≡ true → gives a || keeps a ≡ true
 unfolding occupies
-leaving a r none q k b = cc
-leaving a r (some s) q k b = sym (leaves_core a r s q k) ∙ b
+leaving a r None q k b = cc
+leaving a r (Some s) q k b = sym (leaves_core a r s q k) ∙ b
 
 module _ (h : List Event) (e : Event) (f : Passed h e) (p : is_process e.kind ≡ true) where
   may : allowed process_chart e.word (state_of (instance_of e) h) ≡ true
@@ -45,11 +45,11 @@ module _ (h : List Event) (e : Event) (f : Passed h e) (p : is_process e.kind �
       subst (λ (t : List Step). state_of (instance_of e) (e ∷ h) ≡ or_else (entered (step_for t e.word)) (state_of (instance_of e) h))
       (process_chart_lem e.kind p) (state_own e h)
 
-  was_free : (r : Step) → step_for process_chart e.word ≡ some r → gives e.word || keeps e.word ≡ false → occupies (state_of (instance_of e) h) ≡ false
+  was_free : (r : Step) → step_for process_chart e.word ≡ Some r → gives e.word || keeps e.word ≡ false → occupies (state_of (instance_of e) h) ≡ false
   was_free r q g =
       any_less (occupies (state_of (instance_of e) h)) (gives e.word || keeps e.word) (leaving e.word r (state_of (instance_of e) h) q (rw q at may)) g
 
-  is_now : (r : Step) → step_for process_chart e.word ≡ some r → occupies (state_of (instance_of e) (e ∷ h)) ≡ takes e.word || keeps e.word
+  is_now : (r : Step) → step_for process_chart e.word ≡ Some r → occupies (state_of (instance_of e) (e ∷ h)) ≡ takes e.word || keeps e.word
   is_now r q = ap occupies (own ∙ rw q) ∙ enters_core e.word r q
 
   -- an event that is not on a core changes nothing
@@ -64,8 +64,8 @@ module _ (h : List Event) (e : Event) (f : Passed h e) (p : is_process e.kind �
 
       by_step : (o : Option Step) → step_for process_chart e.word ≡ o → (takes e.word ≡ false) × (gives e.word ≡ false) × (keeps e.word ≡ false) →
           occupies (state_of (instance_of e) (e ∷ h)) ≡ occupies (state_of (instance_of e) h)
-      by_step none k w = ap occupies (own ∙ rw k)
-      by_step (some r) k w = is_now r k ∙ rw (w.0, w.2) (sym (was_free r k (rw (w.1, w.2))))
+      by_step None k w = ap occupies (own ∙ rw k)
+      by_step (Some r) k w = is_now r k ∙ rw (w.0, w.2) (sym (was_free r k (rw (w.1, w.2))))
 
   -- a word that takes finds its instance on no core
   was_off : takes e.word ≡ true → occupies (state_of (instance_of e) h) ≡ false
@@ -74,8 +74,8 @@ module _ (h : List Event) (e : Event) (f : Passed h e) (p : is_process e.kind �
     where
       by_step : (s : Option Step) → step_for process_chart e.word ≡ s → (gives e.word ≡ false) × (keeps e.word ≡ false) × (is_step (step_for process_chart e.word) ≡ true) →
           occupies (state_of (instance_of e) h) ≡ false
-      by_step none k w = let z = w.2 in cc
-      by_step (some r) k w = was_free r k (rw (w.0, w.1))
+      by_step None k w = let z = w.2 in cc
+      by_step (Some r) k w = was_free r k (rw (w.0, w.1))
 
   -- an event on a core leaves its instance on a core exactly if it does not give it
   on_a_core : Sort e.word → occupies (state_of (instance_of e) (e ∷ h)) ≡ not (gives e.word)
@@ -83,12 +83,12 @@ module _ (h : List Event) (e : Event) (f : Passed h e) (p : is_process e.kind �
   on_a_core s = by_step (step_for process_chart e.word) refl s
     where
       by_step : (o : Option Step) → step_for process_chart e.word ≡ o → Sort e.word → occupies (state_of (instance_of e) (e ∷ h)) ≡ not (gives e.word)
-      by_step none k (taker t g) = let w = (takes_only e.word t).2 in cc
-      by_step none k (giver g t) = let w = (gives_only e.word g).2 in cc
-      by_step none k (keeper u t g) = let w = (keeps_only e.word u).2 in cc
-      by_step (some r) k (taker t g) = is_now r k ∙ rw (t, g)
-      by_step (some r) k (giver g t) = is_now r k ∙ rw ((gives_only e.word g).0, (gives_only e.word g).1, g)
-      by_step (some r) k (keeper u t g) = is_now r k ∙ rw (t, u, g)
+      by_step None k (taker t g) = let w = (takes_only e.word t).2 in cc
+      by_step None k (giver g t) = let w = (gives_only e.word g).2 in cc
+      by_step None k (keeper u t g) = let w = (keeps_only e.word u).2 in cc
+      by_step (Some r) k (taker t g) = is_now r k ∙ rw (t, g)
+      by_step (Some r) k (giver g t) = is_now r k ∙ rw ((gives_only e.word g).0, (gives_only e.word g).1, g)
+      by_step (Some r) k (keeper u t g) = is_now r k ∙ rw (t, u, g)
 
 -- ---- the event's core and instance before it: the instance is on no core and nobody holds the core, or it holds this one
 

@@ -1,8 +1,8 @@
 -- A rule that asks each event of the latest one like it: it is never broken exactly if the events that are alike are a chain, whichever they are.
+use Rattle.std.proofs.Common.{Option, None, Some}
 use mathlib.Core.Path.{◌≡◌, refl, sym, subst}
 use mathlib.Core.Logic.{◌↔◌}
 use mathlib.Core.Bool.{Bool, true, false}
-use mathlib.Core.Option.{Option, none, some}
 use mathlib.Core.List.{List, [], ◌∷◌}
 use Prim.Native.Nat.{ℕ}
 use Rattle.rules.specs.Lists.{only, keep, when, or_else, latest}
@@ -15,15 +15,15 @@ use Rattle.rules.proofs.Tests.{clash}
 -- `value` is what an event leaves for the next one like it, and `follows` what is asked of that one
 module _ (value : Event → ℕ) (follows : ℕ → Event → Type 0) where
   abbrev pub After : Option ℕ → Event → Type 0
-  After none e = Unit {0}
-  After (some c) e = follows c e
+  After None e = Unit {0}
+  After (Some c) e = follows c e
 
   abbrev pub Linked : List Event → Type 0
   Linked = Chain (λ d e. follows (value d) e)
 
   newest : List Event → Option ℕ
-  newest [] = none
-  newest (d ∷ ds) = some (value d)
+  newest [] = None
+  newest (d ∷ ds) = Some (value d)
 
   linked_more : (e : Event) (ds : List Event) → Linked (e ∷ ds) ↔ (After (newest ds) e × Linked ds)
   unfolding newest

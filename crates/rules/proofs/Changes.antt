@@ -1,7 +1,7 @@
 -- What one event changes: the state of its own instance and of no other, its first word where it has none yet, and what its own core is and no other.
+use Rattle.std.proofs.Common.{Some}
 use mathlib.Core.Path.{◌≡◌}
 use mathlib.Core.Bool.{true, false}
-use mathlib.Core.Option.{some}
 use mathlib.Core.List.{List, ◌∷◌}
 use Prim.Native.Nat.{ℕ}
 use Rattle.text.proofs.Words.{same_refl}
@@ -21,7 +21,7 @@ state_own e h = rw (instance_refl (instance_of e))
 pub first_other : (y : Instance) (e : Event) (h : List Event) → same_instance y (instance_of e) ≡ false → first_word y (e ∷ h) ≡ first_word y h
 first_other y e h q = rw q
 
-pub first_own : (e : Event) (h : List Event) → first_word (instance_of e) (e ∷ h) ≡ or_else (first_word (instance_of e) h) (some e.word)
+pub first_own : (e : Event) (h : List Event) → first_word (instance_of e) (e ∷ h) ≡ or_else (first_word (instance_of e) h) (Some e.word)
 first_own e h = rw (instance_refl (instance_of e))
 
 pub core_other : (c : List ℕ) (e : Event) (h : List Event) → on c e ≡ false → core_at c (e ∷ h) ≡ core_at c h

@@ -1,8 +1,8 @@
 -- A process's charge is the sum over its cores and at most 64 spans; a core's held ticks are the sum over the processes; and so all charges add up to
 -- all held ticks.
+use Rattle.std.proofs.Common.{Some}
 use mathlib.Core.Path.{◌≡◌, refl, sym, ap, subst, ◌∙◌}
 use mathlib.Core.Bool.{Bool, true, false}
-use mathlib.Core.Option.{some}
 use mathlib.Core.List.{List, [], ◌∷◌}
 use Prim.Native.Nat.{ℕ, ◌*◌, ◌≤◌}
 use native.Mathlib.Nat.{mul-le-mul_left, mul-le-mul_right}
@@ -105,13 +105,13 @@ one_holder c g h s a (held x) t =
     ∙ names_once h x.name
     ∙ ap one_if (named_kind h x.name x.kind kind (any (same_bytes x.name) (names h)) refl)
   where
-    kind : kind_of x.name h ≡ some x.kind
+    kind : kind_of x.name h ≡ Some x.kind
     kind = still_kind x.name x.kind g h s a t.1
 
     another : (p : List ℕ) → is_kind is_process (kind_of p h) ≡ false → (b : Bool) → same_bytes p x.name ≡ b → b ≡ false
     another p q false u = refl
     another p q true u =
-        sym t.2 ∙ ap (is_kind is_process) (sym (subst (λ (n : List ℕ). kind_of n h ≡ some x.kind) (sym (same_eq p x.name u)) kind)) ∙ q
+        sym t.2 ∙ ap (is_kind is_process) (sym (subst (λ (n : List ℕ). kind_of n h ≡ Some x.kind) (sym (same_eq p x.name u)) kind)) ∙ q
 
 -- A core's held ticks are the sum over the processes.
 pub held_by_process : (h : List Event) → Accepted h → (c : List ℕ) → sum_over (λ p. charge_on p c h) (processes h) ≡ held_ticks c h

@@ -1,9 +1,9 @@
 -- THE CHART FACT, over any table of steps: the test made event by event holds at every event exactly if some start state begins a run through the whole
 -- sequence. And what it says of a history: no event was off its chart exactly if each instance's events are such a run.
+use Rattle.std.proofs.Common.{Option, None, Some}
 use mathlib.Core.Path.{◌≡◌, refl, sym, ap, subst}
 use mathlib.Core.Logic.{◌↔◌}
 use mathlib.Core.Bool.{Bool, true, false, not}
-use mathlib.Core.Option.{Option, none, some}
 use mathlib.Core.List.{List, [], ◌∷◌}
 use Prim.Native.Nat.{ℕ}
 use borrow.Author.Tests.{eq-eqb, not-false}
@@ -18,15 +18,15 @@ use Rattle.rules.proofs.Tests.{both, and_true, instance_true, instance_refl}
 module _ (t : List Step) where
   -- before the first step any state will do; after it the run is in the state that the latest step entered
   Reached : List ℕ → Option ℕ → Type 0
-  Reached ws none = (s : ℕ) → Run t s ws s
-  Reached ws (some m) = (s : ℕ) × Run t s ws m
+  Reached ws None = (s : ℕ) → Run t s ws s
+  Reached ws (Some m) = (s : ℕ) × Run t s ws m
 
   extend : (a : ℕ) (ws : List ℕ) (p : Option Step) → step_for t a ≡ p → (o : Option ℕ) → Reached ws o → allowed_by p o ≡ true → Reached (a ∷ ws) (or_else (entered p) o)
   unfolding Reached
-  extend a ws none q none f k = λ s. other q (f s)
-  extend a ws none q (some m) f k = (f.0, other q f.1)
-  extend a ws (some r) q none f k = (r.first, next {m = r.first} q (rw (eq-eqb r.first r.first refl)) (f r.first))
-  extend a ws (some r) q (some m) f k = (f.0, next q k f.1)
+  extend a ws None q None f k = λ s. other q (f s)
+  extend a ws None q (Some m) f k = (f.0, other q f.1)
+  extend a ws (Some r) q None f k = (r.first, next {m = r.first} q (rw (eq-eqb r.first r.first refl)) (f r.first))
+  extend a ws (Some r) q (Some m) f k = (f.0, next q k f.1)
 
   reach : (ws : List ℕ) → follows t ws ≡ true → Reached ws (state_after t ws)
   unfolding Reached
@@ -37,13 +37,13 @@ module _ (t : List Step) where
 
   some_run : (ws : List ℕ) (o : Option ℕ) → Reached ws o → (s : ℕ) × (n : ℕ) × Run t s ws n
   unfolding Reached
-  some_run ws none f = (0, 0, f 0)
-  some_run ws (some m) f = (f.0, m, f.1)
+  some_run ws None f = (0, 0, f 0)
+  some_run ws (Some m) f = (f.0, m, f.1)
 
   -- the latest state entered, if there is one, is the one that the run is in
   In : ℕ → Option ℕ → Type 0
-  In m none = Unit {0}
-  In m (some k) = k ≡ m
+  In m None = Unit {0}
+  In m (Some k) = k ≡ m
 
   in_state : {s m : ℕ} {ws : List ℕ} → Run t s ws m → In m (state_after t ws)
   unfolding In
@@ -51,10 +51,10 @@ module _ (t : List Step) where
   in_state (other q p) = rw q (in_state p)
   in_state (next q l p) = rw q refl
 
-  may_leave : (r : Step) (m : ℕ) (o : Option ℕ) → leaves r m ≡ true → In m o → allowed_by (some r) o ≡ true
+  may_leave : (r : Step) (m : ℕ) (o : Option ℕ) → leaves r m ≡ true → In m o → allowed_by (Some r) o ≡ true
   unfolding In
-  may_leave r m none l i = refl
-  may_leave r m (some k) l i = subst (λ (n : ℕ). allowed_by (some r) (some n) ≡ true) (sym i) l
+  may_leave r m None l i = refl
+  may_leave r m (Some k) l i = subst (λ (n : ℕ). allowed_by (Some r) (Some n) ≡ true) (sym i) l
 
   run_follows : {s m : ℕ} {ws : List ℕ} → Run t s ws m → follows t ws ≡ true
   run_follows begin = refl

@@ -1,8 +1,8 @@
 -- The core rule as a run: no event breaks the rule 13 exactly if the events on each core are a run from unknown; and such a run ends in what the core is.
+use Rattle.std.proofs.Common.{Option, None, Some}
 use mathlib.Core.Path.{◌≡◌, refl, sym, ap, subst}
 use mathlib.Core.Logic.{◌↔◌}
 use mathlib.Core.Bool.{Bool, true, false, not, ◌&&◌}
-use mathlib.Core.Option.{Option, none, some}
 use mathlib.Core.List.{List, [], ◌∷◌}
 use Prim.Native.Nat.{ℕ}
 use borrow.Author.Tests.{not-false}
@@ -19,9 +19,9 @@ use Rattle.rules.proofs.CoreWords.{takes_only, gives_only, keeps_only, Sort, tak
 
 -- ---- what the rule asks of the core
 
-pub unseen_none : (o : Option ℕ) → unseen o ≡ true → o ≡ none
-unseen_none none q = refl
-unseen_none (some s) q = cc
+pub unseen_none : (o : Option ℕ) → unseen o ≡ true → o ≡ None
+unseen_none None q = refl
+unseen_none (Some s) q = cc
 
 serves_free : (k : Core) (b : Bool) (x : Instance) → serves k true b x ≡ true → Free k
 serves_free unknown b x q = free_unknown

@@ -1,7 +1,7 @@
 -- The words that take, give and keep a core, against the process chart: by computed tests over the chart's steps and the words' lists.
+use Rattle.std.proofs.Common.{Option, None, Some}
 use mathlib.Core.Path.{◌≡◌, refl, sym, ap, subst, ◌∙◌}
 use mathlib.Core.Bool.{Bool, true, false, not, ◌&&◌, ◌||◌, beq}
-use mathlib.Core.Option.{Option, none, some}
 use mathlib.Core.List.{List, [], ◌∷◌}
 use Prim.Native.Nat.{ℕ}
 use lib.Dec.{eqb}
@@ -26,13 +26,13 @@ of_member f a (x ∷ xs) t m =
     by_test true q m k r = subst (λ (n : ℕ). f n ≡ true) (sym (eqb-true a x q)) k
     by_test false q m k r = r m
 
-pub of_step : (f : Step → Bool) (t : List Step) → all f t ≡ true → (a : ℕ) (r : Step) → step_for t a ≡ some r → (f r ≡ true) × (a ≡ r.word)
+pub of_step : (f : Step → Bool) (t : List Step) → all f t ≡ true → (a : ℕ) (r : Step) → step_for t a ≡ Some r → (f r ≡ true) × (a ≡ r.word)
 of_step f [] p a r q = (cc, cc)
 of_step f (s ∷ t) p a r q =
     let k = both (f s) (all f t) p in
     by_test (eqb a s.word) refl k.0 q (of_step f t k.1 a r)
   where
-    by_test : (b : Bool) → eqb a s.word ≡ b → f s ≡ true → or_else (when b s) (step_for t a) ≡ some r → (step_for t a ≡ some r → (f r ≡ true) × (a ≡ r.word)) →
+    by_test : (b : Bool) → eqb a s.word ≡ b → f s ≡ true → or_else (when b s) (step_for t a) ≡ Some r → (step_for t a ≡ Some r → (f r ≡ true) × (a ≡ r.word)) →
         (f r ≡ true) × (a ≡ r.word)
     by_test true e k q i = let z : s ≡ r = cc in (subst (λ (x : Step). f x ≡ true) z k, eqb-true a s.word e ∙ ap (λ (x : Step). x.word) z)
     by_test false e k q i = i q
@@ -48,34 +48,34 @@ beq_true false false q = refl
 -- a step enters RUNNING or POLLING exactly if its word takes or keeps a core, and leaves these exactly if it gives or keeps one
 agrees : Step → Bool
 agrees r =
-    beq (occupies (some r.enters)) (takes r.word || keeps r.word)
-    && all (λ s. beq (occupies (some s)) (gives r.word || keeps r.word)) (r.first ∷ r.others)
+    beq (occupies (Some r.enters)) (takes r.word || keeps r.word)
+    && all (λ s. beq (occupies (Some s)) (gives r.word || keeps r.word)) (r.first ∷ r.others)
 
 chart_agrees : all agrees process_chart ≡ true
 unfolding agrees process_chart occupies takes gives keeps
 chart_agrees = refl
 
-pub enters_core : (a : ℕ) (r : Step) → step_for process_chart a ≡ some r → occupies (some r.enters) ≡ takes a || keeps a
+pub enters_core : (a : ℕ) (r : Step) → step_for process_chart a ≡ Some r → occupies (Some r.enters) ≡ takes a || keeps a
 unfolding agrees
 enters_core a r q =
     let k = of_step agrees process_chart chart_agrees a r q in
-    subst (λ (w : ℕ). occupies (some r.enters) ≡ takes w || keeps w) (sym k.1)
-    (beq_true _ _ (both (beq (occupies (some r.enters)) (takes r.word || keeps r.word)) _ k.0).0)
+    subst (λ (w : ℕ). occupies (Some r.enters) ≡ takes w || keeps w) (sym k.1)
+    (beq_true _ _ (both (beq (occupies (Some r.enters)) (takes r.word || keeps r.word)) _ k.0).0)
 
-pub leaves_core : (a : ℕ) (r : Step) (s : ℕ) → step_for process_chart a ≡ some r → leaves r s ≡ true → occupies (some s) ≡ gives a || keeps a
+pub leaves_core : (a : ℕ) (r : Step) (s : ℕ) → step_for process_chart a ≡ Some r → leaves r s ≡ true → occupies (Some s) ≡ gives a || keeps a
 unfolding agrees
 leaves_core a r s q l =
     let k = of_step agrees process_chart chart_agrees a r q in
-    subst (λ (w : ℕ). occupies (some s) ≡ gives w || keeps w) (sym k.1)
+    subst (λ (w : ℕ). occupies (Some s) ≡ gives w || keeps w) (sym k.1)
     (beq_true _ _
-    (of_member (λ z. beq (occupies (some z)) (gives r.word || keeps r.word)) s (r.first ∷ r.others)
-    (both (beq (occupies (some r.enters)) (takes r.word || keeps r.word)) _ k.0).1 l))
+    (of_member (λ z. beq (occupies (Some z)) (gives r.word || keeps r.word)) s (r.first ∷ r.others)
+    (both (beq (occupies (Some r.enters)) (takes r.word || keeps r.word)) _ k.0).1 l))
 
 -- ---- a core word is of one sort, and the chart has a step for it
 
 unfoldable pub is_step : Option Step → Bool
-is_step none = false
-is_step (some r) = true
+is_step None = false
+is_step (Some r) = true
 
 pub takes_only : (a : ℕ) → takes a ≡ true → (gives a ≡ false) × (keeps a ≡ false) × (is_step (step_for process_chart a) ≡ true)
 unfolding process_chart takes gives keeps is_step

@@ -1,7 +1,7 @@
 -- Which instances need an entry (02, No. 7): an event changes that of its own instance alone, so that there is one more entry or one less at most.
+use Rattle.std.proofs.Common.{Option, None, Some}
 use mathlib.Core.Path.{◌≡◌, refl, sym, ap, ◌∙◌}
 use mathlib.Core.Bool.{Bool, true, false, not, ◌&&◌, and-false, and-true}
-use mathlib.Core.Option.{Option, none, some}
 use mathlib.Core.List.{List, [], ◌∷◌, ◌++◌}
 use Prim.Native.Nat.{ℕ, ◌+◌}
 use native.Mathlib.Omega.{arith}
@@ -48,17 +48,17 @@ pub unnumbered : (k : ℕ) (n : List ℕ) (i : ℕ) → has_instances k ≡ fals
 unnumbered k n i q h = by_first (first_number k n h) refl
   where
     by_first : (o : Option ℕ) → first_number k n h ≡ o → reaches o i ≡ false
-    by_first none p = refl
-    by_first (some f) p = absurd (clash _ (numbered_instances h k n f p) q)
+    by_first None p = refl
+    by_first (Some f) p = absurd (clash _ (numbered_instances h k n f p) q)
 
 -- ---- what it is that an instance needs none
 
-is_terminated_lem : (o : Option ℕ) → is_terminated o ≡ true → o ≡ some TERMINATED
-is_terminated_lem none q = absurd (clash false q refl)
-is_terminated_lem (some s) q = ap some (eqb-true s TERMINATED q)
+is_terminated_lem : (o : Option ℕ) → is_terminated o ≡ true → o ≡ Some TERMINATED
+is_terminated_lem None q = absurd (clash false q refl)
+is_terminated_lem (Some s) q = ap Some (eqb-true s TERMINATED q)
 
 pub record GivenBack (h : List Event) (x : Instance) : Type 0 where
-  pub terminated : state_of x h ≡ some TERMINATED
+  pub terminated : state_of x h ≡ Some TERMINATED
   pub reached : reaches (first_number x.kind x.name h) x.number ≡ true
 
 pub given_back : (h : List Event) (x : Instance) → needs_entry h x ≡ false → GivenBack h x
@@ -68,7 +68,7 @@ given_back h x q =
     record { terminated = is_terminated_lem (state_of x h) r.0; reached = r.1 }
 
 -- "all are, while it has none"
-pub none_given_back : (h : List Event) (x : Instance) → first_number x.kind x.name h ≡ none → has_entry h x ≡ any (same_instance x) (instances h)
+pub none_given_back : (h : List Event) (x : Instance) → first_number x.kind x.name h ≡ None → has_entry h x ≡ any (same_instance x) (instances h)
 unfolding needs_entry
 none_given_back h x q =
     entry_exactly h x ∙ rw (q, and-false (is_terminated (state_of x h))) (and-true (any (same_instance x) (instances h)))
@@ -82,7 +82,7 @@ module _ (h : List Event) (e : Event) (next : not_next (look h e) e ≡ false) w
   next_holds t = not-false _ (rw t at next)
 
   -- as the first one it is above all that were seen
-  above_seen : (y : Instance) → Numbers y.kind y.name e → first_number y.kind y.name h ≡ none → any (same_instance y) (instances h) ≡ true → leb e.target_instance y.number ≡ false
+  above_seen : (y : Instance) → Numbers y.kind y.name e → first_number y.kind y.name h ≡ None → any (same_instance y) (instances h) ≡ true → leb e.target_instance y.number ≡ false
   unfolding above_all last_number first_number
   above_seen y n f l = is_false _ (λ q.
       let none_before = none_later (λ d. when (numbers e.kind e.target d) d.target_instance) h (rw (n.of_kind, n.of_name) at f) in
@@ -96,13 +96,13 @@ module _ (h : List Event) (e : Event) (next : not_next (look h e) e ≡ false) w
   unfolding first_number
   reached_as_before y l = by_first (first_number y.kind y.name h) refl
     where
-      by_numbers : first_number y.kind y.name h ≡ none → (b : Bool) → numbers y.kind y.name e ≡ b → reaches (when b e.target_instance) y.number ≡ false
+      by_numbers : first_number y.kind y.name h ≡ None → (b : Bool) → numbers y.kind y.name e ≡ b → reaches (when b e.target_instance) y.number ≡ false
       by_numbers f true q = above_seen y (what_numbers y.kind y.name e q) f l
       by_numbers f false q = refl
 
       by_first : (o : Option ℕ) → first_number y.kind y.name h ≡ o → reaches (or_else o (when (numbers y.kind y.name e) e.target_instance)) y.number ≡ reaches o y.number
-      by_first (some f) q = refl
-      by_first none q = by_numbers q (numbers y.kind y.name e) refl
+      by_first (Some f) q = refl
+      by_first None q = by_numbers q (numbers y.kind y.name e) refl
 
   pub needs_else : (y : Instance) → same_instance y (instance_of e) ≡ false → needs_entry (e ∷ h) y ≡ needs_entry h y
   unfolding needs_entry

@@ -1,9 +1,9 @@
 -- A trace is sound exactly if it is lawful (demand 2): each rule that is tested event by event against what is known is never broken exactly if its clause
 -- holds of the list of all events.
+use Rattle.std.proofs.Common.{Option, None, Some}
 use mathlib.Core.Path.{◌≡◌, refl, ap}
 use mathlib.Core.Logic.{◌↔◌}
 use mathlib.Core.Bool.{Bool, true, false, not, ◌&&◌, cond}
-use mathlib.Core.Option.{Option, none, some}
 use mathlib.Core.List.{List, [], ◌∷◌}
 use Prim.Native.Nat.{ℕ, ◌+◌, ◌≤◌}
 use lib.Dec.{eqb}
@@ -59,12 +59,12 @@ number_halves k e = by_test (activates e.kind e.word) k.number k.above
     by_test : (b : Bool) (o : Option ℕ) (above : Bool) → (b && not (is_next o above e.target_instance) ≡ false)
         ↔ ((b && not (is_next o true e.target_instance) ≡ false) × (b && (unseen o && not above) ≡ false))
     by_test false o above = (λ q. (refl, refl), λ p. refl)
-    by_test true none above = (λ q. (refl, q), λ p. p.1)
-    by_test true (some m) above = (λ q. (q, refl), λ p. p.0)
+    by_test true None above = (λ q. (refl, q), λ p. p.1)
+    by_test true (Some m) above = (λ q. (q, refl), λ p. p.0)
 
 next_after : (o : Option ℕ) (e : Event) → (is_next o true e.target_instance ≡ true) ↔ After (λ d. d.target_instance) NextTo o e
-next_after none e = (λ q. tt, λ a. refl)
-next_after (some m) e = (eqb-true e.target_instance (m + 1), eq-eqb e.target_instance (m + 1))
+next_after None e = (λ q. tt, λ a. refl)
+next_after (Some m) e = (eqb-true e.target_instance (m + 1), eq-eqb e.target_instance (m + 1))
 
 number_asks : (h : List Event) (e : Event) → (out_of_step (look h e) e ≡ false) ↔ NumberAsked h e
 unfolding out_of_step numbers last_number
@@ -106,7 +106,7 @@ lives_exactly h =
 -- ---- 14: counts, by name
 
 abbrev CountTo : ℕ → Event → Type 0
-CountTo c e = count_follows (some c) e.word e.count ≡ true
+CountTo c e = count_follows (Some c) e.word e.count ≡ true
 
 abbrev CountAsked : List Event → Event → Type 0
 CountAsked = Asked (λ d. d.count) CountTo counts (λ d. d.target)
@@ -117,8 +117,8 @@ out_of_count k e = eqb e.kind semaphore && not (count_follows k.count e.word e.c
 
 count_after : (o : Option ℕ) (e : Event) → (count_follows o e.word e.count ≡ true) ↔ After (λ d. d.count) CountTo o e
 unfolding count_follows
-count_after none e = (λ q. tt, λ a. refl)
-count_after (some c) e = (λ q. q, λ a. a)
+count_after None e = (λ q. tt, λ a. refl)
+count_after (Some c) e = (λ q. q, λ a. a)
 
 count_asks : (h : List Event) (e : Event) → (out_of_count (look h e) e ≡ false) ↔ CountAsked h e
 unfolding out_of_count counts last_count

@@ -1,8 +1,8 @@
 -- A short history and after it n starts of instances of one runnable: n entries more, and what is asked of any other name is as the short history has it. By these laws the answers
 -- at 1,023 and 1,024 entries are computed in one walk of the history.
+use Rattle.std.proofs.Common.{None}
 use mathlib.Core.Path.{◌≡◌, refl, ap, ◌∙◌}
 use mathlib.Core.Bool.{Bool, true, false, not, ◌&&◌, and-false}
-use mathlib.Core.Option.{none}
 use mathlib.Core.List.{List, [], ◌∷◌}
 use Prim.Native.Nat.{ℕ, zero, suc, ◌+◌, ◌-◌, ◌≤◌, ◌<◌}
 use native.Mathlib.Omega.{arith}
@@ -48,7 +48,7 @@ ended es n j = of_runnable j terminate ∷ filled es n
 pub record Strange (es : List Event) : Type 0 where
   pub unlisted : (m : ℕ) → any (same_instance (numbered m)) (instances es) ≡ false
   pub none_from : any (is_from runnable (bytes "r") 0) (instances es) ≡ false
-  pub unnumbered : last_number runnable (bytes "r") es ≡ none
+  pub unnumbered : last_number runnable (bytes "r") es ≡ None
 
 module _ (es : List Event) (s : Strange es) where
   -- an instance of a higher number is none of them, and one of a lower is

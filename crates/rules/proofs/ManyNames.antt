@@ -1,8 +1,8 @@
 -- A history of n events that each bring a new runnable tracks n names, no core and at most n instances. By these laws the answers after 255 and 256 names
 -- are computed in one walk of the history; by the definitions alone the checker would compare every two names.
+use Rattle.std.proofs.Common.{None}
 use mathlib.Core.Path.{◌≡◌, refl, ap, ◌∙◌}
 use mathlib.Core.Bool.{Bool, true, false, ◌&&◌, ◌||◌, cond, or-false}
-use mathlib.Core.Option.{none}
 use mathlib.Core.List.{List, [], ◌∷◌}
 use Prim.Native.Nat.{ℕ, zero, suc, ◌+◌, ◌≤◌, ◌<◌}
 use native.Mathlib.Omega.{arith}
@@ -91,7 +91,7 @@ no_core zero x = refl
 no_core (suc n) x = by_test (same_bytes x (n ∷ [])) (no_core n x)
   where
     by_test : (b : Bool) → is_kind (eqb core) (kind_of x (many new_name n)) ≡ false →
-        is_kind (eqb core) (or_else (or_else (when b runnable) none) (kind_of x (many new_name n))) ≡ false
+        is_kind (eqb core) (or_else (or_else (when b runnable) None) (kind_of x (many new_name n))) ≡ false
     by_test true q = refl
     by_test false q = q
 
@@ -106,7 +106,7 @@ cores_many n = only_none (λ x. is_kind (eqb core) (kind_of x (many new_name n))
 
 module _ (x : List ℕ) where
   -- one that is none of them has no number and was not seen
-  unnumbered : (n : ℕ) → ((i : ℕ) → i < n → same_bytes x (i ∷ []) ≡ false) → last_number runnable x (many new_name n) ≡ none
+  unnumbered : (n : ℕ) → ((i : ℕ) → i < n → same_bytes x (i ∷ []) ≡ false) → last_number runnable x (many new_name n) ≡ None
   unfolding last_number numbers activates is_process
   unnumbered zero q = refl
   unnumbered (suc n) q = rw (q n (omega arith)) (unnumbered n (λ i h. q i (omega (arith, h))))

@@ -1,5 +1,6 @@
 -- Where lines and rules meet: a line that reads as an event becomes an event whose word is one of its type for these rules, and whose numbers are
 -- within their sizes. So the rules see no word that its chart lacks, but for the requests of a semaphore.
+use Rattle.std.proofs.Common.{None, Some, Option}
 use mathlib.Core.Path.{◌≡◌, refl, subst}
 use mathlib.Core.Bool.{Bool, true, false, not, ◌&&◌, ◌||◌, cond, and-false}
 use mathlib.Core.List.{List, [], ◌∷◌}
@@ -10,8 +11,6 @@ use lib.ListN.{length}
 use borrow.Author.Tests.{le-ltb}
 use Rattle.text.specs.Name.{is_name}
 use Rattle.text.specs.Number.{number_of}
-use Rattle.text.specs.declared.number.Number.{Number}
-use Rattle.text.specs.declared.number.Number.TheVariants.{Value, Bad}
 use Rattle.text.specs.Sizes.{max_time, name_limit, core_limit}
 use Rattle.text.specs.Lists.{any, all}
 use Rattle.text.proofs.Digits.{read_written}
@@ -21,8 +20,6 @@ use Rattle.words.specs.declared.action.Action.{Action}
 use Rattle.words.specs.Action.{action_code, actions_of, among, is_of}
 use Rattle.words.proofs.Actions.{actions, every}
 use Rattle.fields.specs.Part.{field_of}
-use Rattle.forms.specs.declared.note.Note.{Note}
-use Rattle.forms.specs.declared.note.Note.TheVariants.{Means, Wrong}
 use Rattle.forms.specs.Note.{max_instance, as_count, count_note, is_signal, signal_note, note_of}
 use Rattle.line.specs.declared.event.Event.{Event as ReadEvent}
 use Rattle.line.specs.declared.reading.Reading.{Reading}
@@ -78,9 +75,9 @@ tested Semaphore = refl
 
 -- ---- the count: at most "4,294,967,295", and 0 but for SEM
 
-abbrev Counted : Kind → Note → Type 0
-Counted k (Means n) = (n ≤ max_instance) × (eqb (kind_number k) semaphore ≡ false → n ≡ 0)
-Counted k Wrong = Unit {0}
+abbrev Counted : Kind → Option ℕ → Type 0
+Counted k (Some n) = (n ≤ max_instance) × (eqb (kind_number k) semaphore ≡ false → n ≡ 0)
+Counted k None = Unit {0}
 
 counted : (k : Kind) (s : List ℕ) → Counted k (note_of k s)
 unfolding note_of count_note signal_note kind_number
@@ -93,14 +90,14 @@ counted Scheduler (x ∷ s) = (omega arith, λ o. refl)
 counted OsEvent (x ∷ s) = (omega arith, λ o. refl)
 counted Signal (x ∷ s) = by_form (is_signal (x ∷ s))
   where
-    by_form : (b : Bool) → Counted Signal (cond b (Means 0) Wrong)
+    by_form : (b : Bool) → Counted Signal (cond b (Some 0) None)
     by_form true = (omega arith, λ o. refl)
     by_form false = tt
 counted Semaphore (x ∷ s) = by_number (number_of (x ∷ s) max_instance) refl
   where
-    by_number : (n : Number) → number_of (x ∷ s) max_instance ≡ n → Counted Semaphore (as_count n)
-    by_number (Value v) q = ((read_written (x ∷ s) max_instance v q).1, λ o. cc)
-    by_number Bad q = tt
+    by_number : (n : Option ℕ) → number_of (x ∷ s) max_instance ≡ n → Counted Semaphore (as_count n)
+    by_number (Some v) q = ((read_written (x ∷ s) max_instance v q).1, λ o. cc)
+    by_number None q = tt
 
 -- ---- a line
 

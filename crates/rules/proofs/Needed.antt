@@ -1,7 +1,7 @@
 -- Whether the event's own instance needs an entry: a line that needs one more brings one more, and where it breaks neither 11 nor 12, a line that brings one more needs one (02, No. 7).
+use Rattle.std.proofs.Common.{Option, None, Some}
 use mathlib.Core.Path.{◌≡◌, refl, sym, ap, ◌∙◌}
 use mathlib.Core.Bool.{Bool, true, false, not, ◌&&◌, ◌||◌, and-false}
-use mathlib.Core.Option.{Option, none, some}
 use mathlib.Core.List.{List, [], ◌∷◌}
 use Prim.Native.Nat.{ℕ, ◌+◌, ◌≤◌}
 use native.Mathlib.Omega.{arith}
@@ -25,32 +25,32 @@ use Rattle.rules.proofs.Terminated.{from_terminated, enters_terminated, exceedin
 use Rattle.rules.proofs.Entries.{entry_exactly, listed, unnumbered, GivenBack, given_back, next_holds}
 
 -- the first number is not above the last
-pub first_low : (h : List Event) → Never not_next h → (k : ℕ) (n : List ℕ) (f m : ℕ) → first_number k n h ≡ some f → last_number k n h ≡ some m → f ≤ m
+pub first_low : (h : List Event) → Never not_next h → (k : ℕ) (n : List ℕ) (f m : ℕ) → first_number k n h ≡ Some f → last_number k n h ≡ Some m → f ≤ m
 unfolding first_number last_number
 first_low [] c k n f m p q = absurd (no_value (sym p))
 first_low (e ∷ h) c k n f m p q = by_numbers (numbers k n e) refl p q (first_low h c.1 k n)
   where
     Before : Type 0
-    Before = (f m : ℕ) → first_number k n h ≡ some f → last_number k n h ≡ some m → f ≤ m
+    Before = (f m : ℕ) → first_number k n h ≡ Some f → last_number k n h ≡ Some m → f ≤ m
 
     -- the activation bears the number of the one before plus 1
-    next : Numbers k n e → (m : ℕ) → last_number k n h ≡ some m → e.target_instance ≡ m + 1
+    next : Numbers k n e → (m : ℕ) → last_number k n h ≡ Some m → e.target_instance ≡ m + 1
     next w m l = eqb-true _ _ (rw (rw (w.of_kind, w.of_name) at l) at (next_holds h e c.0 w.activation))
 
-    by_last : Numbers k n e → (o : Option ℕ) → last_number k n h ≡ o → first_number k n h ≡ some f → some e.target_instance ≡ some m → Before → f ≤ m
-    by_last w none l p q i = absurd (no_value (sym p ∙ none_earlier (λ d. when (numbers k n d) d.target_instance) h l))
-    by_last w (some u) l p q i = let z : e.target_instance ≡ m = cc in omega (arith, next w u l, i f u p l)
+    by_last : Numbers k n e → (o : Option ℕ) → last_number k n h ≡ o → first_number k n h ≡ Some f → Some e.target_instance ≡ Some m → Before → f ≤ m
+    by_last w None l p q i = absurd (no_value (sym p ∙ none_earlier (λ d. when (numbers k n d) d.target_instance) h l))
+    by_last w (Some u) l p q i = let z : e.target_instance ≡ m = cc in omega (arith, next w u l, i f u p l)
 
-    by_first : Numbers k n e → (o : Option ℕ) → first_number k n h ≡ o → or_else o (some e.target_instance) ≡ some f → some e.target_instance ≡ some m → Before → f ≤ m
-    by_first w none r p q i = let z : f ≡ m = cc in omega (arith, z)
-    by_first w (some g) r p q i = by_last w (last_number k n h) refl (r ∙ p) q i
+    by_first : Numbers k n e → (o : Option ℕ) → first_number k n h ≡ o → or_else o (Some e.target_instance) ≡ Some f → Some e.target_instance ≡ Some m → Before → f ≤ m
+    by_first w None r p q i = let z : f ≡ m = cc in omega (arith, z)
+    by_first w (Some g) r p q i = by_last w (last_number k n h) refl (r ∙ p) q i
 
-    by_rest : (o : Option ℕ) → first_number k n h ≡ o → or_else o none ≡ some f → last_number k n h ≡ some m → Before → f ≤ m
-    by_rest none r p q i = absurd (no_value (sym p))
-    by_rest (some g) r p q i = i f m (r ∙ p) q
+    by_rest : (o : Option ℕ) → first_number k n h ≡ o → or_else o None ≡ Some f → last_number k n h ≡ Some m → Before → f ≤ m
+    by_rest None r p q i = absurd (no_value (sym p))
+    by_rest (Some g) r p q i = i f m (r ∙ p) q
 
-    by_numbers : (b : Bool) → numbers k n e ≡ b → or_else (first_number k n h) (when b e.target_instance) ≡ some f →
-        or_else (when b e.target_instance) (last_number k n h) ≡ some m → Before → f ≤ m
+    by_numbers : (b : Bool) → numbers k n e ≡ b → or_else (first_number k n h) (when b e.target_instance) ≡ Some f →
+        or_else (when b e.target_instance) (last_number k n h) ≡ Some m → Before → f ≤ m
     by_numbers true w p q i = by_first (what_numbers k n e w) (first_number k n h) refl p q i
     by_numbers false w p q i = by_rest (first_number k n h) refl p q i
 
@@ -66,12 +66,12 @@ module _ (h : List Event) (e : Event) where
   unfolding first_number
   first_kept t = rw (own_activation e, t) (by_first (first_number e.kind e.target h))
     where
-      by_first : (o : Option ℕ) → or_else o none ≡ o
-      by_first none = refl
-      by_first (some f) = refl
+      by_first : (o : Option ℕ) → or_else o None ≡ o
+      by_first None = refl
+      by_first (Some f) = refl
 
   -- the state after it, where its word is a step
-  entered_state : (r : Step) → step_for (chart_of e.kind) e.word ≡ some r → state_of own (e ∷ h) ≡ some r.enters
+  entered_state : (r : Step) → step_for (chart_of e.kind) e.word ≡ Some r → state_of own (e ∷ h) ≡ Some r.enters
   entered_state r q = state_own e h ∙ rw q
 
   -- an activation is TERMINATED after it exactly if it is mtalimitexceeded
@@ -80,8 +80,8 @@ module _ (h : List Event) (e : Event) where
   activated_state t = by_step (step_for (chart_of e.kind) e.word) refl (activation_step e.kind e.word t)
     where
       by_step : (o : Option Step) → step_for (chart_of e.kind) e.word ≡ o → is_step o ≡ true → is_terminated (state_of own (e ∷ h)) ≡ exceeds_limit e.kind e.word
-      by_step none q s = absurd (clash false s refl)
-      by_step (some r) q s =
+      by_step None q s = absurd (clash false s refl)
+      by_step (Some r) q s =
           ap is_terminated (entered_state r q) ∙ enters_terminated e.kind e.word r (activates_instances e.kind e.word t) q t
 
   -- ---- a line that needs one more brings one more
@@ -130,15 +130,15 @@ module _ (h : List Event) (e : Event) where
         let t = exceeding_activates e.kind e.word q in
         clash _ needs_now (rw (activated_state t, q, own_activation e, t, own_number e kinded) (ap not (by_first t before refl))))
       where
-        by_last : activates e.kind e.word ≡ true → (f : ℕ) → before ≡ some f → (o : Option ℕ) → last_number e.kind e.target h ≡ o →
+        by_last : activates e.kind e.word ≡ true → (f : ℕ) → before ≡ Some f → (o : Option ℕ) → last_number e.kind e.target h ≡ o →
             is_next o (above_all e.kind e.target e.target_instance h) e.target_instance ≡ true → leb f e.target_instance ≡ true
-        by_last t f p none l n = absurd (no_value (sym p ∙ none_earlier (λ d. when (numbers e.kind e.target d) d.target_instance) h l))
-        by_last t f p (some m) l n =
+        by_last t f p None l n = absurd (no_value (sym p ∙ none_earlier (λ d. when (numbers e.kind e.target d) d.target_instance) h l))
+        by_last t f p (Some m) l n =
             le-leb f e.target_instance (omega (arith, first_low h before-all e.kind e.target f m p l, eqb-true e.target_instance (m + 1) n))
 
-        by_first : activates e.kind e.word ≡ true → (o : Option ℕ) → before ≡ o → reaches (or_else o (some e.target_instance)) e.target_instance ≡ true
-        by_first t none p = le-leb e.target_instance e.target_instance (omega arith)
-        by_first t (some f) p = by_last t f p (last_number e.kind e.target h) refl (next_holds h e next t)
+        by_first : activates e.kind e.word ≡ true → (o : Option ℕ) → before ≡ o → reaches (or_else o (Some e.target_instance)) e.target_instance ≡ true
+        by_first t None p = le-leb e.target_instance e.target_instance (omega arith)
+        by_first t (Some f) p = by_last t f p (last_number e.kind e.target h) refl (next_holds h e next t)
 
     -- at the first number or above it, an event of an instance without an entry activates
     activates_anew : reaches before e.target_instance ≡ true → activates e.kind e.word ≡ true
@@ -155,10 +155,10 @@ module _ (h : List Event) (e : Event) where
         back t = given_back h own (sym (entry_exactly h own ∙ ap (λ (b : Bool). b && needs_entry h own) (stated_listed h own kinded (seen t))) ∙ had)
 
         by_step : activates e.kind e.word ≡ false → (o : Option Step) → step_for (chart_of e.kind) e.word ≡ o → ⊥
-        by_step t none q =
+        by_step t None q =
             clash _ needs_now
             (rw (state_own e h, q, (back t).terminated, first_kept t, own_number e kinded, r) refl)
-        by_step t (some s) q =
+        by_step t (Some s) q =
             clash _ (not-false _ (rw (back t).terminated at rules.0)) (from_terminated e.kind e.word kinded (rw q refl) ∙ t)
 
         by_test : (t : Bool) → activates e.kind e.word ≡ t → t ≡ true

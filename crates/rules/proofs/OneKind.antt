@@ -1,8 +1,8 @@
 -- No name comes in a second kind exactly if each is used in one kind all along.
+use Rattle.std.proofs.Common.{Option, None, Some}
 use mathlib.Core.Path.{◌≡◌, refl, sym, ap, subst}
 use mathlib.Core.Logic.{◌↔◌}
 use mathlib.Core.Bool.{Bool, true, false, not, ◌&&◌, ◌||◌}
-use mathlib.Core.Option.{Option, none, some}
 use mathlib.Core.List.{List, [], ◌∷◌}
 use Prim.Native.Nat.{ℕ}
 use lib.Dec.{eqb}
@@ -65,19 +65,19 @@ any_later f e h q = by_test (f e)
     by_test true = refl
     by_test false = q
 
-used_kind : (h : List Event) → Never second_kind h → (n : List ℕ) (k : ℕ) → any (uses n k) h ≡ true → kind_of n h ≡ some k
+used_kind : (h : List Event) → Never second_kind h → (n : List ℕ) (k : ℕ) → any (uses n k) h ≡ true → kind_of n h ≡ Some k
 used_kind [] c n k q = absurd (clash false q refl)
 used_kind (e ∷ h) c n k q = by_test (uses n k e) refl q (used_kind h c.1 n k)
   where
-    by_use : Use n k e → kind_of n (e ∷ h) ≡ some k
-    by_use (as_target t i w) = subst (λ (m : List ℕ). kind_of m (e ∷ h) ≡ some k) (sym w) (rw i (target_kind h e t))
-    by_use (as_core o i w) = subst (λ (m : List ℕ). kind_of m (e ∷ h) ≡ some k) (sym w) (rw i (source_kind h e c.0 o))
+    by_use : Use n k e → kind_of n (e ∷ h) ≡ Some k
+    by_use (as_target t i w) = subst (λ (m : List ℕ). kind_of m (e ∷ h) ≡ Some k) (sym w) (rw i (target_kind h e t))
+    by_use (as_core o i w) = subst (λ (m : List ℕ). kind_of m (e ∷ h) ≡ Some k) (sym w) (rw i (source_kind h e c.0 o))
 
-    by_test : (b : Bool) → uses n k e ≡ b → b || any (uses n k) h ≡ true → (any (uses n k) h ≡ true → kind_of n h ≡ some k) → kind_of n (e ∷ h) ≡ some k
+    by_test : (b : Bool) → uses n k e ≡ b → b || any (uses n k) h ≡ true → (any (uses n k) h ≡ true → kind_of n h ≡ Some k) → kind_of n (e ∷ h) ≡ Some k
     by_test true u q f = by_use (use_of n k e u)
     by_test false u q f = kind_stays h e c.0 n k (f q)
 
-kind_used : (h : List Event) (n : List ℕ) (k : ℕ) → kind_of n h ≡ some k → any (uses n k) h ≡ true
+kind_used : (h : List Event) (n : List ℕ) (k : ℕ) → kind_of n h ≡ Some k → any (uses n k) h ≡ true
 unfolding kind_in
 kind_used [] n k q = cc
 kind_used (e ∷ h) n k q = by_test (is_tracked e.kind && same_bytes n e.target) refl (on n e) refl q (λ r. any_later (uses n k) e h (kind_used h n k r))
@@ -86,7 +86,7 @@ kind_used (e ∷ h) n k q = by_test (is_tracked e.kind && same_bytes n e.target)
     used m j w i u = rw (subst (λ (x : List ℕ). uses x k e ≡ true) (sym w) (subst (λ (x : ℕ). uses m x e ≡ true) i u))
 
     by_test : (a : Bool) → is_tracked e.kind && same_bytes n e.target ≡ a → (b : Bool) → on n e ≡ b →
-        or_else (or_else (when a e.kind) (when b core)) (kind_of n h) ≡ some k → (kind_of n h ≡ some k → any (uses n k) (e ∷ h) ≡ true) → any (uses n k) (e ∷ h) ≡ true
+        or_else (or_else (when a e.kind) (when b core)) (kind_of n h) ≡ Some k → (kind_of n h ≡ Some k → any (uses n k) (e ∷ h) ≡ true) → any (uses n k) (e ∷ h) ≡ true
     by_test true t b u q f =
         let p = both (is_tracked e.kind) (same_bytes n e.target) t in
         let i : e.kind ≡ k = cc in
@@ -116,8 +116,8 @@ module _ (e : Event) (h : List Event) (one : OneKind (e ∷ h)) where
   no_other n k u = by_kind (kind_of n h) refl
     where
       by_kind : (o : Option ℕ) → kind_of n h ≡ o → differs o k ≡ false
-      by_kind none q = refl
-      by_kind (some j) q = ap not (eq-eqb j k (one n j k (any_later (uses n j) e h (kind_used h n j q)) (rw u)))
+      by_kind None q = refl
+      by_kind (Some j) q = ap not (eq-eqb j k (one n j k (any_later (uses n j) e h (kind_used h n j q)) (rw u)))
 
   two_names : on_core e ≡ true → same_bytes e.source e.target ≡ false
   two_names o = is_false (same_bytes e.source e.target) (λ q. by_names (same_eq e.source e.target q))

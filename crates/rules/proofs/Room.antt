@@ -1,9 +1,9 @@
 -- The names and cores of a history never get fewer where names keep their kinds; so that they fit at the end says that they fitted all along. The instances that need an
 -- entry may get fewer, and there is one more exactly where a line needs one.
+use Rattle.std.proofs.Common.{Option, None, Some}
 use mathlib.Core.Path.{◌≡◌, refl, sym, ap, ◌∙◌}
 use mathlib.Core.Logic.{◌↔◌}
 use mathlib.Core.Bool.{Bool, true, false, ◌&&◌, and-true}
-use mathlib.Core.Option.{Option, none, some}
 use mathlib.Core.List.{List, [], ◌∷◌, ◌++◌}
 use Prim.Native.Nat.{ℕ, ◌≤◌}
 use native.Mathlib.Omega.{arith}
@@ -74,8 +74,8 @@ module _ (h : List Event) (e : Event) (k : second_kind (look h e) e ≡ false) w
   core_stays n = by_kind (kind_of n h) refl
     where
       by_kind : (o : Option ℕ) → kind_of n h ≡ o → is_kind (eqb core) o ≡ true → is_kind (eqb core) (kind_of n (e ∷ h)) ≡ true
-      by_kind none q t = cc
-      by_kind (some j) q t = rw (kind_stays h e k n j q) t
+      by_kind None q t = cc
+      by_kind (Some j) q t = rw (kind_stays h e k n j q) t
 
   fits_before : Fits (e ∷ h) → Fits h
   unfolding names

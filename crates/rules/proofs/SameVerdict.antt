@@ -1,7 +1,7 @@
 -- "Whenever the old judge didn't answer 10, the new one gives the same verdict, and the same sheet." (02, No. 7) For an event, for a line after others, and for lists of lines.
+use Rattle.std.proofs.Common.{Option, None, Some}
 use mathlib.Core.Path.{◌≡◌, refl, sym, ap, ap₂, ◌∙◌}
 use mathlib.Core.Bool.{Bool, true, false, ◌&&◌, cond}
-use mathlib.Core.Option.{Option, none, some}
 use mathlib.Core.List.{List, [], ◌∷◌}
 use Prim.Native.Nat.{ℕ, zero, suc, ◌+◌, ◌≤◌}
 use native.Mathlib.Omega.{arith}
@@ -77,8 +77,8 @@ same_line h l = by_place (answer_in_place (place_of h) l) (event_of_line l)
     by_place : (n : ℕ) (o : Option Event) → (if_zero n (event_answer_by old_answer o (events_of h)) n ≡ 10 → ⊥) →
         if_zero n (event_answer_by answer o (events_of h)) n ≡ if_zero n (event_answer_by old_answer o (events_of h)) n
     by_place (suc n) o q = refl
-    by_place zero none q = refl
-    by_place zero (some e) q = same_answer (events_of h) e q
+    by_place zero None q = refl
+    by_place zero (Some e) q = same_answer (events_of h) e q
 
 -- ---- lists of lines
 

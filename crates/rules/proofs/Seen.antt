@@ -1,8 +1,8 @@
 -- An instance was seen exactly if it has a first word, and exactly if it is listed; and where the words of all events before are steps of their charts, exactly
 -- if it has a state.
+use Rattle.std.proofs.Common.{Option, None, Some}
 use mathlib.Core.Path.{◌≡◌, refl, sym, ap, subst, ◌∙◌}
 use mathlib.Core.Bool.{Bool, true, false, not, ◌||◌, cond, or-true, or-false}
-use mathlib.Core.Option.{Option, none, some}
 use mathlib.Core.List.{List, [], ◌∷◌}
 use Prim.Native.Nat.{ℕ}
 use lib.Dec.{eqb}
@@ -32,9 +32,9 @@ own_number e i = by_test (eqb e.kind semaphore) refl
 
 -- ---- listed
 
-now_first : (o : Option ℕ) (w : ℕ) → unseen (or_else o (some w)) ≡ false
-now_first none w = refl
-now_first (some a) w = refl
+now_first : (o : Option ℕ) (w : ℕ) → unseen (or_else o (Some w)) ≡ false
+now_first None w = refl
+now_first (Some a) w = refl
 
 pub first_listed : (h : List Event) (x : Instance) → has_instances x.kind ≡ true → unseen (first_word x h) ≡ not (any (same_instance x) (instances h))
 unfolding instances
@@ -62,24 +62,24 @@ first_listed (e ∷ h) x k = by_instance (same_instance x (instance_of e)) refl 
 -- ---- in a state
 
 -- an instance with no word has no state
-pub wordless : (h : List Event) (x : Instance) → first_word x h ≡ none → state_of x h ≡ none
+pub wordless : (h : List Event) (x : Instance) → first_word x h ≡ None → state_of x h ≡ None
 wordless h x n = by_words (words_of x h) n
   where
-    by_words : (ws : List ℕ) → earliest some ws ≡ none → latest (λ a. entered (step_for (chart_of x.kind) a)) ws ≡ none
+    by_words : (ws : List ℕ) → earliest Some ws ≡ None → latest (λ a. entered (step_for (chart_of x.kind) a)) ws ≡ None
     by_words [] q = refl
-    by_words (w ∷ ws) q = by_rest (earliest some ws) q
+    by_words (w ∷ ws) q = by_rest (earliest Some ws) q
       where
-        by_rest : (o : Option ℕ) → or_else o (some w) ≡ none → latest (λ a. entered (step_for (chart_of x.kind) a)) (w ∷ ws) ≡ none
-        by_rest none q = absurd (no_value q)
-        by_rest (some b) q = absurd (no_value q)
+        by_rest : (o : Option ℕ) → or_else o (Some w) ≡ None → latest (λ a. entered (step_for (chart_of x.kind) a)) (w ∷ ws) ≡ None
+        by_rest None q = absurd (no_value q)
+        by_rest (Some b) q = absurd (no_value q)
 
 -- so one that has a state is listed
 pub stated_listed : (h : List Event) (x : Instance) → has_instances x.kind ≡ true → unseen (state_of x h) ≡ false → any (same_instance x) (instances h) ≡ true
 stated_listed h x k s = by_word (first_word x h) refl (first_listed h x k)
   where
     by_word : (o : Option ℕ) → first_word x h ≡ o → unseen o ≡ not (any (same_instance x) (instances h)) → any (same_instance x) (instances h) ≡ true
-    by_word none q l = absurd (clash true refl (rw (wordless h x q) at s))
-    by_word (some a) q l = not-false _ (sym l)
+    by_word None q l = absurd (clash true refl (rw (wordless h x q) at s))
+    by_word (Some a) q l = not-false _ (sym l)
 
 -- the word of a T, I or R event is a step of its chart
 abbrev pub OneWorded : Event → Type 0
@@ -91,8 +91,8 @@ Worded (e ∷ h) = OneWorded e × Worded h
 
 now_stated : (o : Option Step) (s : Option ℕ) → is_step o ≡ true → unseen (or_else (entered o) s) ≡ false
 unfolding is_step
-now_stated none s q = cc
-now_stated (some r) s q = refl
+now_stated None s q = cc
+now_stated (Some r) s q = refl
 
 stated_first : (h : List Event) → Worded h → (x : Instance) → has_instances x.kind ≡ true → unseen (state_of x h) ≡ unseen (first_word x h)
 stated_first [] w x k = refl

@@ -1,7 +1,7 @@
 -- The states of any chart: what a step enters is one, and there is none above the largest that its steps name.
+use Rattle.std.proofs.Common.{Option, None, Some}
 use mathlib.Core.Path.{◌≡◌, refl, ◌∙◌}
 use mathlib.Core.Bool.{Bool, true, false, ◌&&◌, ◌||◌, or-true}
-use mathlib.Core.Option.{Option, none, some}
 use mathlib.Core.List.{List, [], ◌∷◌}
 use Prim.Native.Nat.{ℕ, ◌<◌}
 use native.Mathlib.Omega.{arith}
@@ -13,22 +13,22 @@ use Rattle.rules.proofs.Tests.{both}
 
 -- ---- the state after some words is one of the chart's
 
-entered_state : (t : List Step) (a s : ℕ) → entered (step_for t a) ≡ some s → is_state_of t s ≡ true
+entered_state : (t : List Step) (a s : ℕ) → entered (step_for t a) ≡ Some s → is_state_of t s ≡ true
 unfolding is_state_of
 entered_state [] a s q = cc
 entered_state (r ∷ rs) a s q = by_test (eqb a r.word) q (entered_state rs a s)
   where
-    by_test : (b : Bool) → entered (or_else (when b r) (step_for rs a)) ≡ some s → (entered (step_for rs a) ≡ some s → is_state_of rs s ≡ true) → is_state_of (r ∷ rs) s ≡ true
+    by_test : (b : Bool) → entered (or_else (when b r) (step_for rs a)) ≡ Some s → (entered (step_for rs a) ≡ Some s → is_state_of rs s ≡ true) → is_state_of (r ∷ rs) s ≡ true
     by_test true q i = let e : s ≡ r.enters = cc in rw (eq-eqb s r.enters e, or-true (leaves r s))
     by_test false q i = rw (i q) (or-true (leaves r s || eqb s r.enters))
 
-pub state_after_state : (t : List Step) (ws : List ℕ) (s : ℕ) → state_after t ws ≡ some s → is_state_of t s ≡ true
+pub state_after_state : (t : List Step) (ws : List ℕ) (s : ℕ) → state_after t ws ≡ Some s → is_state_of t s ≡ true
 state_after_state t [] s q = cc
 state_after_state t (w ∷ ws) s q = by_step (entered (step_for t w)) refl q (state_after_state t ws s)
   where
-    by_step : (o : Option ℕ) → entered (step_for t w) ≡ o → or_else o (state_after t ws) ≡ some s → (state_after t ws ≡ some s → is_state_of t s ≡ true) → is_state_of t s ≡ true
-    by_step none p q i = i q
-    by_step (some n) p q i = entered_state t w s (p ∙ q)
+    by_step : (o : Option ℕ) → entered (step_for t w) ≡ o → or_else o (state_after t ws) ≡ Some s → (state_after t ws ≡ Some s → is_state_of t s ≡ true) → is_state_of t s ≡ true
+    by_step None p q i = i q
+    by_step (Some n) p q i = entered_state t w s (p ∙ q)
 
 -- ---- the largest state
 

@@ -1,8 +1,8 @@
 -- TERMINATED in the charts of processes and runnables, by computed tests over their steps: the steps that leave it are the activations, and of these
 -- mtalimitexceeded alone enters it again.
+use Rattle.std.proofs.Common.{Option, None, Some}
 use mathlib.Core.Path.{◌≡◌, refl, sym, subst, ◌∙◌}
 use mathlib.Core.Bool.{Bool, true, false, not, ◌&&◌, ◌||◌, cond, and-true, or-false, beq}
-use mathlib.Core.Option.{Option, none, some}
 use mathlib.Core.List.{[], ◌∷◌}
 use Prim.Native.Nat.{ℕ}
 use lib.Dec.{eqb}
@@ -42,7 +42,7 @@ charts_end : (k : ℕ) → has_instances k ≡ true → all (ends k) (chart_of k
 unfolding ends chart_of is_process process_chart runnable_chart activates exceeds_limit
 charts_end = of_kinds (λ k. all (ends k) (chart_of k) ≡ true) refl refl refl
 
-step_ends : (k a : ℕ) (r : Step) → has_instances k ≡ true → step_for (chart_of k) a ≡ some r →
+step_ends : (k a : ℕ) (r : Step) → has_instances k ≡ true → step_for (chart_of k) a ≡ Some r →
     (leaves r TERMINATED ≡ activates k a) × (not (activates k a) || beq (eqb r.enters TERMINATED) (exceeds_limit k a) ≡ true)
 unfolding ends
 step_ends k a r i q =
@@ -52,16 +52,16 @@ step_ends k a r i q =
     (beq_true _ _ t.0, t.1)
 
 -- from TERMINATED an activation is allowed and nothing else
-pub from_terminated : (k a : ℕ) → has_instances k ≡ true → is_step (step_for (chart_of k) a) ≡ true → allowed (chart_of k) a (some TERMINATED) ≡ activates k a
+pub from_terminated : (k a : ℕ) → has_instances k ≡ true → is_step (step_for (chart_of k) a) ≡ true → allowed (chart_of k) a (Some TERMINATED) ≡ activates k a
 unfolding is_step
 from_terminated k a i s = by_step (step_for (chart_of k) a) refl s
   where
-    by_step : (o : Option Step) → step_for (chart_of k) a ≡ o → is_step o ≡ true → allowed (chart_of k) a (some TERMINATED) ≡ activates k a
-    by_step none q s = absurd (clash false s refl)
-    by_step (some r) q s = rw q (step_ends k a r i q).0
+    by_step : (o : Option Step) → step_for (chart_of k) a ≡ o → is_step o ≡ true → allowed (chart_of k) a (Some TERMINATED) ≡ activates k a
+    by_step None q s = absurd (clash false s refl)
+    by_step (Some r) q s = rw q (step_ends k a r i q).0
 
 -- an activation enters TERMINATED exactly if it is mtalimitexceeded
-pub enters_terminated : (k a : ℕ) (r : Step) → has_instances k ≡ true → step_for (chart_of k) a ≡ some r → activates k a ≡ true → eqb r.enters TERMINATED ≡ exceeds_limit k a
+pub enters_terminated : (k a : ℕ) (r : Step) → has_instances k ≡ true → step_for (chart_of k) a ≡ Some r → activates k a ≡ true → eqb r.enters TERMINATED ≡ exceeds_limit k a
 enters_terminated k a r i q t = beq_true _ _ (rw t at (step_ends k a r i q).1)
 
 -- which is an activation
@@ -86,18 +86,18 @@ activation_off_core e t = by_kind (is_process e.kind) refl (eqb e.kind runnable)
 -- ---- an instance that has terminated, at or above the first number: a judge that does not see it answers 11 as one that does, to what is no activation
 
 module _ (k : Known) (e : Event) (i : has_instances e.kind ≡ true) (s : is_step (step_for (chart_of e.kind) e.word) ≡ true) where
-  seen_ended : k.state ≡ some TERMINATED → not_allowed k e ≡ not (activates e.kind e.word)
+  seen_ended : k.state ≡ Some TERMINATED → not_allowed k e ≡ not (activates e.kind e.word)
   unfolding not_allowed off_chart never_activated
   seen_ended q = rw (q, from_terminated e.kind e.word i s) (or-false (not (activates e.kind e.word)))
 
-  unseen_ended : k.state ≡ none → reaches k.first e.target_instance ≡ true → not_allowed k e ≡ not (activates e.kind e.word)
+  unseen_ended : k.state ≡ None → reaches k.first e.target_instance ≡ true → not_allowed k e ≡ not (activates e.kind e.word)
   unfolding not_allowed off_chart never_activated is_step
   unseen_ended q r = rw (q, i, r) (by_step (step_for (chart_of e.kind) e.word) refl s)
     where
       by_step : (o : Option Step) → step_for (chart_of e.kind) e.word ≡ o → is_step o ≡ true →
-          not (allowed (chart_of e.kind) e.word none) || (not (activates e.kind e.word) && true) ≡ not (activates e.kind e.word)
-      by_step none p s = absurd (clash false s refl)
-      by_step (some t) p s = rw p (and-true (not (activates e.kind e.word)))
+          not (allowed (chart_of e.kind) e.word None) || (not (activates e.kind e.word) && true) ≡ not (activates e.kind e.word)
+      by_step None p s = absurd (clash false s refl)
+      by_step (Some t) p s = rw p (and-true (not (activates e.kind e.word)))
 
 -- ---- the rules after 10: the one that does not see it and the one that does answer alike, since an activation is on no core
 
@@ -105,7 +105,7 @@ abbrev pub later : Known → Event → ℕ
 later k e = lowest (test 11 (not_allowed k e) ∷ test 12 (not_next k e) ∷ test 13 (core_broken k e) ∷ test 14 (count_broken k e) ∷ [])
 
 module _ (k l : Known) (e : Event) (i : has_instances e.kind ≡ true) (s : is_step (step_for (chart_of e.kind) e.word) ≡ true) where
-  pub ended_alike : k.state ≡ none → l.state ≡ some TERMINATED → reaches k.first e.target_instance ≡ true → not_next k e ≡ not_next l e → count_broken k e ≡ count_broken l e →
+  pub ended_alike : k.state ≡ None → l.state ≡ Some TERMINATED → reaches k.first e.target_instance ≡ true → not_next k e ≡ not_next l e → count_broken k e ≡ count_broken l e →
       later k e ≡ later l e
   unfolding core_broken
   ended_alike p q r n c = rw (unseen_ended k e i s p r, seen_ended l e i s q, n, c) (by_test (activates e.kind e.word) refl)

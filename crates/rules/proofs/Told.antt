@@ -1,5 +1,6 @@
 -- What a reading says of its line: which of the tests of a `#` line it passes, and whether it is an event line. One table, with a row for each reading:
 -- no line begins with two of the keywords.
+use Rattle.std.proofs.Common.{None, Some, Option}
 use mathlib.Core.Path.{◌≡◌, refl, sym, subst, ◌∙◌}
 use mathlib.Core.Bool.{Bool, true, false, ◌||◌, cond}
 use mathlib.Core.List.{List, [], ◌∷◌, ◌++◌}
@@ -12,18 +13,10 @@ use Rattle.text.specs.Bytes.{same_bytes, starts_with}
 use Rattle.text.proofs.Bools.{is_false}
 use Rattle.text.proofs.Words.{same_eq, starts_split}
 use Rattle.text.specs.Number.{number_of}
-use Rattle.text.specs.declared.number.Number.{Number}
-use Rattle.text.specs.declared.number.Number.TheVariants.{Value, Bad}
 use Rattle.text.specs.Sizes.{max_time}
-use Rattle.words.specs.declared.pair.Pair.{Pair}
-use Rattle.words.specs.declared.pair.Pair.TheVariants.{Known, Unknown}
-use Rattle.words.specs.declared.scale.ScaleFound.{ScaleFound}
-use Rattle.words.specs.declared.scale.ScaleFound.TheVariants.{ThisScale, NoScale}
 use Rattle.words.specs.Pair.{named_by}
 use Rattle.words.specs.Scale.{scale_of}
 use Rattle.fields.specs.Part.{parts_of, field_of}
-use Rattle.forms.specs.declared.note.Note.{Note}
-use Rattle.forms.specs.declared.note.Note.TheVariants.{Means, Wrong}
 use Rattle.forms.specs.Note.{max_instance, note_of}
 use Rattle.forms.specs.Rule.{rule_broken}
 use Rattle.forms.specs.Date.{is_moment}
@@ -42,47 +35,47 @@ pub record Told : Type 0 where
   pub version : Bool
   pub version_line : Bool
   pub comment : Bool
-  pub scale : ScaleFound
+  pub scale : Option Scale
   pub creator : Bool
   pub date : Bool
   pub event : Bool
 
-abbrev told : Bool → Bool → Bool → ScaleFound → Bool → Bool → Bool → Told
+abbrev told : Bool → Bool → Bool → Option Scale → Bool → Bool → Bool → Told
 told v w c s k d e = record { version = v; version_line = w; comment = c; scale = s; creator = k; date = d; event = e }
 
 unfoldable pub tests_of : List ℕ → Told
 tests_of l = told (is_version l) (is_version_line l) (is_comment l) (time_scale l) (is_creator l) (is_creation_date l) (is_event_line l)
 
 abbrev pub told_by : Reading → Told
-told_by Version = told true true false NoScale false false false
-told_by Comment = told false false true NoScale false false false
-told_by (TimeScale s) = told false false false (ThisScale s) false false false
-told_by Creator = told false false false NoScale true false false
-told_by CreationDate = told false false false NoScale false true false
-told_by (EventLine e count) = told false false false NoScale false false true
-told_by (Refused n) = told false (eqb n 2) false NoScale false false (leb 4 n)
+told_by Version = told true true false None false false false
+told_by Comment = told false false true None false false false
+told_by (TimeScale s) = told false false false (Some s) false false false
+told_by Creator = told false false false None true false false
+told_by CreationDate = told false false false None false true false
+told_by (EventLine e count) = told false false false None false false true
+told_by (Refused n) = told false (eqb n 2) false None false false (leb 4 n)
 
 -- ---- event lines: read, or refused with 5, 6 or 7
 
 abbrev an_event : Told
-an_event = told false false false NoScale false false true
+an_event = told false false false None false false true
 
 either : (b : Bool) (x y : Reading) → told_by x ≡ an_event → told_by y ≡ an_event → told_by (cond b x y) ≡ an_event
 either true x y p q = p
 either false x y p q = q
 
-ruled_told : (n : Note) (b : Bool) (e : Event) → told_by (ruled n b e) ≡ an_event
-ruled_told Wrong b e = refl
-ruled_told (Means count) true e = refl
-ruled_told (Means count) false e = refl
+ruled_told : (n : Option ℕ) (b : Bool) (e : Event) → told_by (ruled n b e) ≡ an_event
+ruled_told None b e = refl
+ruled_told (Some count) true e = refl
+ruled_told (Some count) false e = refl
 
-numbers_told : (time from to : Number) (p : Pair) (source target note : List ℕ) → told_by (numbers_reading (numbers_as time from to) p source target note) ≡ an_event
+numbers_told : (time from to : Option ℕ) (p : Option (Kind × Action)) (source target note : List ℕ) → told_by (numbers_reading (numbers_as time from to) p source target note) ≡ an_event
 unfolding known_reading
-numbers_told (Value n) (Value f) (Value t) (Known k a) source target note = ruled_told (note_of k note) (rule_broken k a source f target t note) (event_of n f k t a)
-numbers_told (Value n) (Value f) (Value t) Unknown source target note = refl
-numbers_told (Value n) (Value f) Bad p source target note = refl
-numbers_told (Value n) Bad to p source target note = refl
-numbers_told Bad from to p source target note = refl
+numbers_told (Some n) (Some f) (Some t) (Some (k, a)) source target note = ruled_told (note_of k note) (rule_broken k a source f target t note) (event_of n f k t a)
+numbers_told (Some n) (Some f) (Some t) None source target note = refl
+numbers_told (Some n) (Some f) None p source target note = refl
+numbers_told (Some n) None to p source target note = refl
+numbers_told None from to p source target note = refl
 
 event_told : (l : List ℕ) → told_by (event_reading l) ≡ an_event
 unfolding event_reading fields_reading numbers_of
@@ -111,19 +104,19 @@ event_tests (x ∷ l) e = rw (not-true (eqb x 35) e)
 abbrev Right : List ℕ → Type 0
 Right l = tests_of l ≡ told_by (parameter_reading l)
 
-by_version : (b : Bool) → told b true false NoScale false false false ≡ told_by (cond b Version (Refused 2))
+by_version : (b : Bool) → told b true false None false false false ≡ told_by (cond b Version (Refused 2))
 by_version true = refl
 by_version false = refl
 
-by_scale : (s : ScaleFound) → told false false false s false false false ≡ told_by (scale_or s (Refused 3))
-by_scale (ThisScale s) = refl
-by_scale NoScale = refl
+by_scale : (s : Option Scale) → told false false false s false false false ≡ told_by (scale_or s (Refused 3))
+by_scale (Some s) = refl
+by_scale None = refl
 
-by_creator : (b : Bool) → told false false false NoScale b false false ≡ told_by (cond b Creator (Refused 3))
+by_creator : (b : Bool) → told false false false None b false false ≡ told_by (cond b Creator (Refused 3))
 by_creator true = refl
 by_creator false = refl
 
-by_date : (b : Bool) → told false false false NoScale false b false ≡ told_by (cond b CreationDate (Refused 3))
+by_date : (b : Bool) → told false false false None false b false ≡ told_by (cond b CreationDate (Refused 3))
 by_date true = refl
 by_date false = refl
 

@@ -1,9 +1,9 @@
 -- The verdict on a list of lines (demand 2): 0 exactly if every line is well formed and in its place, there is a time scale, and the events break no rule;
 -- otherwise it names the first line that is refused, with the lowest number, or the end. What follows a refused line changes nothing.
+use Rattle.std.proofs.Common.{Option, None, Some}
 use mathlib.Core.Path.{◌≡◌, refl, ap, ◌∙◌}
 use mathlib.Core.Bool.{Bool, true, false, cond}
 use mathlib.Core.Logic.{◌↔◌}
-use mathlib.Core.Option.{Option, none, some}
 use mathlib.Core.List.{List, [], ◌∷◌, ◌++◌, reverse}
 use Prim.Native.Nat.{ℕ, zero, suc, ◌+◌, ◌≤◌, ◌<◌}
 use native.Mathlib.Omega.{arith}
@@ -37,8 +37,8 @@ both_zero zero n q = (refl, q)
 both_zero (suc m) n q = absurd (omega arith)
 
 with_accepted : (o : Option Event) (es : List Event) → Accepted (with_event o es) ↔ ((event_answer o es ≡ 0) × Accepted es)
-with_accepted none es = (λ a. (refl, a), λ p. p.1)
-with_accepted (some e) es = (λ a. a, λ p. p)
+with_accepted None es = (λ a. (refl, a), λ p. p.1)
+with_accepted (Some e) es = (λ a. a, λ p. p)
 
 -- one more line is kept exactly if it is answered 0
 module _ (h : List (List ℕ)) (l : List ℕ) where
@@ -108,15 +108,15 @@ verdict_sound ls = (λ q. (number_sound ls).0 (ap (λ (v : ℕ × ℕ). v.0) q),
 -- rule n of 8 to 14 and none lower.
 pub data Why (h : List (List ℕ)) (l : List ℕ) (n : ℕ) : Type 0 where
   misplaced : IsLowest (place_tests (place_of h) l) n → Why h l n
-  breaks : (e : Event) → event_of_line l ≡ some e → answer_in_place (place_of h) l ≡ 0 → IsLowest (event_tests (look (events_of h) e) e) n → Why h l n
+  breaks : (e : Event) → event_of_line l ≡ Some e → answer_in_place (place_of h) l ≡ 0 → IsLowest (event_tests (look (events_of h) e) e) n → Why h l n
 
 why : (h : List (List ℕ)) (l : List ℕ) (n : ℕ) → 0 < n → answer_at h l ≡ n → Why h l n
 unfolding answer_at
 why h l n pos q = by_place (answer_in_place (place_of h) l) refl q
   where
     by_event : (o : Option Event) → event_of_line l ≡ o → answer_in_place (place_of h) l ≡ 0 → event_answer o (events_of h) ≡ n → Why h l n
-    by_event none e p q = absurd (omega arith)
-    by_event (some d) e p q = breaks d e p ((answer_lowest (look (events_of h) d) d n pos).0 q)
+    by_event None e p q = absurd (omega arith)
+    by_event (Some d) e p q = breaks d e p ((answer_lowest (look (events_of h) d) d n pos).0 q)
 
     by_place : (m : ℕ) → answer_in_place (place_of h) l ≡ m → if_zero m (event_answer (event_of_line l) (events_of h)) m ≡ n → Why h l n
     by_place zero e q = by_event (event_of_line l) refl e q

@@ -1,6 +1,5 @@
 -- A chart is any table of steps. What a run through a chart is, and the test that is made event by event.
-use Rattle.std.specs.Prelude.{◌≡◌, Bool, true, ◌&&◌, ◌||◌, List, [], ◌∷◌, ℕ, eqb}
-use Rattle.std.proofs.Math.Option.{Option, none, some}
+use Rattle.std.specs.Prelude.{◌≡◌, Bool, true, ◌&&◌, ◌||◌, List, [], ◌∷◌, ℕ, eqb, Option, None, Some}
 use Rattle.text.specs.Lists.{any}
 use Rattle.rules.specs.Lists.{member, latest, when}
 
@@ -26,22 +25,22 @@ step_for t a = latest (λ r. when (eqb a r.word) r) t
 -- Each word of the chart leaves the state that the run is in and enters its own; a word that the chart lacks changes no state.
 pub data Run (t : List Step) (s : ℕ) : List ℕ → ℕ → Type 0 where
   begin : Run t s [] s
-  other : {ws : List ℕ} {a m : ℕ} → step_for t a ≡ none → Run t s ws m → Run t s (a ∷ ws) m
-  next : {ws : List ℕ} {a m : ℕ} {r : Step} → step_for t a ≡ some r → leaves r m ≡ true → Run t s ws m → Run t s (a ∷ ws) r.enters
+  other : {ws : List ℕ} {a m : ℕ} → step_for t a ≡ None → Run t s ws m → Run t s (a ∷ ws) m
+  next : {ws : List ℕ} {a m : ℕ} {r : Step} → step_for t a ≡ Some r → leaves r m ≡ true → Run t s ws m → Run t s (a ∷ ws) r.enters
 
 -- The state after some words, the newest first: the one that the latest step entered, none before the first.
 abbrev pub entered : Option Step → Option ℕ
-entered none = none
-entered (some r) = some r.enters
+entered None = None
+entered (Some r) = Some r.enters
 
 abbrev pub state_after : List Step → List ℕ → Option ℕ
 state_after t = latest (λ a. entered (step_for t a))
 
 -- The test, event by event. "An entity starts in any state (000): its first chart event is taken from the state or states that event leaves."
 abbrev pub allowed_by : Option Step → Option ℕ → Bool
-allowed_by none o = true
-allowed_by (some r) none = true
-allowed_by (some r) (some s) = leaves r s
+allowed_by None o = true
+allowed_by (Some r) None = true
+allowed_by (Some r) (Some s) = leaves r s
 
 abbrev pub allowed : List Step → ℕ → Option ℕ → Bool
 allowed t a o = allowed_by (step_for t a) o

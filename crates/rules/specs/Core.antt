@@ -1,6 +1,5 @@
 -- What a core is after a history, and the core rule as a run.
-use Rattle.std.specs.Prelude.{◌≡◌, Bool, true, false, ◌&&◌, ◌||◌, cond, List, [], ◌∷◌, ℕ}
-use Rattle.std.proofs.Math.Option.{Option, none, some}
+use Rattle.std.specs.Prelude.{◌≡◌, Bool, true, false, ◌&&◌, ◌||◌, cond, List, [], ◌∷◌, ℕ, Option, None, Some}
 use Rattle.text.specs.Bytes.{same_bytes}
 use Rattle.rules.specs.Lists.{member, when, latest}
 use Rattle.rules.specs.Words.{start, resume, poll_parking, preempt, wait, park, terminate, poll, run, RUNNING, POLLING}
@@ -66,8 +65,8 @@ abbrev pub effect_on : List ℕ → Event → Option Core
 effect_on c e = when (on c e) (becomes (gives e.word) (instance_of e))
 
 abbrev pub or_unknown : Option Core → Core
-or_unknown none = unknown
-or_unknown (some k) = k
+or_unknown None = unknown
+or_unknown (Some k) = k
 
 abbrev pub core_at : List ℕ → List Event → Core
 core_at c h = or_unknown (latest (effect_on c) h)
@@ -82,7 +81,7 @@ pub data Free : Core → Type 0 where
 -- "need it held by this instance"; "an unknown core also serves if the instance is seen for the first time", when it has no state yet
 pub data Own (h : List Event) (x : Instance) : Core → Type 0 where
   own_held : Own h x (held x)
-  own_first : state_of x h ≡ none → Own h x unknown
+  own_first : state_of x h ≡ None → Own h x unknown
 
 -- `CoreRun c h k`: the events of h on the core c follow the core rule, and leave it k
 pub data CoreRun (c : List ℕ) : List Event → Core → Type 0 where
@@ -97,8 +96,8 @@ pub data CoreRun (c : List ℕ) : List Event → Core → Type 0 where
 
 -- an instance in RUNNING or POLLING occupies a core
 unfoldable pub occupies : Option ℕ → Bool
-occupies none = false
-occupies (some s) = member s (RUNNING ∷ POLLING ∷ [])
+occupies None = false
+occupies (Some s) = member s (RUNNING ∷ POLLING ∷ [])
 
 -- "each process instance in RUNNING or POLLING holds exactly one core, every held core is held by exactly one such instance, and no instance in
 -- another state holds any" (02, No. 14)

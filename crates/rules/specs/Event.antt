@@ -1,6 +1,5 @@
 -- Event lines as they were read, and the instances of which they speak. A history is a list of events, THE NEWEST FIRST.
-use Rattle.std.specs.Prelude.{Bool, ◌&&◌, cond, List, [], ◌∷◌, ℕ, eqb}
-use Rattle.std.proofs.Math.Option.{Option, some}
+use Rattle.std.specs.Prelude.{Bool, ◌&&◌, cond, List, [], ◌∷◌, ℕ, eqb, Option, Some}
 use Rattle.text.specs.Bytes.{same_bytes}
 use Rattle.rules.specs.Lists.{keep, earliest}
 use Rattle.rules.specs.Chart.{state_after}
@@ -37,7 +36,7 @@ words_of x (e ∷ h) = keep (same_instance x (instance_of e)) e.word (words_of x
 
 -- the word of its first event; none before that
 abbrev pub first_word : Instance → List Event → Option ℕ
-first_word x h = earliest some (words_of x h)
+first_word x h = earliest Some (words_of x h)
 
 -- the state of an instance or semaphore; none before its first chart event
 abbrev pub state_of : Instance → List Event → Option ℕ

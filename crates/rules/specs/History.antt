@@ -1,6 +1,5 @@
 -- What a history says of names, instances, numbers and counts, and which instances need an entry.
-use Rattle.std.specs.Prelude.{Bool, false, not, ◌&&◌, ◌||◌, List, [], ◌∷◌, ℕ, eqb, leb}
-use Rattle.std.proofs.Math.Option.{Option, none, some}
+use Rattle.std.specs.Prelude.{Bool, false, not, ◌&&◌, ◌||◌, List, [], ◌∷◌, ℕ, eqb, leb, Option, None, Some}
 use Rattle.text.specs.Bytes.{same_bytes}
 use Rattle.text.specs.Lists.{any}
 use Rattle.rules.specs.Lists.{member, only, keep, when, or_else, latest, earliest, add_all}
@@ -35,8 +34,8 @@ abbrev pub kind_of : List ℕ → List Event → Option ℕ
 kind_of n = latest (kind_in n)
 
 abbrev pub is_kind : (ℕ → Bool) → Option ℕ → Bool
-is_kind f none = false
-is_kind f (some k) = f k
+is_kind f None = false
+is_kind f (Some k) = f k
 
 -- "A core is tracked from its first such event"
 abbrev pub cores : List Event → List (List ℕ)
@@ -54,8 +53,8 @@ instances (e ∷ h) = add_all same_instance (instances h) (keep (has_instances e
 -- ---- the last time, and the numbers of activations
 
 abbrev pub last_time : List Event → Option ℕ
-last_time [] = none
-last_time (e ∷ h) = some e.time
+last_time [] = None
+last_time (e ∷ h) = Some e.time
 
 -- "activate or mtalimitexceeded of one process, or start of one runnable"
 unfoldable pub activates : ℕ → ℕ → Bool
@@ -82,14 +81,14 @@ above_all k n i h = not (any (is_from k n i) (instances h))
 
 -- a number at the first one or above it; none is, while there is no first one
 abbrev pub reaches : Option ℕ → ℕ → Bool
-reaches none i = false
-reaches (some f) i = leb f i
+reaches None i = false
+reaches (Some f) i = leb f i
 
 -- ---- the instances that need an entry (02, No. 7)
 
 abbrev pub is_terminated : Option ℕ → Bool
-is_terminated none = false
-is_terminated (some s) = eqb s TERMINATED
+is_terminated None = false
+is_terminated (Some s) = eqb s TERMINATED
 
 -- "a TERMINATED instance numbered at or above its entity's first activating number (start, for a runnable) needs no entry"
 unfoldable pub needs_entry : List Event → Instance → Bool

@@ -1,7 +1,6 @@
 -- What demand 2 asks of a trace, clause by clause: of its lines, that each is well formed and in its place; of the list of their events, what holds of the
 -- list as a whole, where nothing is looked up, tested event by event or answered. Lists have THE NEWEST FIRST.
-use Rattle.std.specs.Prelude.{◌≡◌, Bool, true, ◌&&◌, ◌||◌, List, [], ◌∷◌, ℕ, ◌+◌, ◌≤◌, eqb, length}
-use Rattle.std.proofs.Math.Option.{some}
+use Rattle.std.specs.Prelude.{◌≡◌, Bool, true, ◌&&◌, ◌||◌, List, [], ◌∷◌, ℕ, ◌+◌, ◌≤◌, eqb, length, Some}
 use Rattle.text.specs.Bytes.{same_bytes}
 use Rattle.text.specs.Sizes.{name_limit, core_limit}
 use Rattle.text.specs.Lists.{any}
@@ -60,7 +59,7 @@ NumberAfter d e = e.target_instance ≡ d.target_instance + 1
 -- mtalimitexceeded must bear a number above all seen of that process, else 12. Runnables the same, with start." (02, No. 5) Both in one: where f is the first
 -- such number of a process or runnable, each of its instances numbered f or more begins with such an event. One that was seen before did not, so f is above it.
 abbrev pub Begun : List Event → Type 0
-Begun es = (x : Instance) (f a : ℕ) → first_number x.kind x.name es ≡ some f → f ≤ x.number → first_word x es ≡ some a → activates x.kind a ≡ true
+Begun es = (x : Instance) (f a : ℕ) → first_number x.kind x.name es ≡ Some f → f ≤ x.number → first_word x es ≡ Some a → activates x.kind a ≡ true
 
 -- the lines of the semaphore n
 unfoldable pub counts : List ℕ → Event → Bool
@@ -69,7 +68,7 @@ counts n e = eqb e.kind semaphore && same_bytes n e.target
 -- "requestsemaphore, queued, assigned, waiting, released and all state events bear c, increment c + 1, decrement c − 1", where
 -- "c is the note of the semaphore's last line"
 abbrev pub CountAfter : Event → Event → Type 0
-CountAfter d e = count_follows (some d.count) e.word e.count ≡ true
+CountAfter d e = count_follows (Some d.count) e.word e.count ≡ true
 
 -- "Always: increment at least 1; free and unlock 0; lock 1; used, unlock_full, lock_used and full at least 1; overfull at least 2."
 abbrev pub FixedCount : Event → Type 0

@@ -1,6 +1,5 @@
 -- Where a line that was read becomes an event of these rules: the number that stands for its type; that of its event word is the word's code.
-use Rattle.std.proofs.Math.Option.{Option, none, some}
-use Rattle.std.specs.Prelude.{List, [], ◌∷◌, ℕ}
+use Rattle.std.specs.Prelude.{List, [], ◌∷◌, ℕ, Option, None, Some}
 use Rattle.words.specs.declared.kind.Kind.{Kind}
 use Rattle.words.specs.declared.kind.Kind.TheVariants.{Stimulus, Task, Interrupt, Runnable, Scheduler, OsEvent, Signal, Semaphore}
 use Rattle.words.specs.Action.{action_code}
@@ -40,21 +39,21 @@ event_from e source target count = record {
 -- ---- the events of lines. "time, source, source instance, type, target, ..": source and target are the fields 2 and 5
 
 abbrev pub event_in : Reading → List ℕ → Option Event
-event_in Version l = none
-event_in Comment l = none
-event_in (TimeScale s) l = none
-event_in Creator l = none
-event_in CreationDate l = none
-event_in (EventLine e count) l = some (event_from e (field_of l 2) (field_of l 5) count)
-event_in (Refused n) l = none
+event_in Version l = None
+event_in Comment l = None
+event_in (TimeScale s) l = None
+event_in Creator l = None
+event_in CreationDate l = None
+event_in (EventLine e count) l = Some (event_from e (field_of l 2) (field_of l 5) count)
+event_in (Refused n) l = None
 
 unfoldable pub event_of_line : List ℕ → Option Event
 event_of_line l = event_in (read_line l) l
 
 -- the events of the lines that read as events, in the order of the lines
 abbrev pub with_event : Option Event → List Event → List Event
-with_event none es = es
-with_event (some e) es = e ∷ es
+with_event None es = es
+with_event (Some e) es = e ∷ es
 
 unfoldable pub events_of : List (List ℕ) → List Event
 events_of [] = []

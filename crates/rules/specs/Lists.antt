@@ -1,6 +1,5 @@
 -- A few functions on lists and on what may be missing.
-use Rattle.std.specs.Prelude.{ℕ, zero, suc, Bool, true, false, List, [], ◌∷◌, ◌++◌, eqb}
-use Rattle.std.proofs.Math.Option.{Option, none, some}
+use Rattle.std.specs.Prelude.{ℕ, zero, suc, Bool, true, false, List, [], ◌∷◌, ◌++◌, eqb, Option, None, Some}
 use Rattle.text.specs.Lists.{any}
 
 abbrev pub one_if : Bool → ℕ
@@ -19,12 +18,12 @@ module _ {A : Type 0} where
 
   -- x where the test passes
   abbrev pub when : Bool → A → Option A
-  when true x = some x
-  when false x = none
+  when true x = Some x
+  when false x = None
 
   abbrev pub or_else : Option A → Option A → Option A
-  or_else none o = o
-  or_else (some x) o = some x
+  or_else None o = o
+  or_else (Some x) o = Some x
 
   -- the elements that pass the test
   abbrev pub only : (A → Bool) → List A → List A
@@ -49,10 +48,10 @@ member x = any (eqb x)
 module _ {A B : Type 0} where
   -- the answer of the first element that has one. Histories have the newest event first, so there it is the latest answer
   abbrev pub latest : (A → Option B) → List A → Option B
-  latest f [] = none
+  latest f [] = None
   latest f (x ∷ xs) = or_else (f x) (latest f xs)
 
   -- that of the last element that has one: of a history the earliest
   abbrev pub earliest : (A → Option B) → List A → Option B
-  earliest f [] = none
+  earliest f [] = None
   earliest f (x ∷ xs) = or_else (earliest f xs) (f x)

@@ -1,6 +1,5 @@
 -- The refusals 8 to 14: what is looked up for an event line, one definition for each number, and the answer.
-use Rattle.std.specs.Prelude.{Bool, true, false, not, ◌&&◌, ◌||◌, cond, List, [], ◌∷◌, ℕ, ◌+◌, eqb, ltb, leb, length}
-use Rattle.std.proofs.Math.Option.{Option, none, some}
+use Rattle.std.specs.Prelude.{Bool, true, false, not, ◌&&◌, ◌||◌, cond, List, [], ◌∷◌, ℕ, ◌+◌, eqb, ltb, leb, length, Option, None, Some}
 use Rattle.text.specs.Bytes.{same_bytes}
 use Rattle.text.specs.Sizes.{name_limit, core_limit}
 use Rattle.line.specs.Answer.{Test, test, lowest}
@@ -50,8 +49,8 @@ look h e = record {
 -- ---- 8: "time less than the event line before"
 
 abbrev pub less : ℕ → Option ℕ → Bool
-less t none = false
-less t (some s) = ltb t s
+less t None = false
+less t (Some s) = ltb t s
 
 unfoldable pub time_falls : Known → Event → Bool
 time_falls k e = less e.time k.time
@@ -59,8 +58,8 @@ time_falls k e = less e.time k.time
 -- ---- 9: "a tracked name in a second of the five kinds (core, T, I, R, SEM), source and target of one core line included"
 
 abbrev pub differs : Option ℕ → ℕ → Bool
-differs none k = false
-differs (some j) k = not (eqb j k)
+differs None k = false
+differs (Some j) k = not (eqb j k)
 
 unfoldable pub source_clash : Known → Event → Bool
 source_clash k e = on_core e && (differs k.source_kind core || same_bytes e.source e.target)
@@ -76,8 +75,8 @@ second_kind k e = source_clash k e || target_clash k e
 -- mtalimitexceeded must bear a number above all seen of that process, else 12." (02, No. 5)
 
 abbrev pub is_next : Option ℕ → Bool → ℕ → Bool
-is_next none above i = above
-is_next (some m) above i = eqb i (m + 1)
+is_next None above i = above
+is_next (Some m) above i = eqb i (m + 1)
 
 unfoldable pub is_next_activation : Known → Event → Bool
 is_next_activation k e = activates e.kind e.word && is_next k.number k.above e.target_instance
@@ -108,8 +107,8 @@ off_chart k e = not (allowed (chart_of e.kind) e.word k.state)
 
 -- Every T, I and R event is a step of its chart, so an instance has a state once it was seen.
 abbrev pub unseen : Option ℕ → Bool
-unseen none = true
-unseen (some s) = false
+unseen None = true
+unseen (Some s) = false
 
 -- "Once a process has had an activate or mtalimitexceeded numbered f, a non-activating first event of an instance numbered f or more is 11. .. Runnables the
 -- same, with start." (02, No. 5)
@@ -141,8 +140,8 @@ core_broken k e = on_core e && not (serves k.core (takes e.word) (unseen k.state
 -- "requestsemaphore, queued, assigned, waiting, released and all state events bear c, increment c + 1, decrement c − 1.
 -- The first SEM line of a semaphore may bear any count."
 unfoldable pub count_follows : Option ℕ → ℕ → ℕ → Bool
-count_follows none a n = true
-count_follows (some c) a n = cond (eqb a increment) (eqb n (c + 1)) (cond (eqb a decrement) (eqb (n + 1) c) (eqb n c))
+count_follows None a n = true
+count_follows (Some c) a n = cond (eqb a increment) (eqb n (c + 1)) (cond (eqb a decrement) (eqb (n + 1) c) (eqb n c))
 
 -- "Always: increment at least 1; free and unlock 0; lock 1; used, unlock_full, lock_used and full at least 1; overfull at least 2."
 unfoldable pub count_allowed : ℕ → ℕ → Bool

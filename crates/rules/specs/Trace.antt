@@ -1,7 +1,6 @@
 -- A trace as a list of lines: what is asked of a line in its place, and the verdict on all of them. A history of lines is the list of the
 -- lines taken, THE NEWEST FIRST.
-use Rattle.std.specs.Prelude.{◌≡◌, Bool, true, false, not, ◌&&◌, ◌||◌, cond, List, [], ◌∷◌, ℕ, ◌+◌, eqb, leb, length}
-use Rattle.std.proofs.Math.Option.{Option, none, some}
+use Rattle.std.specs.Prelude.{◌≡◌, Bool, true, false, not, ◌&&◌, ◌||◌, cond, List, [], ◌∷◌, ℕ, ◌+◌, eqb, leb, length, Option, None, Some}
 use Rattle.text.specs.Lists.{any}
 use Rattle.line.specs.declared.reading.Reading.{Reading}
 use Rattle.line.specs.declared.reading.Reading.TheVariants.{Version, Comment, TimeScale, Creator, CreationDate, EventLine, Refused}
@@ -21,21 +20,21 @@ use Rattle.rules.specs.Limits.{line_limit}
 -- ---- what the lines taken say, as the next line needs it
 
 abbrev pub scale_in : Reading → Option ℕ
-scale_in Version = none
-scale_in Comment = none
-scale_in (TimeScale s) = some (scale_number s)
-scale_in Creator = none
-scale_in CreationDate = none
-scale_in (EventLine e count) = none
-scale_in (Refused n) = none
+scale_in Version = None
+scale_in Comment = None
+scale_in (TimeScale s) = Some (scale_number s)
+scale_in Creator = None
+scale_in CreationDate = None
+scale_in (EventLine e count) = None
+scale_in (Refused n) = None
 
 abbrev pub or_zero : Option ℕ → ℕ
-or_zero none = 0
-or_zero (some n) = n
+or_zero None = 0
+or_zero (Some n) = n
 
 abbrev pub is_some : {A : Type 0} → Option A → Bool
-is_some none = false
-is_some (some x) = true
+is_some None = false
+is_some (Some x) = true
 
 -- how many lines were taken, the number of the time scale (0 where there is none yet), and whether a creator, a creation date, an event was given
 unfoldable pub place_of : List (List ℕ) → Place
@@ -88,8 +87,8 @@ answer_in_place p l = lowest (place_tests p l)
 -- by the answer to an event after a history of events
 module _ (judge : List Event → Event → ℕ) where
   abbrev pub event_answer_by : Option Event → List Event → ℕ
-  event_answer_by none es = 0
-  event_answer_by (some e) es = judge es e
+  event_answer_by None es = 0
+  event_answer_by (Some e) es = judge es e
 
   abbrev pub answer_by : List (List ℕ) → List ℕ → ℕ
   answer_by h l = if_zero (answer_in_place (place_of h) l) (event_answer_by (event_of_line l) (events_of h)) (answer_in_place (place_of h) l)

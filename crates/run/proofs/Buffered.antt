@@ -1,4 +1,5 @@
 -- A turn over the buffer is a step of reading, and the end of input over the buffer is that of reading: the buffer's front holds what was carried over.
+use Rattle.std.proofs.Common.{None, Some, Option}
 use mathlib.Core.Path.{◌≡◌, refl, ap}
 use mathlib.Core.Bool.{Bool, true, false, cond}
 use mathlib.Core.List.{List, ◌∷◌, ◌++◌}
@@ -13,14 +14,12 @@ use Rattle.walk.specs.Lines.{rest_of}
 use Rattle.walk.proofs.Chunks.{size}
 use Rattle.rules.specs.Lists.{if_zero}
 use Rattle.judge.specs.Feed.{Tables, fed_line, fed_chunk}
-use Rattle.run.specs.declared.chunk.Turn.{Turn}
-use Rattle.run.specs.declared.chunk.Turn.TheVariants.{More, Stop}
 use Rattle.run.specs.Chunk.{carried_most, Turned, carried_over, chunk_taken, last_taken, Progress, going, stopped, read_on, at_input_end}
 
 -- what is read after a turn
-abbrev pub read_after : Turn → Tables → List ℕ → List (List ℕ) → Progress
-read_after (More n) t buf rs = read_on t (take n buf) rs
-read_after Stop t buf rs = stopped t
+abbrev pub read_after : Option ℕ → Tables → List ℕ → List (List ℕ) → Progress
+read_after (Some n) t buf rs = read_on t (take n buf) rs
+read_after None t buf rs = stopped t
 
 abbrev pub goes_on : Turned → List (List ℕ) → Progress
 goes_on u rs = read_after u.turn u.left u.buffer rs
@@ -39,9 +38,9 @@ turn_step t buf n rest r rs e =
     by_tests : (a : ℕ) (b : Bool) (u : Tables) (s : List ℕ) → length s ≤ length buf →
         goes_on
         (if_zero a
-        (cond b (record { turn = Stop; left = (fed_line u s).left; buffer = buf })
-        (record { turn = More (length s); left = u; buffer = written buf 0 s }))
-        (record { turn = Stop; left = u; buffer = buf })) rs
+        (cond b (record { turn = None; left = (fed_line u s).left; buffer = buf })
+        (record { turn = Some (length s); left = u; buffer = written buf 0 s }))
+        (record { turn = None; left = u; buffer = buf })) rs
         ≡ if_zero a (cond b (stopped (fed_line u s).left) (read_on u s rs)) (stopped u)
     by_tests zero true u s h = refl
     by_tests zero false u s h = ap (λ (x : List ℕ). read_on u x rs) (take_written buf s h)

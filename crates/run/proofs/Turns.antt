@@ -1,5 +1,6 @@
 -- Laws of a turn of reading: which bytes of the buffer are the chunk, that what its lines leave of it is its rest, and what each way out of the turn
 -- leaves.
+use Rattle.std.proofs.Common.{None, Some}
 use mathlib.Core.Path.{◌≡◌, sym, ap, ◌∙◌}
 use mathlib.Core.List.{List}
 use Prim.Native.Nat.{ℕ, zero, suc, ◌+◌, ◌-◌, ◌≤◌, ◌<◌}
@@ -16,7 +17,6 @@ use Rattle.tables.specs.Entry.{verdict_number}
 use Rattle.ranges.specs.Range.{table_answer}
 use Rattle.judge.specs.declared.feed.Fed.{Fed}
 use Rattle.judge.specs.Feed.{Tables, tables, After, fed_line, judged_lines, AfterChunk, chunked, fed_chunk}
-use Rattle.run.specs.declared.chunk.Turn.TheVariants.{More, Stop}
 use Rattle.run.specs.Chunk.{carried_most, Turned, turned, carried_over, chunk_taken, last_taken}
 
 -- ---- the first n bytes of the buffer, or all where it has no n
@@ -49,17 +49,17 @@ module _ (t : Tables) (l : List ℕ) (u n : ℕ) (h : u + n ≤ length l) where
   left_length = length-take-le n (drop u l) (omega (arith, length-drop u l))
 
   abbrev stop : Tables → Turned
-  stop v = record { turn = Stop; left = v; buffer = l }
+  stop v = record { turn = None; left = v; buffer = l }
 
   pub left_long : {y : After} → carried_most < n → y ≡ fed_line t (take ((u + n) - u) (drop u l)) →
-      record { turn = Stop; left = y.left; buffer = l } ≡ carried_over t (take n (drop u l)) l
+      record { turn = None; left = y.left; buffer = l } ≡ carried_over t (take n (drop u l)) l
   unfolding carried_over
   left_long k q =
       let s : (u + n) - u ≡ n = omega arith in
       rw (lt-ltb carried_most (length (take n (drop u l))) (omega (arith, left_length))) (ap (λ (y : After). stop y.left) (rw s at q))
 
   pub left_more : {m : List ℕ}
-      → n ≤ carried_most → m ≡ written l 0 (take n (drop u l)) → record { turn = More n; left = t; buffer = m } ≡ carried_over t (take n (drop u l)) l
+      → n ≤ carried_most → m ≡ written l 0 (take n (drop u l)) → record { turn = Some n; left = t; buffer = m } ≡ carried_over t (take n (drop u l)) l
   unfolding carried_over
   left_more k q = rw (le-ltb carried_most (length (take n (drop u l))) (omega (arith, left_length)), q, left_length)
 
@@ -90,9 +90,9 @@ module _ (t : Tables) (l : List ℕ) (n : ℕ) {e : ℕ} {x : Fed} {a b d : List
   fed_as : fed_chunk t (take n l) ≡ chunked x a b d
   fed_as = rw (← f.front) (sym p)
 
-  pub turn_refused : (x.answer ≡ 0 → ⊥) → turned Stop a b d l ≡ chunk_taken t l n
+  pub turn_refused : (x.answer ≡ 0 → ⊥) → turned None a b d l ≡ chunk_taken t l n
   unfolding chunk_taken
-  turn_refused h = rw fed_as (sym (if_some x.answer (carried_over (tables a b d) (rest_of (take n l)) l) (turned Stop a b d l) h))
+  turn_refused h = rw fed_as (sym (if_some x.answer (carried_over (tables a b d) (rest_of (take n l)) l) (turned None a b d l) h))
 
   module _ (z : x.answer ≡ 0) where
     pub used_rest : x.used + length (rest_of (take n l)) ≡ e

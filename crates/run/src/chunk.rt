@@ -10,13 +10,6 @@ use line::reading::LINE_MOST;
 // the longest unfinished line that is kept, as specs/Chunk.antt has it
 const CARRIED_MOST: usize = LINE_MOST + 1;
 
-// Whether to read on, with how many bytes carried over.
-#[derive(Clone, Copy)]
-pub enum Turn {
-    More(usize),
-    Stop,
-}
-
 // Moves the n bytes from the index at on to the front.
 fn shift(buf: &mut [u8], at: usize, n: usize)
     requires { at + n ≤ length buf.old }
@@ -37,7 +30,7 @@ fn carry_over(
     buf: &mut [u8],
     used: usize,
     left: usize,
-) -> Turn
+) -> Option<usize>
     requires { used + left ≤ length buf.old }
     ensures { turned result names.new nums.new ticks.new buf.new
         ≡ carried_over (tables names.old nums.old ticks.old) (take left (drop used buf.old)) buf.old }
@@ -45,10 +38,10 @@ fn carry_over(
     if CARRIED_MOST < left {
         let end = used + left;
         feed(names, nums, ticks, &buf[used..end]);
-        return Turn::Stop;
+        return None;
     }
     shift(buf, used, left);
-    Turn::More(left)
+    Some(left)
 }
 
 // Feeds the whole lines of the first n bytes of the buffer, or of all of them where it has no n.
@@ -58,7 +51,7 @@ pub fn take_chunk(
     ticks: &mut [u64],
     buf: &mut [u8],
     n: usize,
-) -> Turn
+) -> Option<usize>
     ensures { turned result names.new nums.new ticks.new buf.new
         ≡ chunk_taken (tables names.old nums.old ticks.old) buf.old n }
 {
@@ -68,7 +61,7 @@ pub fn take_chunk(
     }
     let fed = feed_chunk(names, nums, ticks, &buf[..end]);
     if fed.answer != 0 {
-        return Turn::Stop;
+        return None;
     }
     let used = fed.used;
     let left = end - used;

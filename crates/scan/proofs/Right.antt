@@ -1,8 +1,7 @@
 -- A line that is told by its first eight marks is the next line.
-use Rattle.std.proofs.Common.{◌≡◌, ℕ, zero, suc, ◌+◌, ◌-◌, ◌<◌, ◌≤◌, Bool, true, false, cond, ◌&&◌, ltb, List, length, get_or, refl, ⊎_elim, arith, ltb-false, eqb-true}
+use Rattle.std.proofs.Common.{◌≡◌, ℕ, zero, suc, ◌+◌, ◌-◌, ◌<◌, ◌≤◌, Bool, true, false, cond, ◌&&◌, ltb, List, length, get_or, refl, ⊎_elim, arith, ltb-false, eqb-true, None}
 use Rattle.text.proofs.Bools.{and_l, and_r, lt_or_ge}
 use Rattle.fields.specs.declared.part.Commas.{Commas}
-use Rattle.scan.specs.declared.ahead.Ahead.TheVariants.{Rest}
 use Rattle.scan.specs.Ahead.{ahead_of}
 use Rattle.scan.specs.Quick.{places_of, places_in, InSight, is_comma, are_commas, six_of, ends_after, after_six, told}
 use Rattle.scan.proofs.Places.{place, placed}
@@ -52,7 +51,7 @@ module _ (s : List ℕ) (at : ℕ) (fits : at + 129 ≤ length s) where
         told_line s at 7 (place s at) (placed s at) h' fits bytes (omega arith) (place s at 7) (comma_at_lem s at 7 (place s at) (placed s at) h' fits bytes 7 (omega arith))
 
     by_tests : (a b : Bool) → is_comma s at c.c7 ≡ a → ltb 127 c.c8 ≡ b
-        → let r = cond a (cond b Rest (ends_after s at c.c8 c)) (ends_after s at c.c7 (six_of c)) in told r ≡ true → r ≡ ahead_of false s at
+        → let r = cond a (cond b None (ends_after s at c.c8 c)) (ends_after s at c.c7 (six_of c)) in told r ≡ true → r ≡ ahead_of false s at
     unfolding places_in places_of
     by_tests false b x y t = ends_seventh t
     by_tests true true x y t = untold (ahead_of false s at) t

@@ -1,5 +1,5 @@
 -- How tight the contract of the next line is: no second answer, and wrong answers that it shuts out.
-use Rattle.std.proofs.Common.{◌≡◌, ℕ, ◌+◌, Bool, true, false, cond, not, eqb, ltb, List, [], ◌∷◌, length, refl}
+use Rattle.std.proofs.Common.{◌≡◌, ℕ, ◌+◌, Bool, true, false, cond, not, eqb, ltb, List, [], ◌∷◌, length, refl, None, Some, Option}
 use Rattle.text.specs.Literal.{bytes}
 use Rattle.text.specs.Bytes.{to_byte, find_from}
 use Rattle.text.specs.Pieces.{pieces}
@@ -8,19 +8,18 @@ use Rattle.walk.specs.Lines.{line_text, next_from}
 use Rattle.fields.specs.declared.part.Commas.{Commas}
 use Rattle.fields.specs.Part.{part_from, comma_at, commas_of}
 use Rattle.scan.specs.declared.ahead.Ahead.{Ahead}
-use Rattle.scan.specs.declared.ahead.Ahead.TheVariants.{Line, Rest}
 use Rattle.scan.specs.Ahead.{line_from, ahead_of}
 use Rattle.scan.specs.Quick.{told}
 
 -- ---- `next_line` and `ahead`, with one definition
 
-pub ahead_unique : (whole : Bool) (s : List ℕ) (at : ℕ) (x y : Ahead) → x ≡ ahead_of whole s at → y ≡ ahead_of whole s at → x ≡ y
+pub ahead_unique : (whole : Bool) (s : List ℕ) (at : ℕ) (x y : Option Ahead) → x ≡ ahead_of whole s at → y ≡ ahead_of whole s at → x ≡ y
 ahead_unique whole s = unique (ahead_of whole s)
 
 abbrev Asked : Type 0
 Asked = Bool × List ℕ × ℕ
 
-abbrev answer : Asked → Ahead
+abbrev answer : Asked → Option Ahead
 answer (whole, s, at) = ahead_of whole s at
 
 -- an unfinished line for a whole one
@@ -29,17 +28,17 @@ unfolding ahead_of line_from next_from line_text pieces
 ahead_not_a_rest = shut_out (λ r. not (told r)) (false, bytes "a", 0) refl refl
 
 -- by its marks alone, which are not made where fewer than 129 bytes are left
-pub ahead_not_by_marks_alone : ShutsOut answer (λ (whole, s, at). cond (ltb (length s) (at + 129)) Rest (ahead_of whole s at))
+pub ahead_not_by_marks_alone : ShutsOut answer (λ (whole, s, at). cond (ltb (length s) (at + 129)) None (ahead_of whole s at))
 unfolding ahead_of line_from next_from line_text pieces
 ahead_not_by_marks_alone = shut_out told (false, 97 ∷ 10 ∷ [], 0) refl refl
 
-abbrev with_commas : Ahead → Commas → Ahead
-with_commas (Line end start plain c) d = Line end start plain d
-with_commas Rest d = Rest
+abbrev with_commas : Option Ahead → Commas → Option Ahead
+with_commas (Some (record { end = end; start = start; plain = plain; commas = c })) d = Some (record { end = end; start = start; plain = plain; commas = d })
+with_commas None d = None
 
-abbrev first_comma : ℕ → Ahead → Bool
-first_comma n (Line end start plain c) = eqb c.c1 n
-first_comma n Rest = false
+abbrev first_comma : ℕ → Option Ahead → Bool
+first_comma n (Some (record { end = end; start = start; plain = plain; commas = c })) = eqb c.c1 n
+first_comma n None = false
 
 -- the commas of the chunk, not those of the line
 pub ahead_not_of_the_chunk : ShutsOut answer (λ (whole, s, at). with_commas (ahead_of whole s at) (commas_of s))

@@ -1,5 +1,5 @@
 -- The next line, where commas stand at its first marks and its end at the next.
-use Rattle.std.proofs.Common.{◌≡◌, ℕ, zero, suc, ◌+◌, ◌-◌, ◌<◌, ◌≤◌, true, false, List, length, get_or, take, drop, refl, ap, ⊎_elim, arith}
+use Rattle.std.proofs.Common.{◌≡◌, ℕ, zero, suc, ◌+◌, ◌-◌, ◌<◌, ◌≤◌, true, false, List, length, get_or, take, drop, refl, ap, ⊎_elim, arith, None, Option}
 use Rattle.text.specs.Bytes.{find_from}
 use Rattle.text.specs.Name.{all_plain}
 use Rattle.text.proofs.Bools.{lt_or_ge}
@@ -9,7 +9,6 @@ use Rattle.fields.specs.declared.part.Commas.{Commas}
 use Rattle.fields.specs.Part.{comma_at, commas_of}
 use Rattle.fields.proofs.Parts.{part_front}
 use Rattle.scan.specs.declared.ahead.Ahead.{Ahead}
-use Rattle.scan.specs.declared.ahead.Ahead.TheVariants.{Rest}
 use Rattle.scan.specs.Ahead.{line_from, ahead_of}
 use Rattle.scan.specs.Quick.{end_length, line_to, ends_after, told}
 use Rattle.scan.proofs.Stretch.{front_length, front_byte}
@@ -17,7 +16,7 @@ use Rattle.scan.proofs.Ends.{next_ends}
 use Rattle.scan.proofs.Places.{start_of, Placed, rises}
 
 -- where nothing is told there is nothing to show
-pub untold : (r : Ahead) → told Rest ≡ true → Rest ≡ r
+pub untold : (r : Option Ahead) → told None ≡ true → None ≡ r
 untold r t = let z : false ≡ true = t in cc
 
 -- seven places one after another and an eighth

@@ -1,10 +1,9 @@
 -- For the code alone: a line told by the places of the first eight bytes that no name may have. What it has to be is in Ahead.
-use Rattle.std.specs.Prelude.{◌≡◌, ℕ, zero, suc, ◌+◌, ◌<◌, ◌≤◌, Bool, true, false, cond, ◌&&◌, List, length, ◌==◌, nat_lt, slice_index}
+use Rattle.std.specs.Prelude.{◌≡◌, ℕ, zero, suc, ◌+◌, ◌<◌, ◌≤◌, Bool, true, false, cond, ◌&&◌, List, length, ◌==◌, nat_lt, slice_index, None, Some, Option}
 use Rattle.marks.specs.declared.two.Marks.{Marks}
 use Rattle.marks.specs.Marks.{marks_of, first_mark, rest_marks}
 use Rattle.fields.specs.declared.part.Commas.{Commas}
 use Rattle.scan.specs.declared.ahead.Ahead.{Ahead}
-use Rattle.scan.specs.declared.ahead.Ahead.TheVariants.{Line, Rest}
 use Rattle.scan.specs.Window.{is_mark}
 
 -- the marks without the first k
@@ -51,21 +50,21 @@ are_commas s at c =
 unfoldable pub end_length : List ℕ → ℕ → ℕ
 end_length s p = cond (slice_index s p == 10) 1 (cond (slice_index s p == 13 && slice_index s (p + 1) == 10) 2 0)
 
-abbrev pub line_to : ℕ → ℕ → Commas → Ahead
-line_to end zero c = Rest
-line_to end (suc more) c = Line end (end + suc more) true c
+abbrev pub line_to : ℕ → ℕ → Commas → Option Ahead
+line_to end zero c = None
+line_to end (suc more) c = Some (record { end = end; start = end + suc more; plain = true; commas = c })
 
-unfoldable pub ends_after : List ℕ → ℕ → ℕ → Commas → Ahead
+unfoldable pub ends_after : List ℕ → ℕ → ℕ → Commas → Option Ahead
 ends_after s at n c = line_to (at + n) (end_length s (at + n)) c
 
 -- the commas of a line that ends at the seventh place
 abbrev pub six_of : Commas → Commas
 six_of c = record { c1 = c.c1; c2 = c.c2; c3 = c.c3; c4 = c.c4; c5 = c.c5; c6 = c.c6; c7 = c.c7; c8 = c.c7 + 1 }
 
-unfoldable pub after_six : List ℕ → ℕ → Commas → Ahead
-after_six s at c = cond (is_comma s at c.c7) (cond (nat_lt 127 c.c8) Rest (ends_after s at c.c8 c)) (ends_after s at c.c7 (six_of c))
+unfoldable pub after_six : List ℕ → ℕ → Commas → Option Ahead
+after_six s at c = cond (is_comma s at c.c7) (cond (nat_lt 127 c.c8) None (ends_after s at c.c8 c)) (ends_after s at c.c7 (six_of c))
 
 -- whether a line is told
-abbrev pub told : Ahead → Bool
-told (Line end start plain c) = true
-told Rest = false
+abbrev pub told : Option Ahead → Bool
+told (Some (record { end = end; start = start; plain = plain; commas = c })) = true
+told None = false

@@ -6,19 +6,19 @@ use crate::quick::quick;
 use fields::part::Commas;
 use fields::split;
 use text::name::all_plain;
-use walk::lines::Next;
 use walk::reader::line_from;
 
+// A line that ends just before the index `end`; what stands after its end begins at the index `start`. Whether its bytes are all plain, and its commas.
 #[derive(Clone, Copy)]
-pub enum Ahead {
-    // The line ends just before the first index, and what stands after its end begins at the second; whether its bytes are all plain, and its commas.
-    Line(usize, usize, bool, Commas),
-    // No byte 10 is left: what is left is no whole line.
-    Rest,
+pub struct Ahead {
+    pub end: usize,
+    pub start: usize,
+    pub plain: bool,
+    pub commas: Commas,
 }
 
 // Where the line at an index ends, and where the next one begins; where `whole`, what is left is one line as it stands.
-fn next_at(s: &[u8], at: usize, whole: bool) -> Next
+fn next_at(s: &[u8], at: usize, whole: bool) -> Option<(usize, usize)>
     ensures { result ≡ line_from whole s.now at }
 {
     if !whole {
@@ -26,32 +26,34 @@ fn next_at(s: &[u8], at: usize, whole: bool) -> Next
     }
     let n = s.len();
     if n < at {
-        return Next::Rest;
+        return None;
     }
-    Next::Line(n, n)
+    Some((n, n))
 }
 
 // That line with what its bytes tell, each looked at by itself.
-fn by_bytes(s: &[u8], at: usize, whole: bool) -> Ahead
+fn by_bytes(s: &[u8], at: usize, whole: bool) -> Option<Ahead>
     ensures { result ≡ ahead_of whole s.now at }
 {
-    let next = next_at(s, at, whole);
-    let Next::Line(end, start) = next else {
-        return Ahead::Rest;
-    };
+    let (end, start) = next_at(s, at, whole)?;
     let line = &s[at..end];
-    Ahead::Line(end, start, all_plain(line), split(line))
+    Some(Ahead {
+        end,
+        start,
+        plain: all_plain(line),
+        commas: split(line),
+    })
 }
 
 // The same, by 128 bytes looked at together where these tell it.
-pub(crate) fn line_at(s: &[u8], at: usize, whole: bool) -> Ahead
+pub(crate) fn line_at(s: &[u8], at: usize, whole: bool) -> Option<Ahead>
     ensures { result ≡ ahead_of whole s.now at }
 {
     if whole {
         return by_bytes(s, at, true);
     }
     let q = quick(s, at);
-    if let Ahead::Line(_, _, _, _) = q {
+    if q.is_some() {
         return q;
     }
     by_bytes(s, at, false)

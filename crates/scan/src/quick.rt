@@ -63,20 +63,25 @@ fn end_length(s: &[u8], p: usize) -> usize
 }
 
 // The line at an index that has these commas, where it ends after n bytes; all of them are plain.
-fn ends_after(s: &[u8], at: usize, n: usize, c: Commas) -> Ahead
+fn ends_after(s: &[u8], at: usize, n: usize, c: Commas) -> Option<Ahead>
     requires { (at + n) + 1 < length s.now }
     ensures { result ≡ ends_after s.now at n c }
 {
     let end = at + n;
     let more = end_length(s, end);
     if more == 0 {
-        return Ahead::Rest;
+        return None;
     }
-    Ahead::Line(end, end + more, true, c)
+    Some(Ahead {
+        end,
+        start: end + more,
+        plain: true,
+        commas: c,
+    })
 }
 
 // The line at an index, where the first six marks are commas: the seventh is its end, or a comma before the note that the eighth ends.
-fn after_six(s: &[u8], at: usize, c: Commas) -> Ahead
+fn after_six(s: &[u8], at: usize, c: Commas) -> Option<Ahead>
     requires { InSight s.now at c }
     ensures { result ≡ after_six s.now at c }
 {
@@ -95,20 +100,20 @@ fn after_six(s: &[u8], at: usize, c: Commas) -> Ahead
         return ends_after(s, at, n, whole);
     }
     if 127 < c.c8 {
-        return Ahead::Rest;
+        return None;
     }
     ends_after(s, at, c.c8, c)
 }
 
 // The line at an index, where it ends within 128 bytes and they tell it; else nothing is told.
-pub(crate) fn quick(s: &[u8], at: usize) -> Ahead
+pub(crate) fn quick(s: &[u8], at: usize) -> Option<Ahead>
     ensures { told result ≡ true → result ≡ ahead_of false s.now at }
 {
     if s.len() < 129 {
-        return Ahead::Rest;
+        return None;
     }
     if s.len() - 129 < at {
-        return Ahead::Rest;
+        return None;
     }
     let m = Marks {
         low: marks_at(s, at),
@@ -116,10 +121,10 @@ pub(crate) fn quick(s: &[u8], at: usize) -> Ahead
     };
     let c = places(m);
     if 127 < c.c7 {
-        return Ahead::Rest;
+        return None;
     }
     if !six_commas(s, at, c) {
-        return Ahead::Rest;
+        return None;
     }
     after_six(s, at, c)
 }

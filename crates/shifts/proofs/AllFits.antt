@@ -1,9 +1,9 @@
 -- Sheets that may all be added and that no condition on all of them refuses (`AllFit`): exactly these come to a text together, and where all of some sheets fit, fewer of
 -- them do.
+use Rattle.std.proofs.Common.{Option, None, Some}
 use mathlib.Core.Path.{◌≡◌, refl, sym, ap, ◌∙◌}
 use mathlib.Core.Bool.{Bool, true, false, cond}
 use mathlib.Core.List.{List, [], ◌∷◌, ◌++◌, append-nil}
-use mathlib.Core.Option.{Option, none, some, none-ne-some}
 use Prim.Native.Nat.{ℕ}
 use Rattle.bill.specs.Reading.{Bill, bill_text}
 use Rattle.sorting.specs.Sets.{gather_by}
@@ -15,45 +15,45 @@ use Rattle.shifts.proofs.Fits.{Fit, fit_exactly, parts_fit}
 
 pub record AllFit (ts : List (List ℕ)) : Type 0 where
   pub bills : List Bill
-  pub read : bills_of ts ≡ some bills
+  pub read : bills_of ts ≡ Some bills
   pub fit : Fit bills
 
-pub fit_together : (ts : List (List ℕ)) (w : AllFit ts) → together ts ≡ some (bill_text (sum_of w.bills))
+pub fit_together : (ts : List (List ℕ)) (w : AllFit ts) → together ts ≡ Some (bill_text (sum_of w.bills))
 unfolding together
 fit_together ts w = rw (w.read, (fit_exactly w.bills).1 w.fit)
 
-pub unfit_together : (ts : List (List ℕ)) → (AllFit ts → ⊥) → together ts ≡ none
+pub unfit_together : (ts : List (List ℕ)) → (AllFit ts → ⊥) → together ts ≡ None
 unfolding together
 unfit_together ts h = by_bills (bills_of ts) refl
   where
-    by_tests : (bs : List Bill) (c : Bool) → bills_of ts ≡ some bs → any_of (all_tests bs) ≡ c → cond c none (some (bill_text (sum_of bs))) ≡ none
+    by_tests : (bs : List Bill) (c : Bool) → bills_of ts ≡ Some bs → any_of (all_tests bs) ≡ c → cond c None (Some (bill_text (sum_of bs))) ≡ None
     by_tests bs true r e = refl
     by_tests bs false r e = absurd (h (record { bills = bs; read = r; fit = (fit_exactly bs).0 e }))
 
-    by_bills : (o : Option (List Bill)) → bills_of ts ≡ o → text_of o ≡ none
-    by_bills none r = refl
-    by_bills (some bs) r = by_tests bs (any_of (all_tests bs)) r refl
+    by_bills : (o : Option (List Bill)) → bills_of ts ≡ o → text_of o ≡ None
+    by_bills None r = refl
+    by_bills (Some bs) r = by_tests bs (any_of (all_tests bs)) r refl
 
 -- ---- the bills of some sheets and of more
 
 abbrev pub both_of : Option (List Bill) → Option (List Bill) → Option (List Bill)
-both_of none p = none
-both_of (some bs) none = none
-both_of (some bs) (some cs) = some (bs ++ cs)
+both_of None p = None
+both_of (Some bs) None = None
+both_of (Some bs) (Some cs) = Some (bs ++ cs)
 
 pub bills_more : (ts us : List (List ℕ)) → bills_of (ts ++ us) ≡ both_of (bills_of ts) (bills_of us)
 bills_more [] us = no_more (bills_of us)
   where
-    no_more : (p : Option (List Bill)) → p ≡ both_of (some []) p
-    no_more none = refl
-    no_more (some cs) = refl
+    no_more : (p : Option (List Bill)) → p ≡ both_of (Some []) p
+    no_more None = refl
+    no_more (Some cs) = refl
 bills_more (t ∷ ts) us = ap (with_next (sound_sheet t)) (bills_more ts us) ∙ one_more (sound_sheet t) (bills_of ts) (bills_of us)
   where
     one_more : (b : Option Bill) (o p : Option (List Bill)) → with_next b (both_of o p) ≡ both_of (with_next b o) p
-    one_more none o p = refl
-    one_more (some b) none p = refl
-    one_more (some b) (some bs) none = refl
-    one_more (some b) (some bs) (some cs) = refl
+    one_more None o p = refl
+    one_more (Some b) None p = refl
+    one_more (Some b) (Some bs) None = refl
+    one_more (Some b) (Some bs) (Some cs) = refl
 
 -- ---- where all fit, fewer of them fit
 
@@ -78,10 +78,10 @@ fewer_fit (x ∷ xs) (y ∷ ys) k =
 pub fewer_sheets : (ts us : List (List ℕ)) → AllFit (ts ++ us) → AllFit ts × AllFit us
 fewer_sheets ts us w = by_bills (bills_of ts) (bills_of us) refl refl (sym (bills_more ts us) ∙ w.read)
   where
-    by_bills : (o p : Option (List Bill)) → bills_of ts ≡ o → bills_of us ≡ p → both_of o p ≡ some w.bills → AllFit ts × AllFit us
-    by_bills none p r s e = absurd (none-ne-some _ e)
-    by_bills (some bs) none r s e = absurd (none-ne-some _ e)
-    by_bills (some bs) (some cs) r s e =
+    by_bills : (o p : Option (List Bill)) → bills_of ts ≡ o → bills_of us ≡ p → both_of o p ≡ Some w.bills → AllFit ts × AllFit us
+    by_bills None p r s e = absurd (none-ne-some _ e)
+    by_bills (Some bs) None r s e = absurd (none-ne-some _ e)
+    by_bills (Some bs) (Some cs) r s e =
         let same : bs ++ cs ≡ w.bills = cc in
         let k = fewer_fit bs cs (rw same w.fit) in
         (record { bills = bs; read = r; fit = k.0 }, record { bills = cs; read = s; fit = k.1 })

@@ -1,11 +1,11 @@
 -- Sheets in any order come to the same together (`any_order`), and so do they added in any order and grouping (`any_way`). 02, No. 12: "order and grouping don't matter".
+use Rattle.std.proofs.Common.{Option, None, Some}
 use mathlib.Core.Path.{◌≡◌, refl, sym, ap, ◌∙◌}
 use mathlib.Core.Logic.{∥∥₁_elim}
 use mathlib.Core.List
 use mathlib.Core.List.Perm
 use mathlib.Core.List.{List, [], ◌∷◌, ◌++◌, cons≢nil, Perm, Permᴰ}
 use mathlib.Core.Option
-use mathlib.Core.Option.{Option, none, some}
 use Prim.Native.Nat.{ℕ}
 use native.Mathlib.Nat.{ℕ_set}
 use Rattle.shifts.specs.Sum.{Total, Text, Refusal, add_texts, add_totals, add_all}
@@ -19,14 +19,14 @@ use Rattle.shifts.proofs.Groupings.{grouped, left_grouped, sheets_left, all_toge
 -- ---- the bytes of sheets added from the left
 
 abbrev left_bytes : List (List ℕ) → Option (List ℕ)
-left_bytes [] = none
+left_bytes [] = None
 left_bytes (t ∷ ts) = bytes_of (sum_from t ts)
 
 -- the bytes of a sum, from those of its parts
 abbrev add_bytes : Option (List ℕ) → Option (List ℕ) → Option (List ℕ)
-add_bytes none p = none
-add_bytes (some t) none = none
-add_bytes (some t) (some u) = bytes_of (add_texts t u)
+add_bytes None p = None
+add_bytes (Some t) None = None
+add_bytes (Some t) (Some u) = bytes_of (add_texts t u)
 
 bytes_added : (x y : Total) → bytes_of (add_totals x y) ≡ add_bytes (bytes_of x) (bytes_of y)
 bytes_added (Refusal n) y = refl

@@ -1,9 +1,9 @@
 -- The empty sheet: it may be added, and of the sheets that may it changes exactly those that are not sorted, whichever of the two stands first.
+use Rattle.std.proofs.Common.{Some}
 use mathlib.Core.Path.{◌≡◌, refl, sym, ap₂, ◌∙◌}
 use mathlib.Core.Bool.{true, false}
 use mathlib.Core.Logic.{◌↔◌}
 use mathlib.Core.List.{List, [], ◌∷◌}
-use mathlib.Core.Option.{some}
 use Prim.Native.Nat.{ℕ, zero, suc, ◌+◌, ◌≤◌}
 use native.Mathlib.Omega.{arith}
 use lib.ListN.{length, replicate}
@@ -54,7 +54,7 @@ empty_fine n low high = record {
   charges = refl;
 }
 
-pub empty_sound : (n : ℕ) → 1 ≤ n → n ≤ 5 → sound_sheet (bill_text (empty_bill n)) ≡ some (empty_bill n)
+pub empty_sound : (n : ℕ) → 1 ≤ n → n ≤ 5 → sound_sheet (bill_text (empty_bill n)) ≡ Some (empty_bill n)
 empty_sound n low high = fine_printed (empty_bill n) (empty_fine n low high)
 
 -- ---- a section in order, and one without rows added to it
@@ -106,7 +106,7 @@ text_of : (n : ℕ) (s : Bill) (t : List ℕ) → total_by n s ≡ Text t → (n
 text_of zero s t e = (refl, cc)
 text_of (suc n) s t e = (cc, cc)
 
-module _ (t : List ℕ) (b : Bill) (s : sound_sheet t ≡ some b) where
+module _ (t : List ℕ) (b : Bill) (s : sound_sheet t ≡ Some b) where
   shown : Fine b
   shown = (sound_is t b s).1
 

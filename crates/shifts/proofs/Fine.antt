@@ -1,9 +1,9 @@
 -- Sheets that may be added, by their parts: `Fine b` names each test that a sound bill passes.
+use Rattle.std.proofs.Common.{Option, None, Some}
 use mathlib.Core.Path.{◌≡◌, refl}
 use mathlib.Core.Bool.{Bool, true, false, not, cond}
 use mathlib.Core.Logic.{◌↔◌}
 use mathlib.Core.List.{List, [], ◌∷◌}
-use mathlib.Core.Option.{Option, none, some}
 use Prim.Native.Nat.{ℕ, ◌+◌, ◌≤◌}
 use native.Mathlib.Omega.{arith}
 use lib.Dec.{eqb, leb, ltb}
@@ -111,34 +111,34 @@ module _ (cs ps : List Row) (e : too_many cs ps ≡ false) where
 
 -- ---- the bill of a text
 
-only_sound : (o : Option Bill) (b : Bill) → sound_only o ≡ some b → (o ≡ some b) × (unsound b ≡ false)
-only_sound none b e = (cc, cc)
-only_sound (some a) b e = by_test (unsound a) refl e
+only_sound : (o : Option Bill) (b : Bill) → sound_only o ≡ Some b → (o ≡ Some b) × (unsound b ≡ false)
+only_sound None b e = (cc, cc)
+only_sound (Some a) b e = by_test (unsound a) refl e
   where
-    by_test : (c : Bool) → unsound a ≡ c → cond c none (some a) ≡ some b → (some a ≡ some b) × (unsound b ≡ false)
+    by_test : (c : Bool) → unsound a ≡ c → cond c None (Some a) ≡ Some b → (Some a ≡ Some b) × (unsound b ≡ false)
     by_test true u e = (cc, cc)
     by_test false u e = let s : a ≡ b = cc in (e, rw (← s) u)
 
 module _ (t : List ℕ) (b : Bill) where
-  pub sound_is : sound_sheet t ≡ some b → (read_sheet t ≡ some b) × Fine b
+  pub sound_is : sound_sheet t ≡ Some b → (read_sheet t ≡ Some b) × Fine b
   unfolding sound_sheet
   sound_is e = let w = only_sound (read_sheet t) b e in (w.0, fine b w.1)
 
-  pub is_sound_lem : read_sheet t ≡ some b → Fine b → sound_sheet t ≡ some b
+  pub is_sound_lem : read_sheet t ≡ Some b → Fine b → sound_sheet t ≡ Some b
   unfolding sound_sheet
   is_sound_lem r f = rw (r, fine_sound b f)
 
 -- what is printed of a bill that may be added
-pub fine_printed : (b : Bill) → Fine b → sound_sheet (bill_text b) ≡ some b
+pub fine_printed : (b : Bill) → Fine b → sound_sheet (bill_text b) ≡ Some b
 fine_printed b f = is_sound_lem (bill_text b) b (print_read b f.low f.high f.core_names f.process_names) f
 
 -- a text may not be added exactly if it shows no such bill
-pub unsound_is : (t : List ℕ) → (sound_sheet t ≡ none) ↔ ((b : Bill) → read_sheet t ≡ some b → Fine b → ⊥)
+pub unsound_is : (t : List ℕ) → (sound_sheet t ≡ None) ↔ ((b : Bill) → read_sheet t ≡ Some b → Fine b → ⊥)
 unsound_is t = (there, by_bill (sound_sheet t) refl)
   where
-    there : sound_sheet t ≡ none → (b : Bill) → read_sheet t ≡ some b → Fine b → ⊥
+    there : sound_sheet t ≡ None → (b : Bill) → read_sheet t ≡ Some b → Fine b → ⊥
     there e b r f = let s = is_sound_lem t b r f in let z : ◌≡◌ {A = ℕ} 0 1 = cc in omega arith
 
-    by_bill : (o : Option Bill) → sound_sheet t ≡ o → ((b : Bill) → read_sheet t ≡ some b → Fine b → ⊥) → o ≡ none
-    by_bill none e h = refl
-    by_bill (some b) e h = let w = sound_is t b e in absurd (h b w.0 w.1)
+    by_bill : (o : Option Bill) → sound_sheet t ≡ o → ((b : Bill) → read_sheet t ≡ Some b → Fine b → ⊥) → o ≡ None
+    by_bill None e h = refl
+    by_bill (Some b) e h = let w = sound_is t b e in absurd (h b w.0 w.1)

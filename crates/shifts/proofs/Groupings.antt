@@ -1,10 +1,10 @@
 -- Sheets added in any grouping come to what all of them come to together (`grouped`), and have a sum exactly if all of them fit (`added_exactly`). 02, No. 12: "either way
 -- of adding three sheets gives the same bytes or both ways refuse, though perhaps with different reasons".
+use Rattle.std.proofs.Common.{Option, None, Some}
 use mathlib.Core.Path.{◌≡◌, refl, sym, ap, ◌∙◌}
 use mathlib.Core.Bool.{Bool, true, false}
 use mathlib.Core.Logic.{◌↔◌}
 use mathlib.Core.List.{List, [], ◌∷◌, ◌++◌, append-nil, append_assoc}
-use mathlib.Core.Option.{Option, none, some, none-ne-some}
 use Prim.Native.Nat.{ℕ, zero, suc}
 use native.Mathlib.Omega.{arith}
 use Rattle.bill.specs.Reading.{Bill, bill_text}
@@ -26,10 +26,10 @@ use Rattle.shifts.proofs.AllFits.{AllFit, fit_together, unfit_together, bills_mo
 pub record CameTo (g : Grouping) (t : List ℕ) : Type 0 where
   pub first : Bill
   pub others : List Bill
-  pub read : bills_of (sheets_of g) ≡ some (first ∷ others)
+  pub read : bills_of (sheets_of g) ≡ Some (first ∷ others)
   pub fit : Fit (first ∷ others)
   pub bill : Bill
-  pub sound : sound_sheet t ≡ some bill
+  pub sound : sound_sheet t ≡ Some bill
   pub sums : SumOf (first ∷ others) bill
 
 -- what a total says of the sheets that come to it
@@ -42,8 +42,8 @@ unfolding alone is_sound
 of_sheet t = by_bill (sound_sheet t) refl
   where
     by_bill : (o : Option Bill) → sound_sheet t ≡ o → Says (Sheet t) (text_if (is_bill o) t)
-    by_bill none r = λ w. none-ne-some _ (sym (ap (λ (o : Option Bill). with_next o (some [])) r) ∙ w.read)
-    by_bill (some b) r = record { first = b; others = []; read = rw r; fit = alone_fit b (sound_is t b r).1; bill = b; sound = r; sums = alone_sum b }
+    by_bill None r = λ w. none-ne-some _ (sym (ap (λ (o : Option Bill). with_next o (Some [])) r) ∙ w.read)
+    by_bill (Some b) r = record { first = b; others = []; read = rw r; fit = alone_fit b (sound_is t b r).1; bill = b; sound = r; sums = alone_sum b }
 
 module _ (g h : Grouping) where
   -- and of those of two groupings, with its bytes
@@ -63,7 +63,7 @@ module _ (g h : Grouping) where
     abbrev all : List Bill
     all = c.first ∷ c.others ++ d.first ∷ d.others
 
-    all_read : bills_of (sheets_of g ++ sheets_of h) ≡ some all
+    all_read : bills_of (sheets_of g ++ sheets_of h) ≡ Some all
     all_read = bills_more (sheets_of g) (sheets_of h) ∙ rw (c.read, d.read)
 
     all_fit : (refusal a b ≡ 0) ↔ Fit all
@@ -83,7 +83,7 @@ module _ (g h : Grouping) where
       sums = both_sum c.first c.others (d.first ∷ d.others) a b c.sums d.sums;
     }
 
-    both_bytes : refusal a b ≡ 0 → some (bill_text (sum a b)) ≡ together (sheets_of g ++ sheets_of h)
+    both_bytes : refusal a b ≡ 0 → Some (bill_text (sum a b)) ≡ together (sheets_of g ++ sheets_of h)
     both_bytes e =
         rw (sum_is c.first c.others (d.first ∷ d.others) a b c.sums d.sums)
         (sym (fit_together (sheets_of g ++ sheets_of h) (record { bills = all; read = all_read; fit = all_fit.0 e })))
@@ -118,13 +118,13 @@ add_sheet : (x : Total) (u : List ℕ) → add_totals x (alone u) ≡ add_next x
 unfolding alone is_sound add_texts
 add_sheet (Text t) u = by_bill (sound_sheet u) refl
   where
-    unread : (o : Option Bill) → Refusal 21 ≡ add_sound o none
-    unread none = refl
-    unread (some a) = refl
+    unread : (o : Option Bill) → Refusal 21 ≡ add_sound o None
+    unread None = refl
+    unread (Some a) = refl
 
     by_bill : (o : Option Bill) → sound_sheet u ≡ o → add_totals (Text t) (text_if (is_bill o) u) ≡ add_sound (sound_sheet t) o
-    by_bill none r = unread (sound_sheet t)
-    by_bill (some b) r = rw r
+    by_bill None r = unread (sound_sheet t)
+    by_bill (Some b) r = rw r
 add_sheet (Refusal n) u = refl
 
 from_left_lem : (g : Grouping) (us : List (List ℕ)) → add_all (comes_to g) us ≡ comes_to (from_left g us)
@@ -172,7 +172,7 @@ unfolding alone
 sheet_added t (Text u) = ap bytes_of (sym (next_totals (alone t) u) ∙ add_alone t u)
 sheet_added t (Refusal n) = by_test (is_sound t)
   where
-    by_test : (c : Bool) → bytes_of (add_totals (text_if c t) (Refusal n)) ≡ none
+    by_test : (c : Bool) → bytes_of (add_totals (text_if c t) (Refusal n)) ≡ None
     by_test true = refl
     by_test false = refl
 

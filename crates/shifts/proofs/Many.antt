@@ -1,10 +1,10 @@
 -- Many sheets added from the left: a refusal stays, no refusal is below 21, a sum is a sheet that may be added, and of a longer text than any sheet the
 -- rest does not matter.
+use Rattle.std.proofs.Common.{Option, None, Some}
 use mathlib.Core.Path.{◌≡◌, refl, ap}
 use mathlib.Core.Bool.{Bool, true, false}
 use mathlib.Core.Logic.{◌⊎◌, inl, inr}
 use mathlib.Core.List.{List, [], ◌∷◌, ◌++◌}
-use mathlib.Core.Option.{Option, none, some}
 use Prim.Native.Nat.{ℕ, zero, suc, ◌≤◌, ◌<◌}
 use native.Mathlib.Omega.{arith}
 use lib.ListN.{length, take, length-take}
@@ -78,9 +78,9 @@ two_from t u = by_bills (sound_sheet t) (sound_sheet u)
     by_number (suc n) s (inr h) = omega arith
 
     by_bills : (o p : Option Bill) → From21 (add_sound o p)
-    by_bills none p = omega arith
-    by_bills (some a) none = omega arith
-    by_bills (some a) (some b) = by_number (refusal a b) (sum a b) (refused_from a b)
+    by_bills None p = omega arith
+    by_bills (Some a) None = omega arith
+    by_bills (Some a) (Some b) = by_number (refusal a b) (sum a b) (refused_from a b)
 
 pub from_21 : (t : List ℕ) (us : List (List ℕ)) {n : ℕ} → sum_from t us ≡ Refusal n → 21 ≤ n
 from_21 t us e = rw e at (from_alone From21 two_from t us (λ s. tt) (omega arith))
@@ -88,27 +88,27 @@ from_21 t us e = rw e at (from_alone From21 two_from t us (λ s. tt) (omega arit
 -- ---- a sum may be added, so it is no longer than a sheet
 
 module _ (a b : Bill) (f : Fine a) (g : Fine b) where
-  pub sum_sound : refusal a b ≡ 0 → sound_sheet (bill_text (sum a b)) ≡ some (sum a b)
+  pub sum_sound : refusal a b ≡ 0 → sound_sheet (bill_text (sum a b)) ≡ Some (sum a b)
   sum_sound e = fine_printed (sum a b) (sum_fine a b f g e)
 
 pub sum_short : (t u v : List ℕ) → add_texts t u ≡ Text v → length v ≤ sheet_most
 unfolding add_texts
 sum_short t u v = by_bills (sound_sheet t) (sound_sheet u) refl refl
   where
-    by_number : (a b : Bill) (n : ℕ) → sound_sheet t ≡ some a → sound_sheet u ≡ some b → refusal a b ≡ n → total_by n (sum a b) ≡ Text v → length v ≤ sheet_most
+    by_number : (a b : Bill) (n : ℕ) → sound_sheet t ≡ Some a → sound_sheet u ≡ Some b → refusal a b ≡ n → total_by n (sum a b) ≡ Text v → length v ≤ sheet_most
     by_number a b zero r s q e =
         let same : bill_text (sum a b) ≡ v = cc in
         rw same at (sound_longest (bill_text (sum a b)) (sum a b) (sum_sound a b (sound_is t a r).1 (sound_is u b s).1 q))
     by_number a b (suc n) r s q e = absurd (never_text e)
 
     by_bills : (o p : Option Bill) → sound_sheet t ≡ o → sound_sheet u ≡ p → add_sound o p ≡ Text v → length v ≤ sheet_most
-    by_bills none p r s e = absurd (never_text e)
-    by_bills (some a) none r s e = absurd (never_text e)
-    by_bills (some a) (some b) r s e = by_number a b (refusal a b) r s refl e
+    by_bills None p r s e = absurd (never_text e)
+    by_bills (Some a) None r s e = absurd (never_text e)
+    by_bills (Some a) (Some b) r s e = by_number a b (refusal a b) r s refl e
 
 bill_short : (t : List ℕ) (o : Option Bill) → sound_sheet t ≡ o → is_bill o ≡ true → length t ≤ sheet_most
-bill_short t none r e = let z : ◌≡◌ {A = ℕ} 0 1 = cc in absurd (omega arith)
-bill_short t (some b) r e = sound_longest t b r
+bill_short t None r e = let z : ◌≡◌ {A = ℕ} 0 1 = cc in absurd (omega arith)
+bill_short t (Some b) r e = sound_longest t b r
 
 pub sound_short : (t : List ℕ) → is_sound t ≡ true → length t ≤ sheet_most
 unfolding is_sound
@@ -136,8 +136,8 @@ unfolding alone is_sound add_texts
 add_alone t u = by_bill (sound_sheet t) refl
   where
     by_bill : (o : Option Bill) → sound_sheet t ≡ o → add_next (text_if (is_bill o) t) u ≡ add_sound o (sound_sheet u)
-    by_bill none r = refl
-    by_bill (some a) r = rw r
+    by_bill None r = refl
+    by_bill (Some a) r = rw r
 
 pub all_added : (t u : List ℕ) (us : List (List ℕ)) → sum_from t (u ∷ us) ≡ add_all (Text t) (u ∷ us)
 all_added t u us = ap (λ (x : Total). add_all x us) (add_alone t u)
@@ -148,14 +148,14 @@ all_added t u us = ap (λ (x : Total). add_all x us) (add_alone t u)
 abbrev pub ReadAs : List ℕ → List ℕ → Type 0
 ReadAs t u = (u ≡ t) ⊎ ((sheet_most < length t) × (take (length t) u ≡ t))
 
-unsound_long : (t : List ℕ) → sheet_most < length t → sound_sheet t ≡ none
+unsound_long : (t : List ℕ) → sheet_most < length t → sound_sheet t ≡ None
 unsound_long t h = by_bill (sound_sheet t) refl
   where
-    by_bill : (o : Option Bill) → sound_sheet t ≡ o → o ≡ none
-    by_bill none r = refl
-    by_bill (some b) r = absurd (omega (arith, sound_longest t b r))
+    by_bill : (o : Option Bill) → sound_sheet t ≡ o → o ≡ None
+    by_bill None r = refl
+    by_bill (Some b) r = absurd (omega (arith, sound_longest t b r))
 
-neither : (t u : List ℕ) → sheet_most < length t → take (length t) u ≡ t → (sound_sheet u ≡ none) × (sound_sheet t ≡ none)
+neither : (t u : List ℕ) → sheet_most < length t → take (length t) u ≡ t → (sound_sheet u ≡ None) × (sound_sheet t ≡ None)
 neither t u h e = (unsound_long u (omega (arith, ap length e, length-take (length t) u)), unsound_long t h)
 
 same_alone : (t u : List ℕ) → ReadAs t u → alone u ≡ alone t

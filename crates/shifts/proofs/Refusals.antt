@@ -1,9 +1,9 @@
 -- Each refusal exactly when its condition holds and none before it: 22 to 25 of two sound bills, none exactly if they may be added, and 21 of texts.
+use Rattle.std.proofs.Common.{Option, None, Some}
 use mathlib.Core.Path.{◌≡◌, refl}
 use mathlib.Core.Bool.{Bool, true, false, not, cond}
 use mathlib.Core.Logic.{◌⊎◌, inl, inr, ⊎_elim, ◌↔◌}
 use mathlib.Core.List.{List, [], ◌∷◌}
-use mathlib.Core.Option.{Option, none, some}
 use Prim.Native.Nat.{ℕ, zero, suc, ◌+◌, ◌≤◌, ◌<◌}
 use native.Mathlib.Omega.{arith}
 use lib.Dec.{eqb, ltb}
@@ -102,22 +102,22 @@ by_number (suc n) m s e = cc
 
 module _ (t u : List ℕ) where
   -- "malformed, or a core's three figures not making the span, or charges not making all held ticks", of either
-  pub unsound_exactly : (add_texts t u ≡ Refusal 21) ↔ ((sound_sheet t ≡ none) ⊎ (sound_sheet u ≡ none))
+  pub unsound_exactly : (add_texts t u ≡ Refusal 21) ↔ ((sound_sheet t ≡ None) ⊎ (sound_sheet u ≡ None))
   unfolding add_texts
   unsound_exactly = (there (sound_sheet t) (sound_sheet u), back (sound_sheet t) (sound_sheet u))
     where
-      there : (o p : Option Bill) → add_sound o p ≡ Refusal 21 → (o ≡ none) ⊎ (p ≡ none)
-      there none p e = inl refl
-      there (some a) none e = inr refl
-      there (some a) (some b) e = let z = by_number (refusal a b) 21 (sum a b) e in absurd (⊎_elim (λ w. omega arith) (λ w. omega arith) (refused_from a b))
+      there : (o p : Option Bill) → add_sound o p ≡ Refusal 21 → (o ≡ None) ⊎ (p ≡ None)
+      there None p e = inl refl
+      there (Some a) None e = inr refl
+      there (Some a) (Some b) e = let z = by_number (refusal a b) 21 (sum a b) e in absurd (⊎_elim (λ w. omega arith) (λ w. omega arith) (refused_from a b))
 
-      back : (o p : Option Bill) → (o ≡ none) ⊎ (p ≡ none) → add_sound o p ≡ Refusal 21
-      back none p h = refl
-      back (some a) none h = refl
-      back (some a) (some b) (inl e) = cc
-      back (some a) (some b) (inr e) = cc
+      back : (o p : Option Bill) → (o ≡ None) ⊎ (p ≡ None) → add_sound o p ≡ Refusal 21
+      back None p h = refl
+      back (Some a) None h = refl
+      back (Some a) (Some b) (inl e) = cc
+      back (Some a) (Some b) (inr e) = cc
 
-  module _ (a b : Bill) (s : sound_sheet t ≡ some a) (r : sound_sheet u ≡ some b) where
+  module _ (a b : Bill) (s : sound_sheet t ≡ Some a) (r : sound_sheet u ≡ Some b) where
     pub text_exactly : (add_texts t u ≡ Text (bill_text (sum a b))) ↔ (refusal a b ≡ 0)
     unfolding add_texts
     text_exactly = rw (s, r) (there (refusal a b), λ e. rw e)

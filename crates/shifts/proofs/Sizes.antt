@@ -1,8 +1,8 @@
 -- How long texts get: the rows of a sum of two sound bills (`core_rows_most`, `process_rows_most`), and the text of a sound bill (`sound_longest`).
+use Rattle.std.proofs.Common.{Some}
 use mathlib.Core.Path.{◌≡◌, refl}
 use mathlib.Core.Bool.{true, false}
 use mathlib.Core.List.{List, [], ◌∷◌}
-use mathlib.Core.Option.{some}
 use Prim.Native.Nat.{ℕ, suc, ◌+◌, ◌*◌, ◌^◌, ◌≤◌, ◌<◌}
 use native.Mathlib.Omega.{arith}
 use lib.Dec.{ltb}
@@ -107,5 +107,5 @@ bill_longest b f =
     ))
 
 -- of a text that shows it
-pub sound_longest : (t : List ℕ) (b : Bill) → sound_sheet t ≡ some b → length t ≤ 24008
+pub sound_longest : (t : List ℕ) (b : Bill) → sound_sheet t ≡ Some b → length t ≤ 24008
 sound_longest t b e = let w = sound_is t b e in rw (read_print t b w.0).text (bill_longest b w.1)

@@ -1,9 +1,9 @@
 -- What three sheets come to, as one statement over one list: together, and in all six orders and both groupings; and that grouping may change the
 -- reason of a refusal.
+use Rattle.std.proofs.Common.{Option, None, Some}
 use mathlib.Core.Path.{◌≡◌, refl}
 use mathlib.Core.Bool.{Bool, true, false, ◌&&◌}
 use mathlib.Core.List.{List, [], ◌∷◌, ◌++◌}
-use mathlib.Core.Option.{Option, none, some}
 use Prim.Native.Nat.{ℕ}
 use lib.Dec.{eqb}
 use Rattle.text.specs.Bytes.{same_bytes, starts_with, to_byte}
@@ -45,25 +45,25 @@ abbrev examples : List Example
 examples =
     -- figures of equal names; a core missing from some sheets gets their spans as unknown
     adds (text early) (text late) night
-    (some (text ("verdict 0 line 0 scale ns span 22" ∷ "cores 4" ∷ "c0 0 5 17" ∷ "c1 1 0 21" ∷ "c2 6 11 5" ∷ "c3 7 0 15" ∷ "processes 3" ∷ "A 9" ∷ "B 0" ∷ "T 5" ∷ [])))
-    ∷ adds (text early) nothing (text late) (some (text both))
+    (Some (text ("verdict 0 line 0 scale ns span 22" ∷ "cores 4" ∷ "c0 0 5 17" ∷ "c1 1 0 21" ∷ "c2 6 11 5" ∷ "c3 7 0 15" ∷ "processes 3" ∷ "A 9" ∷ "B 0" ∷ "T 5" ∷ [])))
+    ∷ adds (text early) nothing (text late) (Some (text both))
     -- one of them may not be added
-    ∷ adds (text early) (text late) (with 5 "T 6") none
+    ∷ adds (text early) (text late) (with 5 "T 6") None
     -- one scale
     ∷ adds (bare "verdict 0 line 0 scale us span 1") (bare "verdict 0 line 0 scale us span 2") (bare "verdict 0 line 0 scale us span 3")
-    (some (bare "verdict 0 line 0 scale us span 6"))
-    ∷ adds (bare "verdict 0 line 0 scale us span 1") (bare "verdict 0 line 0 scale us span 2") (bare "verdict 0 line 0 scale ms span 3") none
+    (Some (bare "verdict 0 line 0 scale us span 6"))
+    ∷ adds (bare "verdict 0 line 0 scale us span 1") (bare "verdict 0 line 0 scale us span 2") (bare "verdict 0 line 0 scale ms span 3") None
     -- a name a core in one and a process in another
-    ∷ adds (text early) night (processes ("processes 1" ∷ "c1 0" ∷ [])) none
-    ∷ adds (cores ("cores 1" ∷ "x 0 0 0" ∷ [])) nothing (processes ("processes 1" ∷ "x 0" ∷ [])) none
+    ∷ adds (text early) night (processes ("processes 1" ∷ "c1 0" ∷ [])) None
+    ∷ adds (cores ("cores 1" ∷ "x 0 0 0" ∷ [])) nothing (processes ("processes 1" ∷ "x 0" ∷ [])) None
     -- 64 cores, and 65
-    ∷ adds (cores_from 0 2 "cores 2") (cores_from 1 62 "cores 62") (cores_from 62 2 "cores 2") (some (cores_from 0 64 "cores 64"))
-    ∷ adds (cores_from 0 2 "cores 2") (cores_from 1 62 "cores 62") (cores_from 63 2 "cores 2") none
+    ∷ adds (cores_from 0 2 "cores 2") (cores_from 1 62 "cores 62") (cores_from 62 2 "cores 2") (Some (cores_from 0 64 "cores 64"))
+    ∷ adds (cores_from 0 2 "cores 2") (cores_from 1 62 "cores 62") (cores_from 63 2 "cores 2") None
     -- the longest span, and a tick more
     ∷ adds (bare "verdict 0 line 0 scale ns span 24019198012642645") (bare "verdict 0 line 0 scale ns span 24019198012642645")
-    (bare "verdict 0 line 0 scale ns span 24019198012642645") (some (bare "verdict 0 line 0 scale ns span 72057594037927935"))
+    (bare "verdict 0 line 0 scale ns span 24019198012642645") (Some (bare "verdict 0 line 0 scale ns span 72057594037927935"))
     ∷ adds (bare "verdict 0 line 0 scale ns span 24019198012642645") (bare "verdict 0 line 0 scale ns span 24019198012642645")
-    (bare "verdict 0 line 0 scale ns span 24019198012642646") none
+    (bare "verdict 0 line 0 scale ns span 24019198012642646") None
     ∷ []
 
 abbrev groupings : List ℕ → List ℕ → List ℕ → List Grouping
@@ -73,10 +73,10 @@ abbrev ways : List ℕ → List ℕ → List ℕ → List Grouping
 ways t u v = groupings t u v ++ groupings t v u ++ groupings u t v ++ groupings u v t ++ groupings v t u ++ groupings v u t
 
 abbrev same : Option (List ℕ) → Option (List ℕ) → Bool
-same none none = true
-same none (some u) = false
-same (some t) none = false
-same (some t) (some u) = same_bytes t u
+same None None = true
+same None (Some u) = false
+same (Some t) None = false
+same (Some t) (Some u) = same_bytes t u
 
 abbrev right : Example → Bool
 right e =

@@ -1,9 +1,9 @@
 -- Two sheets either way round: the same sum, the same refusal, and so the same bytes. 02, No. 12: "Prove of adding (No. 2) that order and grouping don't matter".
+use Rattle.std.proofs.Common.{Option, None, Some}
 use mathlib.Core.Path.{◌≡◌, refl, sym, ap, ap₂, fun_ext, ◌∙◌}
 use mathlib.Core.Bool.{or_comm}
 use mathlib.Core.Logic.{◌⊎◌, inl, inr}
 use mathlib.Core.List.{List, [], ◌∷◌}
-use mathlib.Core.Option.{Option, none, some}
 use Prim.Native.Nat.{ℕ, zero, suc, ◌+◌}
 use native.Mathlib.Omega.{arith}
 use borrow.Author.Tests.{ne_eqb}
@@ -71,7 +71,7 @@ texts_turned t u = by_bills (sound_sheet t) (sound_sheet u)
     by_number a b (suc n) e = refl
 
     by_bills : (o p : Option Bill) → add_sound o p ≡ add_sound p o
-    by_bills none none = refl
-    by_bills none (some b) = refl
-    by_bills (some a) none = refl
-    by_bills (some a) (some b) = by_number a b (refusal a b) refl ∙ rw (refusal_turned a b)
+    by_bills None None = refl
+    by_bills None (Some b) = refl
+    by_bills (Some a) None = refl
+    by_bills (Some a) (Some b) = by_number a b (refusal a b) refl ∙ rw (refusal_turned a b)

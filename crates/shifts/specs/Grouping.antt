@@ -1,6 +1,5 @@
 -- Sheets added in some grouping: each sum is of two, which are sheets or sums themselves. 02, No. 12: "either way of adding three sheets", and of any number.
-use Rattle.std.specs.Prelude.{List, [], ◌∷◌, ◌++◌, ℕ}
-use Rattle.std.proofs.Math.Option.{Option, none, some}
+use Rattle.std.specs.Prelude.{List, [], ◌∷◌, ◌++◌, ℕ, Option, None, Some}
 use Rattle.shifts.specs.Sum.{Total, Text, Refusal, add_totals}
 use Rattle.shifts.specs.Many.{alone}
 
@@ -20,8 +19,8 @@ comes_to (Sum g h) = add_totals (comes_to g) (comes_to h)
 
 -- "the same bytes or both ways refuse, though perhaps with different reasons": the bytes, or none for any reason
 abbrev pub bytes_of : Total → Option (List ℕ)
-bytes_of (Text t) = some t
-bytes_of (Refusal n) = none
+bytes_of (Text t) = Some t
+bytes_of (Refusal n) = None
 
 -- each sheet added to the sum of all before it
 abbrev pub from_left : Grouping → List (List ℕ) → Grouping

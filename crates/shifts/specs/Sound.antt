@@ -1,6 +1,5 @@
 -- Which sheets may be added. 02, No. 2: "malformed, or a core's three figures not making the span, or charges not making all held ticks".
-use Rattle.std.specs.Prelude.{Bool, not, ◌||◌, cond, List, [], ◌∷◌, ℕ, ◌+◌, eqb, leb, ltb, length}
-use Rattle.std.proofs.Math.Option.{Option, none, some}
+use Rattle.std.specs.Prelude.{Bool, not, ◌||◌, cond, List, [], ◌∷◌, ℕ, ◌+◌, eqb, leb, ltb, length, Option, None, Some}
 use Rattle.text.specs.Sizes.{max_time, name_limit, core_limit}
 use Rattle.text.specs.Lists.{any, sum_over}
 use Rattle.bill.specs.Rows.{Row, all_named}
@@ -67,8 +66,8 @@ unsound b = malformed b || any_of (sum_tests b)
 -- ---- the bill of a text, where the text may be added: none is 21
 
 abbrev pub sound_only : Option Bill → Option Bill
-sound_only none = none
-sound_only (some b) = cond (unsound b) none (some b)
+sound_only None = None
+sound_only (Some b) = cond (unsound b) None (Some b)
 
 unfoldable pub sound_sheet : List ℕ → Option Bill
 sound_sheet t = sound_only (read_sheet t)

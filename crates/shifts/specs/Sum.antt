@@ -1,6 +1,5 @@
 -- The sum of two bills, and when it is refused.
-use Rattle.std.specs.Prelude.{Bool, not, ◌||◌, cond, List, [], ◌∷◌, ◌++◌, ℕ, zero, suc, ◌+◌, eqb, ltb}
-use Rattle.std.proofs.Math.Option.{Option, none, some}
+use Rattle.std.specs.Prelude.{Bool, not, ◌||◌, cond, List, [], ◌∷◌, ◌++◌, ℕ, zero, suc, ◌+◌, eqb, ltb, Option, None, Some}
 use Rattle.text.specs.Sizes.{max_time}
 use Rattle.bill.specs.declared.section.Section.{Section}
 use Rattle.bill.specs.declared.section.Section.TheVariants.{Cores, Processes}
@@ -82,9 +81,9 @@ total_by (suc n) s = Refusal (suc n)
 
 -- "malformed" is 21, of either
 abbrev pub add_sound : Option Bill → Option Bill → Total
-add_sound none o = Refusal 21
-add_sound (some a) none = Refusal 21
-add_sound (some a) (some b) = total_by (refusal a b) (sum a b)
+add_sound None o = Refusal 21
+add_sound (Some a) None = Refusal 21
+add_sound (Some a) (Some b) = total_by (refusal a b) (sum a b)
 
 unfoldable pub add_texts : List ℕ → List ℕ → Total
 add_texts t u = add_sound (sound_sheet t) (sound_sheet u)

@@ -1,7 +1,6 @@
 -- Many sheets at once: what they come to, with no order and no grouping in it. `Groupings.grouped` says that sheets added in any grouping come to this, and `AnyOrder.any_order`
 -- that it is the same in any order.
-use Rattle.std.specs.Prelude.{Bool, not, cond, List, [], ◌∷◌, ◌++◌, ℕ, eqb, ltb}
-use Rattle.std.proofs.Math.Option.{Option, none, some}
+use Rattle.std.specs.Prelude.{Bool, not, cond, List, [], ◌∷◌, ◌++◌, ℕ, eqb, ltb, Option, None, Some}
 use Rattle.text.specs.Sizes.{max_time}
 use Rattle.text.specs.Lists.{any, sum_over}
 use Rattle.bill.specs.declared.section.Section.{Section}
@@ -57,18 +56,18 @@ all_tests bs =
 -- ---- of texts: the sum's bytes, or none where they are refused
 
 abbrev pub with_next : Option Bill → Option (List Bill) → Option (List Bill)
-with_next none o = none
-with_next (some b) none = none
-with_next (some b) (some bs) = some (b ∷ bs)
+with_next None o = None
+with_next (Some b) None = None
+with_next (Some b) (Some bs) = Some (b ∷ bs)
 
 -- none where one of them may not be added
 abbrev pub bills_of : List (List ℕ) → Option (List Bill)
-bills_of [] = some []
+bills_of [] = Some []
 bills_of (t ∷ ts) = with_next (sound_sheet t) (bills_of ts)
 
 abbrev pub text_of : Option (List Bill) → Option (List ℕ)
-text_of none = none
-text_of (some bs) = cond (any_of (all_tests bs)) none (some (bill_text (sum_of bs)))
+text_of None = None
+text_of (Some bs) = cond (any_of (all_tests bs)) None (Some (bill_text (sum_of bs)))
 
 unfoldable pub together : List (List ℕ) → Option (List ℕ)
 together ts = text_of (bills_of ts)

@@ -1,7 +1,7 @@
 -- The search over rows of numbers that the code makes is the chart's own step, for any chart whose words have one step each and enter no state 0.
+use Rattle.std.proofs.Common.{None, Some, Option}
 use mathlib.Core.Path.{◌≡◌, refl, ◌∙◌}
 use mathlib.Core.Bool.{Bool, true, false, not, ◌&&◌, ◌||◌, cond}
-use mathlib.Core.Option.{Option, none, some}
 use mathlib.Core.List.{List, [], ◌∷◌}
 use Prim.Native.Nat.{ℕ, zero, suc, ◌+◌, ◌≤◌, ◌<◌}
 use native.Mathlib.Numerals.{add-one}
@@ -13,7 +13,6 @@ use borrow.Author.Tests.{eqb-true, ne_eqb, not-true}
 use Rattle.rules.specs.Lists.{member, or_else, when}
 use Rattle.rules.specs.Chart.{Step, leaves, step_for, allowed_by}
 use Rattle.rules.proofs.Tests.{both}
-use Rattle.steps.specs.declared.chart.Move.TheVariants.{To, Off}
 use Rattle.steps.specs.Rows.{opened, leads_to, move_if, move_by, rows_for, flat, row_serves, entered_in, move_in, lacks, plain}
 
 -- ---- the loop: one row more, and the end
@@ -48,13 +47,13 @@ rows_for_lem w x [] n rest a s = one_test (eqb a w) (eqb s 0) (eqb s x)
     one_test true false false = refl
 rows_for_lem w x (y ∷ ys) n rest a s = rw (rows_for_lem w y ys n rest a s) (two_tests (eqb a w) (eqb s 0) (eqb s x) (member s (y ∷ ys)) n (entered_in rest a s))
 
-lacks_none : (o : Option Step) → lacks o ≡ true → o ≡ none
-lacks_none none q = refl
-lacks_none (some r) q = cc
+lacks_none : (o : Option Step) → lacks o ≡ true → o ≡ None
+lacks_none None q = refl
+lacks_none (Some r) q = cc
 
 abbrev entered_by : Option Step → ℕ → ℕ
-entered_by none s = 0
-entered_by (some r) s = cond (eqb s 0 || leaves r s) r.enters 0
+entered_by None s = 0
+entered_by (Some r) s = cond (eqb s 0 || leaves r s) r.enters 0
 
 flat_search : (t : List Step) → plain t ≡ true → (a s : ℕ) → entered_in (flat t) a s ≡ entered_by (step_for t a) s
 unfolding flat plain entered_in
@@ -64,15 +63,15 @@ flat_search (r ∷ rs) p a s =
     rows_for_lem r.word r.first r.others r.enters (flat rs) a s
     ∙ by_word (eqb a r.word) refl (lacks_none (step_for rs r.word) (both _ (not (eqb r.enters 0)) k.0).0) (flat_search rs k.1 a s)
   where
-    by_word : (b : Bool) → eqb a r.word ≡ b → step_for rs r.word ≡ none → entered_in (flat rs) a s ≡ entered_by (step_for rs a) s →
+    by_word : (b : Bool) → eqb a r.word ≡ b → step_for rs r.word ≡ None → entered_in (flat rs) a s ≡ entered_by (step_for rs a) s →
         cond (b && (eqb s 0 || leaves r s)) r.enters (entered_in (flat rs) a s) ≡ entered_by (or_else (when b r) (step_for rs a)) s
     by_word true q z i = rw (i, eqb-true a r.word q, z)
     by_word false q z i = i
 
 -- a step of the chart enters no 0
 abbrev pub Enters : Option Step → Type 0
-Enters none = Unit {0}
-Enters (some r) = eqb r.enters 0 ≡ false
+Enters None = Unit {0}
+Enters (Some r) = eqb r.enters 0 ≡ false
 
 pub enters : (t : List Step) → plain t ≡ true → (a : ℕ) → Enters (step_for t a)
 unfolding plain
@@ -91,11 +90,11 @@ unfolding move_in move_by
 moves t p a s = rw (flat_search t p a s, flat_search t p a 0) (by_step (step_for t a) (enters t p a) s)
   where
     by_step : (o : Option Step) → Enters o → (n : ℕ) →
-        cond (eqb (entered_by o n) 0) (cond (eqb (entered_by o 0) 0) (To n) Off) (To (entered_by o n)) ≡ move_if (allowed_by o (opened n)) (leads_to o n)
-    by_step none q n = refl
-    by_step (some r) q zero = rw q
-    by_step (some r) q (suc n) = rw (ne_eqb (suc n) 0 (λ z. omega (arith, z))) (by_state (leaves r (suc n)))
+        cond (eqb (entered_by o n) 0) (cond (eqb (entered_by o 0) 0) (Some n) None) (Some (entered_by o n)) ≡ move_if (allowed_by o (opened n)) (leads_to o n)
+    by_step None q n = refl
+    by_step (Some r) q zero = rw q
+    by_step (Some r) q (suc n) = rw (ne_eqb (suc n) 0 (λ z. omega (arith, z))) (by_state (leaves r (suc n)))
       where
-        by_state : (b : Bool) → cond (eqb (cond b r.enters 0) 0) (cond (eqb r.enters 0) (To (suc n)) Off) (To (cond b r.enters 0)) ≡ move_if b r.enters
+        by_state : (b : Bool) → cond (eqb (cond b r.enters 0) 0) (cond (eqb r.enters 0) (Some (suc n)) None) (Some (cond b r.enters 0)) ≡ move_if b r.enters
         by_state true = rw q
         by_state false = rw q

@@ -1,7 +1,7 @@
 -- The code's step in a history: its answer is rule 11's, and the state that it leads to is the one that the history then says.
+use Rattle.std.proofs.Common.{Some, Option, None}
 use mathlib.Core.Path.{◌≡◌, refl, sym, ap, ◌∙◌}
 use mathlib.Core.Bool.{Bool, true, false, not, cond}
-use mathlib.Core.Option.{Option, none, some}
 use mathlib.Core.List.{List, [], ◌∷◌}
 use Prim.Native.Nat.{ℕ, zero, suc}
 use lib.Dec.{eqb}
@@ -14,7 +14,6 @@ use Rattle.rules.specs.Event.{Event, instance_of, state_of}
 use Rattle.rules.specs.Refusals.{Known, off_chart}
 use Rattle.rules.proofs.Changes.{state_own}
 use Rattle.rules.proofs.CoreWords.{is_step}
-use Rattle.steps.specs.declared.chart.Move.TheVariants.{To}
 use Rattle.steps.specs.Rows.{answer_of, opened, leads_to, move_if, move_by, plain}
 use Rattle.steps.proofs.Rows.{Enters, enters}
 
@@ -37,7 +36,7 @@ step_answer k e s q = rw q (by_test (allowed (chart_of e.kind) e.word (opened s)
     by_test true = refl
     by_test false = refl
 
-opened_more : (n : ℕ) → eqb n 0 ≡ false → opened n ≡ some n
+opened_more : (n : ℕ) → eqb n 0 ≡ false → opened n ≡ Some n
 opened_more zero q = absurd (eqb-false 0 0 q refl)
 opened_more (suc n) q = refl
 
@@ -49,11 +48,11 @@ step_taken h e s t =
     by_step (step_for (chart_of e.kind) e.word) t (enters (chart_of e.kind) (chart_plain e.kind) e.word) ∙ sym (state_own e h)
   where
     by_step : (o : Option Step) → is_step o ≡ true → Enters o → opened (leads_to o s) ≡ or_else (entered o) (state_of (instance_of e) h)
-    by_step none t w = cc
-    by_step (some r) t w = opened_more r.enters w
+    by_step None t w = cc
+    by_step (Some r) t w = opened_more r.enters w
 
 -- Where it is allowed, the state that it leads to is the one after the event.
-pub step_state : (h : List Event) (e : Event) (s n : ℕ) → opened s ≡ state_of (instance_of e) h → move_by (chart_of e.kind) e.word s ≡ To n →
+pub step_state : (h : List Event) (e : Event) (s n : ℕ) → opened s ≡ state_of (instance_of e) h → move_by (chart_of e.kind) e.word s ≡ Some n →
     opened n ≡ state_of (instance_of e) (e ∷ h)
 unfolding move_by
 step_state h e s n q m =
@@ -62,10 +61,10 @@ step_state h e s n q m =
     ∙ sym (state_own e h)
   where
     by_step : (o : Option Step) → Enters o → opened (leads_to o s) ≡ or_else (entered o) (opened s)
-    by_step none w = refl
-    by_step (some r) w = opened_more r.enters w
+    by_step None w = refl
+    by_step (Some r) w = opened_more r.enters w
 
-    by_test : (b : Bool) → move_if b (leads_to (step_for (chart_of e.kind) e.word) s) ≡ To n →
+    by_test : (b : Bool) → move_if b (leads_to (step_for (chart_of e.kind) e.word) s) ≡ Some n →
         opened (leads_to (step_for (chart_of e.kind) e.word) s) ≡ or_else (entered (step_for (chart_of e.kind) e.word)) (opened s) →
         opened n ≡ or_else (entered (step_for (chart_of e.kind) e.word)) (opened s)
     by_test true k r = let z : leads_to (step_for (chart_of e.kind) e.word) s ≡ n = cc in ap opened (sym z) ∙ r

@@ -1,4 +1,5 @@
 -- How tight the contracts of the rules' code are: no second answer, and wrong answers that they shut out.
+use Rattle.std.proofs.Common.{None, Some, Option}
 use mathlib.Core.Path.{◌≡◌, refl}
 use mathlib.Core.Bool.{Bool, true, false, not, cond}
 use mathlib.Core.List.{List}
@@ -16,23 +17,21 @@ use Rattle.rules.specs.Charts.{process_chart, runnable_chart, semaphore_chart, i
 use Rattle.rules.specs.Core.{takes, no_core, core_class}
 use Rattle.rules.specs.History.{has_instances, is_tracked, activates}
 use Rattle.rules.specs.Lines.{kind_number}
-use Rattle.steps.specs.declared.chart.Move.{Move}
-use Rattle.steps.specs.declared.chart.Move.TheVariants.{To, Off}
 use Rattle.steps.specs.Rows.{move_by}
 use Rattle.steps.specs.PlaceCode.{answer_by_reading}
 
 -- ---- `process_step`, `runnable_step`, `semaphore_step`, `chart_step`: for any chart
 
-pub step_unique : (t : List Step) (a s : ℕ) (x y : Move) → x ≡ move_by t a s → y ≡ move_by t a s → x ≡ y
+pub step_unique : (t : List Step) (a s : ℕ) (x y : Option ℕ) → x ≡ move_by t a s → y ≡ move_by t a s → x ≡ y
 step_unique t a = unique (move_by t a)
 
-abbrev is_off : Move → Bool
-is_off (To n) = false
-is_off Off = true
+abbrev is_off : Option ℕ → Bool
+is_off (Some n) = false
+is_off None = true
 
-abbrev is_to : ℕ → Move → Bool
-is_to n (To m) = eqb m n
-is_to n Off = false
+abbrev is_to : ℕ → Option ℕ → Bool
+is_to n (Some m) = eqb m n
+is_to n None = false
 
 pub runnable_not_as_a_process : ShutsOut {A = ℕ × ℕ} (λ (a, s). move_by runnable_chart a s) (λ (a, s). move_by process_chart a s)
 unfolding move_by runnable_chart process_chart
@@ -48,7 +47,7 @@ unfolding move_by chart_of is_process runnable_chart process_chart
 chart_not_of_processes = shut_out (is_to RUNNING) (runnable, start, TERMINATED) refl refl
 
 -- no event is off its chart, and none moves
-pub chart_not_still : ShutsOut {A = ℕ × ℕ × ℕ} (λ (k, a, s). move_by (chart_of k) a s) (λ (k, a, s). To s)
+pub chart_not_still : ShutsOut {A = ℕ × ℕ × ℕ} (λ (k, a, s). move_by (chart_of k) a s) (λ (k, a, s). Some s)
 unfolding move_by chart_of is_process process_chart
 chart_not_still = shut_out is_off (task, start, RUNNING) refl refl
 

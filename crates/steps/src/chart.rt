@@ -6,13 +6,6 @@ ghost use Rattle.steps.specs.Rows.{row_serves, entered_in, move_in, move_by};
 use crate::numbers::*;
 use words::code::*;
 
-// What an event does to an entity: it is in the state from now on, 0 for none yet, or the chart does not allow it.
-#[derive(Clone, Copy)]
-pub enum Move {
-    To(u32),
-    Off,
-}
-
 const PROCESS: [[u32; 3]; 14] = [
     [ACTIVATE, IS_TERMINATED, IS_ACTIVE],
     [START, IS_ACTIVE, IS_RUNNING],
@@ -78,40 +71,40 @@ fn entered(rows: &[[u32; 3]], word: u32, state: u32) -> u32
     0
 }
 
-// What the word does in the state by the rows of a chart. A word that no row has changes nothing.
-fn step(rows: &[[u32; 3]], word: u32, state: u32) -> Move
+// The state, 0 for none yet, that the word leads to from a state by the rows of a chart; nothing where the chart does not allow it. A word that no row has changes nothing.
+fn step(rows: &[[u32; 3]], word: u32, state: u32) -> Option<u32>
     ensures { result ≡ move_in rows.now word state }
 {
     let next = entered(rows, word, state);
     if next != 0 {
-        return Move::To(next);
+        return Some(next);
     }
     if entered(rows, word, 0) == 0 {
-        return Move::To(state);
+        return Some(state);
     }
-    Move::Off
+    None
 }
 
-pub fn process_step(word: u32, state: u32) -> Move
+pub fn process_step(word: u32, state: u32) -> Option<u32>
     ensures { result ≡ move_by process_chart word state }
 {
     step(&PROCESS, word, state)
 }
 
-pub fn runnable_step(word: u32, state: u32) -> Move
+pub fn runnable_step(word: u32, state: u32) -> Option<u32>
     ensures { result ≡ move_by runnable_chart word state }
 {
     step(&RUNNABLES, word, state)
 }
 
-pub fn semaphore_step(word: u32, state: u32) -> Move
+pub fn semaphore_step(word: u32, state: u32) -> Option<u32>
     ensures { result ≡ move_by semaphore_chart word state }
 {
     step(&SEMAPHORES, word, state)
 }
 
 // The same by the chart of the type.
-pub fn chart_step(kind: u32, word: u32, state: u32) -> Move
+pub fn chart_step(kind: u32, word: u32, state: u32) -> Option<u32>
     ensures { result ≡ move_by (chart_of kind) word state }
 {
     if kind == TASK {
@@ -126,5 +119,5 @@ pub fn chart_step(kind: u32, word: u32, state: u32) -> Move
     if kind == SEMAPHORE {
         return semaphore_step(word, state);
     }
-    Move::To(state)
+    Some(state)
 }

@@ -1,5 +1,5 @@
 -- Laws of the stores of an event line. Each keeps the length of its table, and arms of an `if` that meet again leave what the definitions say.
-use Rattle.std.proofs.Common.{◌≡◌, ℕ, ◌+◌, ◌-◌, ◌*◌, ◌%◌, ◌^◌, ◌<◌, Bool, true, false, cond, not, ◌&&◌, eqb, ltb, leb, List, length, get_or, set, sym, refl, ◌∙◌, arith, length-set, le-ltb, lt-ltb, eq-eqb, ne_eqb, leb-false, leb-true}
+use Rattle.std.proofs.Common.{◌≡◌, ℕ, ◌+◌, ◌-◌, ◌*◌, ◌%◌, ◌^◌, ◌<◌, Bool, true, false, cond, not, ◌&&◌, eqb, ltb, leb, List, length, get_or, set, sym, refl, ◌∙◌, arith, length-set, le-ltb, lt-ltb, eq-eqb, ne_eqb, leb-false, leb-true, None, Some, Option}
 use Rattle.text.specs.Put.{put}
 use Rattle.text.proofs.Writes.{put_length}
 use Rattle.rules.specs.Words.{core, semaphore}
@@ -13,8 +13,6 @@ use Rattle.tables.proofs.Stores.{other}
 use Rattle.tables.proofs.Sizes.{sizes_mean}
 use Rattle.index.specs.Hash.{home_of}
 use Rattle.index.specs.Index.{free}
-use Rattle.lookup.specs.declared.find.Found.{Found}
-use Rattle.lookup.specs.declared.find.Found.TheVariants.{At, Nothing}
 use Rattle.lookup.specs.declared.look.LookedUp.{LookedUp}
 use Rattle.lookup.specs.LookedUp.{new_core, new_name}
 use Rattle.store.specs.Store.{core_row, target_row, store_name, store_row, store_place, store_sums, store_instance, store_standing, store_holder, store_number, store_activation}
@@ -196,10 +194,10 @@ pub length_with_counts : (nums : List ℕ) (names cores : ℕ) → length (with_
 unfolding with_counts
 length_with_counts nums names cores = simp length-set
 
-pub length_put_row : (nums : List ℕ) (f : Found) (i n t : ℕ) → length (put_row nums f i n t) ≡ length nums
+pub length_put_row : (nums : List ℕ) (f : Option ℕ) (i n t : ℕ) → length (put_row nums f i n t) ≡ length nums
 unfolding put_row
-length_put_row nums (At j) i n t = length_store_instance nums j i n t
-length_put_row nums Nothing i n t =
+length_put_row nums (Some j) i n t = length_store_instance nums j i n t
+length_put_row nums None i n t =
     length_cond (ltb (instance_count nums) instance_rows) _ nums (simp (length-set, length_store_instance)) refl
 
 pub length_given_back : (nums : List ℕ) (j : ℕ) → length (given_back nums j) ≡ length nums
@@ -207,12 +205,12 @@ unfolding given_back
 length_given_back nums j =
     length_cond (ltb j instance_rows && (not (eqb (instance_count nums) 0) && leb (instance_count nums) instance_rows)) _ nums (simp length-set) refl
 
-length_without_row : (nums : List ℕ) (f : Found) → length (without_row nums f) ≡ length nums
+length_without_row : (nums : List ℕ) (f : Option ℕ) → length (without_row nums f) ≡ length nums
 unfolding without_row
-length_without_row nums (At j) = length_given_back nums j
-length_without_row nums Nothing = refl
+length_without_row nums (Some j) = length_given_back nums j
+length_without_row nums None = refl
 
-pub length_with_entry : (nums : List ℕ) (f : Found) (i kind n t : ℕ) → length (with_entry nums f i kind n t) ≡ length nums
+pub length_with_entry : (nums : List ℕ) (f : Option ℕ) (i kind n t : ℕ) → length (with_entry nums f i kind n t) ≡ length nums
 unfolding with_entry
 length_with_entry nums f i kind n t =
     length_cond (has_instances kind) _ nums

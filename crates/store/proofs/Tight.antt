@@ -1,5 +1,5 @@
 -- How tight the contract of the stores is: no second answer, and wrong tables that it shuts out.
-use Rattle.std.proofs.Common.{◌≡◌, ℕ, eqb, [], ◌∷◌, refl}
+use Rattle.std.proofs.Common.{◌≡◌, ℕ, eqb, [], ◌∷◌, refl, None}
 use Rattle.text.proofs.Tight.{unique, ShutsOut, shut_out}
 use Rattle.rules.specs.Core.{no_core}
 use Rattle.rules.specs.Charts.{is_process}
@@ -7,7 +7,6 @@ use Rattle.rules.specs.Event.{Event}
 use Rattle.rules.specs.History.{has_instances, is_tracked, activates}
 use Rattle.tables.specs.Entry.{Tables, tables, line_count}
 use Rattle.tables.specs.Sized.{is_sized}
-use Rattle.lookup.specs.declared.find.Found.TheVariants.{Nothing}
 use Rattle.lookup.specs.declared.look.LookedUp.{LookedUp}
 use Rattle.store.specs.Store.{with_rows, with_target, with_core, with_counts, with_entry, with_places, taken_entries, taken_nums, taken_tables, stored}
 
@@ -22,7 +21,7 @@ abbrev unjudged : Event
 unjudged = record { time = 0; source = []; source_instance = 0; kind = 0; target = []; target_instance = 0; word = 0; count = 0 }
 
 abbrev unseen : LookedUp
-unseen = record { class = no_core; source = Nothing; target = Nothing; instance = Nothing }
+unseen = record { class = no_core; source = None; target = None; instance = None }
 
 -- it counts a line in a table of a wrong size too
 pub take_not_any_size : ShutsOut {A = Given} (λ (t, s, e). stored t s 0 e) (λ (t, s, e). taken_tables t s 0 e)

@@ -1,6 +1,6 @@
 -- What taking an event line stores. Rows past the end of a column are not stored, and sums are taken modulo the width of their entries: no
 -- table that a trace leads to has such rows or sums, and none of any other can be written past its end.
-use Rattle.std.specs.Prelude.{ℕ, ◌+◌, ◌-◌, ◌*◌, ◌%◌, ◌^◌, Bool, cond, not, ◌&&◌, List, length, ◌==◌, nat_le, nat_lt, slice_set}
+use Rattle.std.specs.Prelude.{ℕ, ◌+◌, ◌-◌, ◌*◌, ◌%◌, ◌^◌, Bool, cond, not, ◌&&◌, List, length, ◌==◌, nat_le, nat_lt, slice_set, None, Some, Option}
 use Rattle.text.specs.Put.{put}
 use Rattle.rules.specs.Words.{core, semaphore, TERMINATED}
 use Rattle.rules.specs.Core.{no_core, takes_core, gives_core}
@@ -12,16 +12,14 @@ use Rattle.tables.specs.Entry.{idle_core, held_by, line_count, started_entry, na
 use Rattle.tables.specs.Sized.{is_sized}
 use Rattle.index.specs.Hash.{home_of}
 use Rattle.index.specs.Index.{free}
-use Rattle.lookup.specs.declared.find.Found.{Found}
-use Rattle.lookup.specs.declared.find.Found.TheVariants.{At, Nothing}
 use Rattle.lookup.specs.declared.look.LookedUp.{LookedUp}
 use Rattle.lookup.specs.LookedUp.{new_core, new_name}
 
 -- ---- the rows: those found, and otherwise the next ones
 
-abbrev pub row_or : Found → ℕ → ℕ
-row_or (At i) n = i
-row_or Nothing n = n
+abbrev pub row_or : Option ℕ → ℕ → ℕ
+row_or (Some i) n = i
+row_or None n = n
 
 unfoldable pub core_row : List ℕ → LookedUp → ℕ
 core_row nums s = row_or s.source (name_count nums)
@@ -83,9 +81,9 @@ unfoldable pub needs_row : List ℕ → ℕ → ℕ → ℕ → Bool
 needs_row nums i n t = not (t == TERMINATED && (nat_lt i name_rows && (not (numbered_at nums i == 0) && nat_le (first_number_at nums i) n)))
 
 -- stored in the row found, or in the next one, which is counted where there is one
-unfoldable pub put_row : List ℕ → Found → ℕ → ℕ → ℕ → List ℕ
-put_row nums (At j) i n t = store_instance nums j i n t
-put_row nums Nothing i n t =
+unfoldable pub put_row : List ℕ → Option ℕ → ℕ → ℕ → ℕ → List ℕ
+put_row nums (Some j) i n t = store_instance nums j i n t
+put_row nums None i n t =
     cond (nat_lt (instance_count nums) instance_rows) (slice_set (store_instance nums (instance_count nums) i n t) instances_index (instance_count nums + 1)) nums
 
 -- "Give its room back at once": the last row moves into the row j, and there is one less. A core names its holder by name and number, so nothing else moves.
@@ -98,12 +96,12 @@ given_back nums j =
     nums
 
 -- where there is a row
-unfoldable pub without_row : List ℕ → Found → List ℕ
-without_row nums (At j) = given_back nums j
-without_row nums Nothing = nums
+unfoldable pub without_row : List ℕ → Option ℕ → List ℕ
+without_row nums (Some j) = given_back nums j
+without_row nums None = nums
 
 -- what is kept of the event's instance
-unfoldable pub with_entry : List ℕ → Found → ℕ → ℕ → ℕ → ℕ → List ℕ
+unfoldable pub with_entry : List ℕ → Option ℕ → ℕ → ℕ → ℕ → ℕ → List ℕ
 with_entry nums f i kind n t = cond (has_instances kind) (cond (needs_row nums i n t) (put_row nums f i n t) (without_row nums f)) nums
 
 -- ---- the three tables after an event line

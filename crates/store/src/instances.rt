@@ -4,7 +4,6 @@ ghost use Rattle.tables.specs.Entry.{nums_size};
 ghost use Rattle.store.specs.Store.{needs_row, put_row, given_back, with_entry};
 
 use crate::entries::store_instance;
-use lookup::find::Found;
 use steps::kind::with_instances;
 use steps::numbers::*;
 use tables::entry::*;
@@ -27,11 +26,11 @@ fn needs_row(nums: &[u32], i: usize, number: u32, state: u32) -> bool
 }
 
 // An instance in the row found, or in the next one, which is counted where there is one.
-fn put_row(nums: &mut [u32], row: Found, i: usize, number: u32, state: u32)
+fn put_row(nums: &mut [u32], row: Option<usize>, i: usize, number: u32, state: u32)
     requires { length nums.old ≡ nums_size }
     ensures { nums.new ≡ put_row nums.old row i number state }
 {
-    if let Found::At(j) = row {
+    if let Some(j) = row {
         store_instance(nums, j, i, number, state);
         return;
     }
@@ -71,7 +70,7 @@ fn give_back(nums: &mut [u32], j: usize)
 // What is kept of the event's instance, of the name in row i.
 pub(crate) fn store_entry(
     nums: &mut [u32],
-    row: Found,
+    row: Option<usize>,
     i: usize,
     kind: u32,
     number: u32,
@@ -87,7 +86,7 @@ pub(crate) fn store_entry(
         put_row(nums, row, i, number, state);
         return;
     }
-    if let Found::At(j) = row {
+    if let Some(j) = row {
         give_back(nums, j);
     }
 }

@@ -4,7 +4,6 @@ ghost use Rattle.tables.specs.Entry.{nums_size};
 ghost use Rattle.lookup.specs.LookedUp.{new_core, new_name};
 ghost use Rattle.store.specs.Store.{core_row, target_row};
 
-use lookup::find::Found;
 use lookup::look::{LookedUp, rows_added};
 use steps::kind::tracked;
 use steps::numbers::NO_CORE;
@@ -32,8 +31,8 @@ pub(crate) fn core_row(nums: &[u32], s: LookedUp) -> usize
 {
     let row = s.source;
     match row {
-        Found::At(i) => i,
-        Found::Nothing => nums[NAMES] as usize,
+        Some(i) => i,
+        None => nums[NAMES] as usize,
     }
 }
 
@@ -45,7 +44,7 @@ pub(crate) fn target_row(nums: &[u32], s: LookedUp) -> usize
     let row = s.target;
     let core = new_core(s);
     match row {
-        Found::At(i) => i,
-        Found::Nothing => nums[NAMES] as usize + core as usize,
+        Some(i) => i,
+        None => nums[NAMES] as usize + core as usize,
     }
 }

@@ -10,7 +10,7 @@ use adding::sheet::SHEET_MOST;
 use intake::read_full;
 use std::io::Stdout;
 use text::bytes::find;
-use text::number::{Number, read_number};
+use text::number::read_number;
 
 // A number, and where it goes on behind it.
 #[derive(Clone, Copy)]
@@ -30,7 +30,7 @@ fn number_to(s: &[u8], end: u8, at: usize) -> Told
         return Told { number: 0, next: n };
     }
     let number = read_number(&s[at..stop], 65536);
-    let Number::Value(v) = number else {
+    let Some(v) = number else {
         return Told { number: 0, next: n };
     };
     Told {

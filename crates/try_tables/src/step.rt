@@ -1,7 +1,7 @@
 // The parts of a step.
 use fields::part::between;
 use text::bytes::find;
-use text::number::{Number, read_number};
+use text::number::read_number;
 
 // The numbers of a step, after its word.
 #[derive(Clone, Copy)]
@@ -27,10 +27,7 @@ pub(crate) fn rest_of(s: &[u8]) -> &[u8] {
 
 // The number that s writes, and 1 where it writes none.
 fn number_of(s: &[u8]) -> u64 {
-    match read_number(s, 18446744073709551615) {
-        Number::Value(v) => v,
-        Number::Bad => 1,
-    }
+    read_number(s, 18446744073709551615).unwrap_or(1)
 }
 
 pub(crate) fn numbers_of(step: &[u8]) -> Numbers {

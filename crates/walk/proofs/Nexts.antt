@@ -1,4 +1,5 @@
 -- Laws of the next line: what the code finds is what the definition says, and what a caller's loop over the lines of a chunk goes by.
+use Rattle.std.proofs.Common.{None, Some}
 use mathlib.Core.Path.{◌≡◌, refl, sym, ap, ◌∙◌}
 use mathlib.Core.Bool.{and-false}
 use mathlib.Core.Logic.{⊎_elim}
@@ -14,13 +15,12 @@ use Rattle.text.specs.Bytes.{to_byte, find_from}
 use Rattle.text.specs.Pieces.{pieces}
 use Rattle.text.proofs.Bools.{lt_or_ge}
 use Rattle.text.proofs.Pieces.{pieces_cut, pieces_one, pieces_some}
-use Rattle.walk.specs.declared.lines.Next.TheVariants.{Line, Rest}
 use Rattle.walk.specs.Lines.{line_text, whole_lines, rest_of, used_up, last_line, lines_of, next_of, next_from, start_from, line_between}
 use Rattle.walk.proofs.Cuts.{text_front, cut_whole, cut_rest, cut_used, none_whole, none_rest, none_used}
 
 -- ---- with a byte 10 from the index on, and with none
 
-next_step : (p : List ℕ) (ps : List (List ℕ)) (at : ℕ) → 1 ≤ length ps → next_of (p ∷ ps) at ≡ Line (at + length (line_text p)) (at + suc (length p))
+next_step : (p : List ℕ) (ps : List (List ℕ)) (at : ℕ) → 1 ≤ length ps → next_of (p ∷ ps) at ≡ Some (at + length (line_text p), at + suc (length p))
 next_step p [] at h = absurd (not-suc-le-zero h)
 next_step p (q ∷ ps) at h = refl
 
@@ -32,13 +32,13 @@ module _ (s : List ℕ) (at : ℕ) where
   abbrev before : ℕ
   before = to_byte 10 left
 
-  next_some : before < length left → next_from s at ≡ Line (at + length (line_text (take before left))) (at + suc before)
+  next_some : before < length left → next_from s at ≡ Some (at + length (line_text (take before left)), at + suc before)
   unfolding next_from
   next_some h =
       let e : length (take before left) ≡ before = length-take-le before left (omega arith) in
       ap (λ (ps : List (List ℕ)). next_of ps at) (pieces_cut 10 left h) ∙ next_step (take before left) (pieces 10 (drop (suc before) left)) at (pieces_some 10 (drop (suc before) left)) ∙ rw e
 
-  next_none : length left ≤ before → next_from s at ≡ Rest
+  next_none : length left ≤ before → next_from s at ≡ None
   unfolding next_from
   next_none h = rw (pieces_one 10 left h)
 
@@ -64,16 +64,16 @@ module _ (s : List ℕ) (at n : ℕ) (e : n ≡ find_from 10 s at) where
 -- ---- what lies between two places
 
 module _ (s : List ℕ) (at start : ℕ) where
-  pub between_back : start ≤ at → Rest ≡ line_between s at start
+  pub between_back : start ≤ at → None ≡ line_between s at start
   unfolding line_between
   between_back h = rw (le-ltb at start h)
 
-  pub between_past : length s < start → Rest ≡ line_between s at start
+  pub between_past : length s < start → None ≡ line_between s at start
   unfolding line_between
   between_past h = rw (lt-leb start (length s) h, and-false (ltb at start))
 
   module _ (n : ℕ) (h : at < start) (k : start ≤ length s) (e : n ≡ length (line_text (take (start - 1 - at) (drop at s)))) where
-    pub between_some : Line (at + n) start ≡ line_between s at start
+    pub between_some : Some (at + n, start) ≡ line_between s at start
     unfolding line_between
     between_some = rw (lt-ltb at start h, le-leb start (length s) k, e)
 
@@ -138,7 +138,7 @@ module _ (s : List ℕ) (at : ℕ) (h : before s at < length (left s at)) where
         used = rw (← d) (omega (arith, cut_used (left s at) h));
       }
 
-pub line_step : (s : List ℕ) (at e n : ℕ) → next_from s at ≡ Line e n → Stepped s at e n
+pub line_step : (s : List ℕ) (at e n : ℕ) → next_from s at ≡ Some (e, n) → Stepped s at e n
 line_step s at e n q =
     ⊎_elim
     (λ h. let p = next_some s at h in
@@ -150,7 +150,7 @@ line_step s at e n q =
     let no_line : ⊥ = omega arith in absurd no_line)
     (lt_or_ge (before s at) (length (left s at)))
 
-pub rest_step : (s : List ℕ) (at : ℕ) → next_from s at ≡ Rest → Rested s at
+pub rest_step : (s : List ℕ) (at : ℕ) → next_from s at ≡ None → Rested s at
 unfolding lines_of
 rest_step s at q =
     ⊎_elim

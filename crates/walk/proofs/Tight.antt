@@ -1,4 +1,5 @@
 -- How tight the contracts of the walk are: no second answer, and wrong answers that they shut out.
+use Rattle.std.proofs.Common.{None, Some, Option}
 use mathlib.Core.Path.{◌≡◌, refl, ap}
 use mathlib.Core.Bool.{Bool, true, false}
 use mathlib.Core.List.{List, [], ◌∷◌}
@@ -9,30 +10,28 @@ use denote.Ref.{Bor}
 use Rattle.text.specs.Literal.{bytes}
 use Rattle.text.specs.Pieces.{pieces}
 use Rattle.text.proofs.Tight.{unique, ShutsOut, shut_out}
-use Rattle.walk.specs.declared.lines.Next.{Next}
-use Rattle.walk.specs.declared.lines.Next.TheVariants.{Line, Rest}
 use Rattle.walk.specs.declared.reader.Reader.{Reader}
 use Rattle.walk.specs.Lines.{line_text, next_from, start_from, line_between}
 
 -- ---- `next` and `line_from`
 
-pub next_unique : (s : List ℕ) (at : ℕ) (x y : Next) → x ≡ next_from s at → y ≡ next_from s at → x ≡ y
+pub next_unique : (s : List ℕ) (at : ℕ) (x y : Option (ℕ × ℕ)) → x ≡ next_from s at → y ≡ next_from s at → x ≡ y
 next_unique s = unique (next_from s)
 
-abbrev is_line : ℕ → Next → Bool
-is_line n (Line a b) = eqb b n
-is_line n Rest = false
+abbrev is_line : ℕ → Option (ℕ × ℕ) → Bool
+is_line n (Some (a, b)) = eqb b n
+is_line n None = false
 
-abbrev is_rest : Next → Bool
-is_rest (Line a b) = false
-is_rest Rest = true
+abbrev is_rest : Option (ℕ × ℕ) → Bool
+is_rest (Some (a, b)) = false
+is_rest None = true
 
 pub next_not_from_the_start : ShutsOut {A = List ℕ × ℕ} (λ (s, at). next_from s at) (λ (s, at). next_from s 0)
 unfolding next_from line_text pieces
 next_not_from_the_start = shut_out (is_line 4) (97 ∷ 10 ∷ 98 ∷ 10 ∷ [], 2) refl refl
 
 -- the unfinished line taken for a whole one
-pub next_not_a_rest : ShutsOut {A = List ℕ × ℕ} (λ (s, at). next_from s at) (λ (s, at). Line (length s) (length s))
+pub next_not_a_rest : ShutsOut {A = List ℕ × ℕ} (λ (s, at). next_from s at) (λ (s, at). Some (length s, length s))
 unfolding next_from line_text pieces
 next_not_a_rest = shut_out is_rest (bytes "a", 0) refl refl
 
@@ -53,20 +52,20 @@ start_not_here = shut_out (eqb 2) (97 ∷ 10 ∷ [], 0) refl refl
 
 -- ---- `line_between`
 
-pub between_unique : (s : List ℕ) (at start : ℕ) (x y : Next) → x ≡ line_between s at start → y ≡ line_between s at start → x ≡ y
+pub between_unique : (s : List ℕ) (at start : ℕ) (x y : Option (ℕ × ℕ)) → x ≡ line_between s at start → y ≡ line_between s at start → x ≡ y
 between_unique s at = unique (line_between s at)
 
-abbrev ends_at : ℕ → Next → Bool
-ends_at n (Line a b) = eqb a n
-ends_at n Rest = false
+abbrev ends_at : ℕ → Option (ℕ × ℕ) → Bool
+ends_at n (Some (a, b)) = eqb a n
+ends_at n None = false
 
 -- the line's end left in the line
-pub between_not_the_end : ShutsOut {A = List ℕ × ℕ × ℕ} (λ (s, at, start). line_between s at start) (λ (s, at, start). Line start start)
+pub between_not_the_end : ShutsOut {A = List ℕ × ℕ × ℕ} (λ (s, at, start). line_between s at start) (λ (s, at, start). Some (start, start))
 unfolding line_between line_text
 between_not_the_end = shut_out (ends_at 1) (97 ∷ 10 ∷ [], 0, 2) refl refl
 
 -- a line found where the place did not move
-pub between_not_empty : ShutsOut {A = List ℕ × ℕ × ℕ} (λ (s, at, start). line_between s at start) (λ (s, at, start). Line (start - 1) start)
+pub between_not_empty : ShutsOut {A = List ℕ × ℕ × ℕ} (λ (s, at, start). line_between s at start) (λ (s, at, start). Some (start - 1, start))
 unfolding line_between line_text
 between_not_empty = shut_out is_rest (97 ∷ 10 ∷ [], 2, 2) refl refl
 

@@ -4,14 +4,6 @@ ghost use Rattle.walk.specs.Lines.{line_text, line_between, start_from};
 
 use text::bytes::find;
 
-#[derive(Clone, Copy)]
-pub enum Next {
-    // The line ends just before the first index, and what stands after its end begins at the second.
-    Line(usize, usize),
-    // No byte 10 is left: what is left is no whole line.
-    Rest,
-}
-
 // Where what stands after the line at the index `at` begins; `at` itself where no byte 10 is left.
 pub fn next_start(s: &[u8], at: usize) -> usize
     ensures { result ≡ start_from s.now at }
@@ -37,17 +29,18 @@ fn text_length(p: &[u8]) -> usize
     n
 }
 
-// The line that begins at the index `at` and that the byte just before the index `start` ends; `Rest` where there is no such byte from `at` on.
-pub fn line_between(s: &[u8], at: usize, start: usize) -> Next
+// Where the line ends that begins at the index `at` and that the byte just before the index `start` ends, and `start`, where what stands after it begins; nothing where no
+// such byte stands from `at` on.
+pub fn line_between(s: &[u8], at: usize, start: usize) -> Option<(usize, usize)>
     ensures { result ≡ line_between s.now at start }
 {
     if start <= at {
-        return Next::Rest;
+        return None;
     }
     if s.len() < start {
-        return Next::Rest;
+        return None;
     }
     let end = start - 1;
     let n = text_length(&s[at..end]);
-    Next::Line(at + n, start)
+    Some((at + n, start))
 }

@@ -3,7 +3,7 @@
 ghost use Rattle.std.specs.Prelude.{◌≡◌};
 ghost use Rattle.walk.specs.Lines.{next_from, start_from};
 
-use crate::lines::{Next, line_between, next_start};
+use crate::lines::{line_between, next_start};
 
 #[derive(Clone, Copy)]
 pub struct Reader<'a> {
@@ -28,8 +28,8 @@ pub fn step<'a>(r: Reader<'a>) -> Reader<'a>
     }
 }
 
-// The line at the reader's place: what lies between it and the place that the reader steps to.
-pub fn next<'a>(r: Reader<'a>) -> Next
+// Where the line at the reader's place ends, and where the reader steps to; nothing where no byte 10 is left, for what is left is no whole line.
+pub fn next<'a>(r: Reader<'a>) -> Option<(usize, usize)>
     ensures { result ≡ next_from r.entry.chunk.now r.entry.at }
 {
     let q = step(r);
@@ -37,7 +37,7 @@ pub fn next<'a>(r: Reader<'a>) -> Next
 }
 
 // What a reader finds in a plain slice from an index on.
-pub fn line_from(s: &[u8], at: usize) -> Next
+pub fn line_from(s: &[u8], at: usize) -> Option<(usize, usize)>
     ensures { result ≡ next_from s.now at }
 {
     next(new(s, at))

@@ -1,4 +1,5 @@
 -- What the bytes of a type and of an event are: bytes that name a thing are its word, the word of a thing names it, and words are short names.
+use Rattle.std.proofs.Common.{None, Some, Option}
 use mathlib.Core.Path.{◌≡◌, refl, sym, ◌∙◌}
 use mathlib.Core.Bool.{Bool, true, false}
 use mathlib.Core.List.{List, [], ◌∷◌}
@@ -13,12 +14,7 @@ use Rattle.text.specs.Lists.{all}
 use Rattle.text.proofs.Words.{same_eq}
 use Rattle.words.specs.declared.kind.Kind.{Kind}
 use Rattle.words.specs.declared.kind.Kind.TheVariants.{Stimulus, Task, Interrupt, Runnable, Scheduler, OsEvent, Signal, Semaphore}
-use Rattle.words.specs.declared.kind.KindFound.{KindFound}
-use Rattle.words.specs.declared.kind.KindFound.TheVariants.{ThisKind, NoKind}
 use Rattle.words.specs.declared.action.Action.{Action}
-use Rattle.words.specs.declared.action.ActionFound.{ActionFound}
-use Rattle.words.specs.declared.action.ActionFound.TheVariants.{ThisAction, NoAction}
-use Rattle.words.specs.declared.pair.Pair.TheVariants.{Known}
 use Rattle.words.specs.Named.{pick, first_named}
 use Rattle.words.specs.Kind.{kind_word, kinds, kind_of}
 use Rattle.words.specs.Action.{word_of, action_code, actions_of, action_of, among, is_of}
@@ -40,11 +36,11 @@ module _ {A B : Type 0} (word : A → List ℕ) (found : A → B) (other : B) (s
 
 -- ---- types
 
-pub kind_word_lem : (s : List ℕ) (k : Kind) → kind_of s ≡ ThisKind k → s ≡ kind_word k
+pub kind_word_lem : (s : List ℕ) (k : Kind) → kind_of s ≡ Some k → s ≡ kind_word k
 unfolding kind_of
-kind_word_lem s k = first_named_lem kind_word ThisKind NoKind s (λ r. r ≡ ThisKind k → s ≡ kind_word k) kinds (λ e. cc) (λ x w e. cc)
+kind_word_lem s k = first_named_lem kind_word Some None s (λ r. r ≡ Some k → s ≡ kind_word k) kinds (λ e. cc) (λ x w e. cc)
 
-pub kind_back : (k : Kind) → kind_of (kind_word k) ≡ ThisKind k
+pub kind_back : (k : Kind) → kind_of (kind_word k) ≡ Some k
 unfolding kind_of kind_word pick same_bytes
 kind_back Stimulus = refl
 kind_back Task = refl
@@ -57,18 +53,18 @@ kind_back Semaphore = refl
 
 -- ---- events
 
-named_word : (k : Kind) (s : List ℕ) (a : Action) → action_of k s ≡ ThisAction a → s ≡ word_of a
+named_word : (k : Kind) (s : List ℕ) (a : Action) → action_of k s ≡ Some a → s ≡ word_of a
 unfolding action_of
-named_word k s a = first_named_lem word_of ThisAction NoAction s (λ r. r ≡ ThisAction a → s ≡ word_of a) (actions_of k) (λ e. cc) (λ x w e. cc)
+named_word k s a = first_named_lem word_of Some None s (λ r. r ≡ Some a → s ≡ word_of a) (actions_of k) (λ e. cc) (λ x w e. cc)
 
 -- an event was found, and it is this one
-abbrev is_this : Action → ActionFound → Bool
-is_this a (ThisAction b) = eqb (action_code b) (action_code a)
-is_this a NoAction = false
+abbrev is_this : Action → Option Action → Bool
+is_this a (Some b) = eqb (action_code b) (action_code a)
+is_this a None = false
 
-this_is : (a : Action) (r : ActionFound) → is_this a r ≡ true → r ≡ ThisAction a
-this_is a (ThisAction b) e = rw (one_code b a (eqb-true (action_code b) (action_code a) e))
-this_is a NoAction e = cc
+this_is : (a : Action) (r : Option Action) → is_this a r ≡ true → r ≡ Some a
+this_is a (Some b) e = rw (one_code b a (eqb-true (action_code b) (action_code a) e))
+this_is a None e = cc
 
 -- the word of an event names it at the types that have it, and at no other
 abbrev right : Kind → Action → Bool
@@ -88,32 +84,32 @@ tested Semaphore = refl
 named_is_of : (k : Kind) (a : Action) → is_this a (action_of k (word_of a)) ≡ is_of k a
 named_is_of k a = agreed _ _ (every (right k) (tested k) a)
 
-pub action_word : (k : Kind) (s : List ℕ) (a : Action) → action_of k s ≡ ThisAction a → (s ≡ word_of a) × (is_of k a ≡ true)
+pub action_word : (k : Kind) (s : List ℕ) (a : Action) → action_of k s ≡ Some a → (s ≡ word_of a) × (is_of k a ≡ true)
 action_word k s a e =
     let w = named_word k s a e in
     (w, sym (named_is_of k a) ∙ rw (← w, e) (eq-eqb (action_code a) (action_code a) refl))
 
-pub action_back : (k : Kind) (a : Action) → is_of k a ≡ true → action_of k (word_of a) ≡ ThisAction a
+pub action_back : (k : Kind) (a : Action) → is_of k a ≡ true → action_of k (word_of a) ≡ Some a
 action_back k a e = this_is a (action_of k (word_of a)) (named_is_of k a ∙ e)
 
 -- ---- a type and one of its events
 
-pair_known : (j k : Kind) (f : ActionFound) (a : Action) → pair_as j f ≡ Known k a → (j ≡ k) × (f ≡ ThisAction a)
-pair_known j k (ThisAction b) a e = (cc, cc)
-pair_known j k NoAction a e = (cc, cc)
+pair_known : (j k : Kind) (f : Option Action) (a : Action) → pair_as j f ≡ Some (k, a) → (j ≡ k) × (f ≡ Some a)
+pair_known j k (Some b) a e = (cc, cc)
+pair_known j k None a e = (cc, cc)
 
-kind_known : (f : KindFound) (t : List ℕ) (k : Kind) (a : Action) → pair_with f t ≡ Known k a → f ≡ ThisKind k
-kind_known (ThisKind j) t k a e = rw (pair_known j k (action_of j t) a e).0
-kind_known NoKind t k a e = cc
+kind_known : (f : Option Kind) (t : List ℕ) (k : Kind) (a : Action) → pair_with f t ≡ Some (k, a) → f ≡ Some k
+kind_known (Some j) t k a e = rw (pair_known j k (action_of j t) a e).0
+kind_known None t k a e = cc
 
-pub pair_words : (s t : List ℕ) (k : Kind) (a : Action) → named_by s t ≡ Known k a → (s ≡ kind_word k) × (t ≡ word_of a) × (is_of k a ≡ true)
+pub pair_words : (s t : List ℕ) (k : Kind) (a : Action) → named_by s t ≡ Some (k, a) → (s ≡ kind_word k) × (t ≡ word_of a) × (is_of k a ≡ true)
 unfolding named_by
 pair_words s t k a e =
     let q = kind_known (kind_of s) t k a e in
     let w = action_word k t a (pair_known k k (action_of k t) a (rw q at e)).1 in
     (kind_word_lem s k q, w.0, w.1)
 
-pub pair_back : (k : Kind) (a : Action) → is_of k a ≡ true → named_by (kind_word k) (word_of a) ≡ Known k a
+pub pair_back : (k : Kind) (a : Action) → is_of k a ≡ true → named_by (kind_word k) (word_of a) ≡ Some (k, a)
 unfolding named_by
 pair_back k a e = rw (kind_back k, action_back k a e)
 

@@ -1,4 +1,5 @@
 -- How tight the contracts of the words are: no second answer, and wrong answers that they shut out.
+use Rattle.std.proofs.Common.{None, Some, Option}
 use mathlib.Core.Path.{◌≡◌, refl}
 use mathlib.Core.Bool.{Bool, true, false, not, cond}
 use mathlib.Core.List.{List, ◌++◌}
@@ -11,16 +12,8 @@ use Rattle.text.specs.Put.{Put, after, written, put}
 use Rattle.text.proofs.Tight.{unique, put_unique, ShutsOut, shut_out}
 use Rattle.words.specs.declared.kind.Kind.{Kind}
 use Rattle.words.specs.declared.kind.Kind.TheVariants.{Stimulus, Task, Signal, Semaphore}
-use Rattle.words.specs.declared.kind.KindFound.{KindFound}
-use Rattle.words.specs.declared.kind.KindFound.TheVariants.{ThisKind, NoKind}
 use Rattle.words.specs.declared.action.Action.{Action}
 use Rattle.words.specs.declared.action.Action.TheVariants.{Release, Released, Run, Start, Trigger}
-use Rattle.words.specs.declared.action.ActionFound.{ActionFound}
-use Rattle.words.specs.declared.action.ActionFound.TheVariants.{ThisAction, NoAction}
-use Rattle.words.specs.declared.pair.Pair.{Pair}
-use Rattle.words.specs.declared.pair.Pair.TheVariants.{Known, Unknown}
-use Rattle.words.specs.declared.scale.ScaleFound.{ScaleFound}
-use Rattle.words.specs.declared.scale.ScaleFound.TheVariants.{ThisScale, NoScale}
 use Rattle.words.specs.Named.{pick}
 use Rattle.words.specs.Kind.{kind_word, kind_of}
 use Rattle.words.specs.Action.{word_of, action_code, actions_of, action_of, among, is_of}
@@ -31,19 +24,19 @@ use Rattle.words.specs.Scale.{scale_word, scale_of}
 
 -- ---- `kind_of`, `kind_length`, `put_kind`
 
-pub kind_unique : (s : List ℕ) (x y : KindFound) → x ≡ kind_of s → y ≡ kind_of s → x ≡ y
+pub kind_unique : (s : List ℕ) (x y : Option Kind) → x ≡ kind_of s → y ≡ kind_of s → x ≡ y
 kind_unique = unique kind_of
 
-abbrev is_kind : List ℕ → KindFound → Bool
-is_kind w (ThisKind k) = same_bytes w (kind_word k)
-is_kind w NoKind = false
+abbrev is_kind : List ℕ → Option Kind → Bool
+is_kind w (Some k) = same_bytes w (kind_word k)
+is_kind w None = false
 
-pub kind_not_missed : ShutsOut kind_of (λ s. NoKind)
+pub kind_not_missed : ShutsOut kind_of (λ s. None)
 unfolding kind_of kind_word pick same_bytes
 kind_not_missed = shut_out (is_kind (bytes "SEM")) (bytes "SEM") refl refl
 
 -- the first letter decides
-pub kind_not_by_letter : ShutsOut kind_of (λ s. cond (eqb (get_or s 0 0) 83) (ThisKind Stimulus) (kind_of s))
+pub kind_not_by_letter : ShutsOut kind_of (λ s. cond (eqb (get_or s 0 0) 83) (Some Stimulus) (kind_of s))
 unfolding kind_of kind_word pick same_bytes
 kind_not_by_letter = shut_out (is_kind (bytes "SIG")) (bytes "SIG") refl refl
 
@@ -71,15 +64,15 @@ put_kind_not_begun = shut_out (λ p. same_bytes p.output (bytes "xx")) (Semaphor
 
 -- ---- `action_of`, `action_code`, `word_length`, `put_word`
 
-pub action_unique : (k : Kind) (s : List ℕ) (x y : ActionFound) → x ≡ action_of k s → y ≡ action_of k s → x ≡ y
+pub action_unique : (k : Kind) (s : List ℕ) (x y : Option Action) → x ≡ action_of k s → y ≡ action_of k s → x ≡ y
 action_unique k = unique (action_of k)
 
-abbrev is_action : List ℕ → ActionFound → Bool
-is_action w (ThisAction a) = same_bytes w (word_of a)
-is_action w NoAction = false
+abbrev is_action : List ℕ → Option Action → Bool
+is_action w (Some a) = same_bytes w (word_of a)
+is_action w None = false
 
 -- a word names its own event, and not one that it begins with
-pub action_not_another : ShutsOut (action_of Task) (λ s. cond (same_bytes s (bytes "release_parking")) (ThisAction Release) (action_of Task s))
+pub action_not_another : ShutsOut (action_of Task) (λ s. cond (same_bytes s (bytes "release_parking")) (Some Release) (action_of Task s))
 unfolding action_of actions_of word_of pick same_bytes
 action_not_another = shut_out (is_action (bytes "release_parking")) (bytes "release_parking") refl refl
 
@@ -146,36 +139,36 @@ is_of_not_always = shut_out not (Signal, Start) refl refl
 
 -- ---- `named`
 
-pub named_unique : (kind action : List ℕ) (x y : Pair) → x ≡ named_by kind action → y ≡ named_by kind action → x ≡ y
+pub named_unique : (kind action : List ℕ) (x y : Option (Kind × Action)) → x ≡ named_by kind action → y ≡ named_by kind action → x ≡ y
 named_unique kind = unique (named_by kind)
 
-abbrev is_known : List ℕ → Pair → Bool
-is_known w (Known k a) = same_bytes w (kind_word k ++ word_of a)
-is_known w Unknown = false
+abbrev is_known : List ℕ → Option (Kind × Action) → Bool
+is_known w (Some (k, a)) = same_bytes w (kind_word k ++ word_of a)
+is_known w None = false
 
-abbrev is_unknown : Pair → Bool
-is_unknown (Known k a) = false
-is_unknown Unknown = true
+abbrev is_unknown : Option (Kind × Action) → Bool
+is_unknown (Some (k, a)) = false
+is_unknown None = true
 
 -- every event as one of T
-pub named_not_of_tasks : ShutsOut {A = List ℕ × List ℕ} (λ (kind, action). named_by kind action) (λ (kind, action). pair_with (ThisKind Task) action)
+pub named_not_of_tasks : ShutsOut {A = List ℕ × List ℕ} (λ (kind, action). named_by kind action) (λ (kind, action). pair_with (Some Task) action)
 unfolding named_by kind_of kind_word action_of actions_of word_of pick same_bytes
 named_not_of_tasks = shut_out is_unknown (bytes "SIG", bytes "start") refl refl
 
-pub named_not_unknown : ShutsOut {A = List ℕ × List ℕ} (λ (kind, action). named_by kind action) (λ (kind, action). Unknown)
+pub named_not_unknown : ShutsOut {A = List ℕ × List ℕ} (λ (kind, action). named_by kind action) (λ (kind, action). None)
 unfolding named_by kind_of kind_word action_of actions_of word_of pick same_bytes
 named_not_unknown = shut_out (is_known (bytes "Tstart")) (bytes "T", bytes "start") refl refl
 
 -- ---- `scale_of`
 
-pub scale_unique : (s : List ℕ) (x y : ScaleFound) → x ≡ scale_of s → y ≡ scale_of s → x ≡ y
+pub scale_unique : (s : List ℕ) (x y : Option Scale) → x ≡ scale_of s → y ≡ scale_of s → x ≡ y
 scale_unique = unique scale_of
 
-abbrev is_scale : List ℕ → ScaleFound → Bool
-is_scale w (ThisScale s) = same_bytes w (scale_word s)
-is_scale w NoScale = false
+abbrev is_scale : List ℕ → Option Scale → Bool
+is_scale w (Some s) = same_bytes w (scale_word s)
+is_scale w None = false
 
-pub scale_not_missed : ShutsOut scale_of (λ s. NoScale)
+pub scale_not_missed : ShutsOut scale_of (λ s. None)
 unfolding scale_of scale_word pick same_bytes
 scale_not_missed = shut_out (is_scale (bytes "ns")) (bytes "ns") refl refl
 

@@ -1,5 +1,5 @@
 -- The 38 event words of 000's sections 2.3.1 to 2.3.7, the events of each type, and the event that bytes name.
-use Rattle.std.specs.Prelude.{ℕ, Bool, List, [], ◌∷◌, ◌++◌, eqb}
+use Rattle.std.specs.Prelude.{ℕ, Bool, List, [], ◌∷◌, ◌++◌, eqb, None, Some, Option}
 use Rattle.text.specs.Literal.{bytes}
 use Rattle.text.specs.Lists.{any}
 use Rattle.words.specs.declared.kind.Kind.{Kind}
@@ -45,8 +45,6 @@ use Rattle.words.specs.declared.action.Action.TheVariants.{
   Used,
   Waiting,
 }
-use Rattle.words.specs.declared.action.ActionFound.{ActionFound}
-use Rattle.words.specs.declared.action.ActionFound.TheVariants.{ThisAction, NoAction}
 use Rattle.words.specs.Named.{first_named}
 use Rattle.words.specs.Code.{
   trigger,
@@ -206,12 +204,12 @@ actions_of OsEvent = os_event_actions
 actions_of Signal = signal_actions
 actions_of Semaphore = semaphore_states ++ semaphore_requests
 
-abbrev pub action_from : List Action → ActionFound → List ℕ → ActionFound
-action_from = first_named word_of ThisAction
+abbrev pub action_from : List Action → Option Action → List ℕ → Option Action
+action_from = first_named word_of Some
 
 -- the event of a type that bytes name
-unfoldable pub action_of : Kind → List ℕ → ActionFound
-action_of k = action_from (actions_of k) NoAction
+unfoldable pub action_of : Kind → List ℕ → Option Action
+action_of k = action_from (actions_of k) None
 
 -- whether an event is among some, and whether it is one of a type
 unfoldable pub among : Action → List Action → Bool

@@ -1,11 +1,9 @@
 -- The eight types of 000's sections 2.3.1 to 2.3.7, and the type that bytes name.
-use Rattle.std.specs.Prelude.{ℕ, List, [], ◌∷◌}
+use Rattle.std.specs.Prelude.{ℕ, List, [], ◌∷◌, None, Some, Option}
 use Rattle.text.specs.Literal.{bytes}
 use Rattle.words.specs.Named.{first_named}
 use Rattle.words.specs.declared.kind.Kind.{Kind}
 use Rattle.words.specs.declared.kind.Kind.TheVariants.{Stimulus, Task, Interrupt, Runnable, Scheduler, OsEvent, Signal, Semaphore}
-use Rattle.words.specs.declared.kind.KindFound.{KindFound}
-use Rattle.words.specs.declared.kind.KindFound.TheVariants.{ThisKind, NoKind}
 
 -- the word of each type
 unfoldable pub kind_word : Kind → List ℕ
@@ -22,5 +20,5 @@ abbrev pub kinds : List Kind
 kinds = Stimulus ∷ Task ∷ Interrupt ∷ Runnable ∷ Scheduler ∷ OsEvent ∷ Signal ∷ Semaphore ∷ []
 
 -- the type that bytes name
-unfoldable pub kind_of : List ℕ → KindFound
-kind_of = first_named kind_word ThisKind kinds NoKind
+unfoldable pub kind_of : List ℕ → Option Kind
+kind_of = first_named kind_word Some kinds None

@@ -1,11 +1,9 @@
 -- The five time scales, and the one that bytes name.
-use Rattle.std.specs.Prelude.{ℕ, List, [], ◌∷◌}
+use Rattle.std.specs.Prelude.{ℕ, List, [], ◌∷◌, None, Some, Option}
 use Rattle.text.specs.Literal.{bytes}
 use Rattle.words.specs.Named.{first_named}
 use Rattle.words.specs.declared.scale.Scale.{Scale}
 use Rattle.words.specs.declared.scale.Scale.TheVariants.{Picoseconds, Nanoseconds, Microseconds, Milliseconds, Seconds}
-use Rattle.words.specs.declared.scale.ScaleFound.{ScaleFound}
-use Rattle.words.specs.declared.scale.ScaleFound.TheVariants.{ThisScale, NoScale}
 
 -- "X one of ps, ns, us, ms, s"
 unfoldable pub scale_word : Scale → List ℕ
@@ -19,5 +17,5 @@ abbrev pub scales : List Scale
 scales = Picoseconds ∷ Nanoseconds ∷ Microseconds ∷ Milliseconds ∷ Seconds ∷ []
 
 -- the time scale that bytes name
-unfoldable pub scale_of : List ℕ → ScaleFound
-scale_of = first_named scale_word ThisScale scales NoScale
+unfoldable pub scale_of : List ℕ → Option Scale
+scale_of = first_named scale_word Some scales None

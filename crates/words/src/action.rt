@@ -40,9 +40,3 @@ pub enum Action {
     Used,
     Waiting,
 }
-
-#[derive(Clone, Copy)]
-pub enum ActionFound {
-    ThisAction(Action),
-    NoAction,
-}

@@ -21,28 +21,22 @@ pub enum Kind {
     Semaphore,
 }
 
-#[derive(Clone, Copy)]
-pub enum KindFound {
-    ThisKind(Kind),
-    NoKind,
-}
-
 // kind where s is the word w, and other where it is not.
-fn kind_named(s: &[u8], w: &[u8], kind: Kind, other: KindFound) -> KindFound
-    ensures { result ≡ pick (same_bytes s.now w.now) (KindFound.ThisKind kind) other }
+fn kind_named(s: &[u8], w: &[u8], kind: Kind, other: Option<Kind>) -> Option<Kind>
+    ensures { result ≡ pick (same_bytes s.now w.now) (Some kind) other }
 {
     if same(s, w) {
-        KindFound::ThisKind(kind)
+        Some(kind)
     } else {
         other
     }
 }
 
 // The type that s names.
-pub fn kind_of(s: &[u8]) -> KindFound
+pub fn kind_of(s: &[u8]) -> Option<Kind>
     ensures { result ≡ kind_of s.now }
 {
-    let k = KindFound::NoKind;
+    let k = None;
     let k = kind_named(s, b"SEM", Kind::Semaphore, k);
     let k = kind_named(s, b"SIG", Kind::Signal, k);
     let k = kind_named(s, b"EVENT", Kind::OsEvent, k);

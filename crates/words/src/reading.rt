@@ -5,23 +5,23 @@ ghost use Rattle.words.specs.Named.{pick};
 ghost use Rattle.words.specs.Action.{action_of, action_from, process_actions, runnable_actions, scheduler_actions, os_event_actions};
 ghost use Rattle.words.specs.Action.{signal_actions, semaphore_requests, semaphore_states};
 
-use crate::action::{Action, ActionFound};
+use crate::action::Action;
 use crate::kind::Kind;
 use text::bytes::same;
 
 // action where s is the word w, and other where it is not.
-fn action_named(s: &[u8], w: &[u8], action: Action, other: ActionFound) -> ActionFound
-    ensures { result ≡ pick (same_bytes s.now w.now) (ActionFound.ThisAction action) other }
+fn action_named(s: &[u8], w: &[u8], action: Action, other: Option<Action>) -> Option<Action>
+    ensures { result ≡ pick (same_bytes s.now w.now) (Some action) other }
 {
     if same(s, w) {
-        ActionFound::ThisAction(action)
+        Some(action)
     } else {
         other
     }
 }
 
 // The event of T and I alike that s names, or other.
-fn process_action(s: &[u8], other: ActionFound) -> ActionFound
+fn process_action(s: &[u8], other: Option<Action>) -> Option<Action>
     ensures { result ≡ action_from process_actions other s.now }
 {
     let a = other;
@@ -40,7 +40,7 @@ fn process_action(s: &[u8], other: ActionFound) -> ActionFound
 }
 
 // The event of R that s names, or other.
-fn runnable_action(s: &[u8], other: ActionFound) -> ActionFound
+fn runnable_action(s: &[u8], other: Option<Action>) -> Option<Action>
     ensures { result ≡ action_from runnable_actions other s.now }
 {
     let a = other;
@@ -51,7 +51,7 @@ fn runnable_action(s: &[u8], other: ActionFound) -> ActionFound
 }
 
 // The event of SCHED that s names, or other.
-fn scheduler_action(s: &[u8], other: ActionFound) -> ActionFound
+fn scheduler_action(s: &[u8], other: Option<Action>) -> Option<Action>
     ensures { result ≡ action_from scheduler_actions other s.now }
 {
     let a = other;
@@ -60,7 +60,7 @@ fn scheduler_action(s: &[u8], other: ActionFound) -> ActionFound
 }
 
 // The event of EVENT that s names, or other.
-fn os_event_action(s: &[u8], other: ActionFound) -> ActionFound
+fn os_event_action(s: &[u8], other: Option<Action>) -> Option<Action>
     ensures { result ≡ action_from os_event_actions other s.now }
 {
     let a = other;
@@ -70,7 +70,7 @@ fn os_event_action(s: &[u8], other: ActionFound) -> ActionFound
 }
 
 // The event of SIG that s names, or other.
-fn signal_action(s: &[u8], other: ActionFound) -> ActionFound
+fn signal_action(s: &[u8], other: Option<Action>) -> Option<Action>
     ensures { result ≡ action_from signal_actions other s.now }
 {
     let a = other;
@@ -79,7 +79,7 @@ fn signal_action(s: &[u8], other: ActionFound) -> ActionFound
 }
 
 // The event of SEM that a process causes and that s names, or other.
-fn semaphore_request(s: &[u8], other: ActionFound) -> ActionFound
+fn semaphore_request(s: &[u8], other: Option<Action>) -> Option<Action>
     ensures { result ≡ action_from semaphore_requests other s.now }
 {
     let a = other;
@@ -93,7 +93,7 @@ fn semaphore_request(s: &[u8], other: ActionFound) -> ActionFound
 }
 
 // The event of SEM that is a state of its own and that s names, or other.
-fn semaphore_state(s: &[u8], other: ActionFound) -> ActionFound
+fn semaphore_state(s: &[u8], other: Option<Action>) -> Option<Action>
     ensures { result ≡ action_from semaphore_states other s.now }
 {
     let a = other;
@@ -108,10 +108,10 @@ fn semaphore_state(s: &[u8], other: ActionFound) -> ActionFound
 }
 
 // The event of the type that s names.
-pub fn action_of(kind: Kind, s: &[u8]) -> ActionFound
+pub fn action_of(kind: Kind, s: &[u8]) -> Option<Action>
     ensures { result ≡ action_of kind s.now }
 {
-    let no = ActionFound::NoAction;
+    let no = None;
     match kind {
         Kind::Stimulus => action_named(s, b"trigger", Action::Trigger, no),
         Kind::Task => {

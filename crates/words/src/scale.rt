@@ -15,28 +15,22 @@ pub enum Scale {
     Seconds,
 }
 
-#[derive(Clone, Copy)]
-pub enum ScaleFound {
-    ThisScale(Scale),
-    NoScale,
-}
-
 // scale where s is the word w, and other where it is not.
-fn scale_named(s: &[u8], w: &[u8], scale: Scale, other: ScaleFound) -> ScaleFound
-    ensures { result ≡ pick (same_bytes s.now w.now) (ScaleFound.ThisScale scale) other }
+fn scale_named(s: &[u8], w: &[u8], scale: Scale, other: Option<Scale>) -> Option<Scale>
+    ensures { result ≡ pick (same_bytes s.now w.now) (Some scale) other }
 {
     if same(s, w) {
-        ScaleFound::ThisScale(scale)
+        Some(scale)
     } else {
         other
     }
 }
 
 // The time scale that s names.
-pub fn scale_of(s: &[u8]) -> ScaleFound
+pub fn scale_of(s: &[u8]) -> Option<Scale>
     ensures { result ≡ scale_of s.now }
 {
-    let f = ScaleFound::NoScale;
+    let f = None;
     let f = scale_named(s, b"s", Scale::Seconds, f);
     let f = scale_named(s, b"ms", Scale::Milliseconds, f);
     let f = scale_named(s, b"us", Scale::Microseconds, f);

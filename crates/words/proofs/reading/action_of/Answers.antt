@@ -1,6 +1,6 @@
 -- `words::reading::action_of` meets its contract: each type asks the chain of its own events.
+use Rattle.std.proofs.Common.{Option}
 use mathlib.Core.Path.{ap, ◌∙◌}
-use Rattle.words.specs.declared.action.ActionFound.{ActionFound}
 use Rattle.words.specs.Action.{action_of, actions_of, word_of, action_from, semaphore_states}
 use Rattle.words.proofs.Chains.{step}
 use Rattle.words.proofs.reading.action_of.Goals as goal
@@ -38,4 +38,4 @@ unfolding action_of actions_of word_of
 returns-in-Semaphore c =
     rw c.in-Semaphore.is
     (c.semaphore_state.ensures
-    ∙ ap (λ (o : ActionFound). action_from semaphore_states o c.args.s.now) c.semaphore_request-a.ensures)
+    ∙ ap (λ (o : Option Action). action_from semaphore_states o c.args.s.now) c.semaphore_request-a.ensures)
