@@ -6,6 +6,7 @@ use Rattle.text.specs.Bytes.{starts_with, to_byte}
 use Rattle.text.specs.Number.{is_number, value_from}
 use Rattle.text.specs.Pieces.{pieces}
 use Rattle.text.specs.Lists.{all}
+use Rattle.words.specs.declared.scale.Scale.{Scale}
 use Rattle.words.specs.Scale.{scale_of}
 use Rattle.bill.specs.declared.section.Section.{Section}
 use Rattle.bill.specs.declared.section.Section.TheVariants.{Cores, Processes}

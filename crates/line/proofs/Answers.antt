@@ -16,6 +16,9 @@ use Rattle.text.specs.Number.{number_of}
 use Rattle.text.specs.Sizes.{max_time}
 use Rattle.text.proofs.Bools.{is_false}
 use Rattle.text.proofs.Words.{same_eq, starts_split}
+use Rattle.words.specs.declared.kind.Kind.{Kind}
+use Rattle.words.specs.declared.action.Action.{Action}
+use Rattle.words.specs.declared.scale.Scale.{Scale}
 use Rattle.words.specs.Pair.{named_by}
 use Rattle.fields.specs.Part.{parts_of, field_of}
 use Rattle.forms.specs.Note.{max_instance, note_of, is_wrong}

@@ -9,12 +9,16 @@ use native.Mathlib.Omega.{arith}
 use lib.Dec.{eqb, ltb}
 use lib.ListN.{length}
 use borrow.Author.Tests.{eqb-true}
+use Rattle.text.proofs.Pairs.{same_parts}
 use Rattle.text.specs.Name.{is_name}
 use Rattle.text.specs.Number.{digits_of, number_of}
 use Rattle.text.specs.Sizes.{max_time}
 use Rattle.text.specs.Lists.{is_empty}
 use Rattle.text.proofs.Bools.{and_l, and_r, lt_or_ge}
 use Rattle.text.proofs.Digits.{read_written}
+use Rattle.words.specs.declared.kind.Kind.{Kind}
+use Rattle.words.specs.declared.action.Action.{Action}
+use Rattle.words.specs.declared.scale.Scale.{Scale}
 use Rattle.words.specs.Kind.{kind_word}
 use Rattle.words.specs.Action.{word_of, is_of}
 use Rattle.words.specs.Pair.{named_by}
@@ -108,7 +112,7 @@ numbers_are : (n f t : Option ℕ) (x y z : ℕ) → numbers_as n f t ≡ Some (
 numbers_are None f t x y z q = (cc, cc, cc)
 numbers_are (Some n) None t x y z q = (cc, cc, cc)
 numbers_are (Some n) (Some f) None x y z q = (cc, cc, cc)
-numbers_are (Some n) (Some f) (Some t) x y z q = (cc, cc, cc)
+numbers_are (Some n) (Some f) (Some t) x y z q = let w = same_parts q in let v = same_parts (ap Some w.1) in (ap Some w.0, ap Some v.0, ap Some v.1)
 
 -- ---- the parts
 

@@ -3,6 +3,9 @@ use Rattle.std.specs.Prelude.{ℕ, Bool, true, false, not, ◌&&◌, ◌||◌, L
 use Rattle.text.specs.Name.{is_name}
 use Rattle.text.specs.Number.{number_of}
 use Rattle.text.specs.Sizes.{max_time}
+use Rattle.words.specs.declared.kind.Kind.{Kind}
+use Rattle.words.specs.declared.action.Action.{Action}
+use Rattle.words.specs.declared.scale.Scale.{Scale}
 use Rattle.words.specs.Pair.{named_by}
 use Rattle.fields.specs.Part.{parts_of, field_of}
 use Rattle.forms.specs.Note.{max_instance, note_of, is_wrong}

@@ -2,6 +2,7 @@
 use Rattle.std.specs.Prelude.{ℕ, Bool, ◌&&◌, ◌||◌, cond, List, ltb, length, drop, None, Some, Option}
 use Rattle.text.specs.Literal.{bytes}
 use Rattle.text.specs.Bytes.{same_bytes, starts_with}
+use Rattle.words.specs.declared.scale.Scale.{Scale}
 use Rattle.words.specs.Scale.{scale_of}
 use Rattle.forms.specs.Date.{is_moment}
 use Rattle.line.specs.declared.reading.Reading.{Reading}

@@ -11,6 +11,7 @@ use lib.Dec.{ltb}
 use lib.ListN.{length, take, drop, length-drop}
 use lib.Seq.{length-take-le, take-take, drop-drop}
 use borrow.Author.Tests.{lt-ltb, le-ltb, le-leb, lt-leb}
+use Rattle.text.proofs.Pairs.{same_parts}
 use Rattle.text.specs.Bytes.{to_byte, find_from}
 use Rattle.text.specs.Pieces.{pieces}
 use Rattle.text.proofs.Bools.{lt_or_ge}
@@ -142,9 +143,8 @@ pub line_step : (s : List ℕ) (at e n : ℕ) → next_from s at ≡ Some (e, n)
 line_step s at e n q =
     ⊎_elim
     (λ h. let p = next_some s at h in
-    let x : e ≡ at + length (text s at h) = cc in
-    let y : n ≡ at + suc (before s at) = cc in
-    rw (x, y) (stepped s at h))
+    let w = same_parts (sym q ∙ p) in
+    rw (w.0, w.1) (stepped s at h))
     (λ h. let p = next_none s at h in
     let z : ◌≡◌ {A = ℕ} 0 1 = cc in
     let no_line : ⊥ = omega arith in absurd no_line)

@@ -1,5 +1,5 @@
 -- What the bytes of a type and of an event are: bytes that name a thing are its word, the word of a thing names it, and words are short names.
-use Rattle.std.proofs.Common.{None, Some, Option}
+use Rattle.std.proofs.Common.{None, Some, Option, ap}
 use mathlib.Core.Path.{◌≡◌, refl, sym, ◌∙◌}
 use mathlib.Core.Bool.{Bool, true, false}
 use mathlib.Core.List.{List, [], ◌∷◌}
@@ -8,6 +8,7 @@ use native.Mathlib.Omega.{arith}
 use lib.Dec.{eqb, leb}
 use lib.ListN.{length}
 use borrow.Author.Tests.{eq-eqb, eqb-true, leb-true}
+use Rattle.text.proofs.Pairs.{same_parts}
 use Rattle.text.specs.Bytes.{same_bytes}
 use Rattle.text.specs.Name.{is_name_byte, all_name_bytes, is_name}
 use Rattle.text.specs.Lists.{all}
@@ -95,7 +96,7 @@ action_back k a e = this_is a (action_of k (word_of a)) (named_is_of k a ∙ e)
 -- ---- a type and one of its events
 
 pair_known : (j k : Kind) (f : Option Action) (a : Action) → pair_as j f ≡ Some (k, a) → (j ≡ k) × (f ≡ Some a)
-pair_known j k (Some b) a e = (cc, cc)
+pair_known j k (Some b) a e = let w = same_parts e in (w.0, ap Some w.1)
 pair_known j k None a e = (cc, cc)
 
 kind_known : (f : Option Kind) (t : List ℕ) (k : Kind) (a : Action) → pair_with f t ≡ Some (k, a) → f ≡ Some k

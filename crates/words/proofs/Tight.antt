@@ -14,6 +14,7 @@ use Rattle.words.specs.declared.kind.Kind.{Kind}
 use Rattle.words.specs.declared.kind.Kind.TheVariants.{Stimulus, Task, Signal, Semaphore}
 use Rattle.words.specs.declared.action.Action.{Action}
 use Rattle.words.specs.declared.action.Action.TheVariants.{Release, Released, Run, Start, Trigger}
+use Rattle.words.specs.declared.scale.Scale.{Scale}
 use Rattle.words.specs.Named.{pick}
 use Rattle.words.specs.Kind.{kind_word, kind_of}
 use Rattle.words.specs.Action.{word_of, action_code, actions_of, action_of, among, is_of}

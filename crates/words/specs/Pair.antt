@@ -1,6 +1,7 @@
 -- The type and the event that two fields name: "type unknown, or event not one of that type" is no pair.
 use Rattle.std.specs.Prelude.{ℕ, List, None, Some, Option}
 use Rattle.words.specs.declared.kind.Kind.{Kind}
+use Rattle.words.specs.declared.action.Action.{Action}
 use Rattle.words.specs.Kind.{kind_of}
 use Rattle.words.specs.Action.{action_of}
 

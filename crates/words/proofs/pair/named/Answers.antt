@@ -2,14 +2,15 @@
 use Rattle.words.specs.Pair.{named_by}
 use Rattle.words.proofs.pair.named.Goals as goal
 
-pub returns-in_default : goal.returns-in_default
+pub returns-in_err-kind : goal.returns-in_err-kind
 unfolding named_by
-returns-in_default c = rw (← c.kind_of-k.ensures, c.in_default.is)
+returns-in_err-kind c = rw (c.from_residual.ensures, ← c.kind_of.ensures, c.in_err-kind.was)
 
-pub returns-in_default-a : goal.returns-in_default-a
+pub returns-in_err-action : goal.returns-in_err-action
 unfolding named_by
-returns-in_default-a c = rw (← c.kind_of-k.ensures, c.in-ThisKind.is, ← c.action_of-a.ensures, c.in_default-a.is)
+returns-in_err-action c =
+    rw (c.from_residual-in_err-action.ensures, ← c.kind_of.ensures, c.in_ok-kind.was, ← c.action_of.ensures, c.in_err-action.was)
 
 pub returns : goal.returns
 unfolding named_by
-returns c = rw (← c.kind_of-k.ensures, c.in-ThisKind.is, ← c.action_of-a.ensures, c.in-ThisAction.is)
+returns c = rw (← c.kind_of.ensures, c.in_ok-kind.was, ← c.action_of.ensures, c.in_ok-action.was)

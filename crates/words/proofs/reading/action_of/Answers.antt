@@ -4,6 +4,7 @@ use mathlib.Core.Path.{ap, ◌∙◌}
 use Rattle.words.specs.Action.{action_of, actions_of, word_of, action_from, semaphore_states}
 use Rattle.words.proofs.Chains.{step}
 use Rattle.words.proofs.reading.action_of.Goals as goal
+use Rattle.words.specs.declared.action.Action.{Action}
 
 pub returns-in-Stimulus : goal.returns-in-Stimulus
 unfolding action_of actions_of word_of
