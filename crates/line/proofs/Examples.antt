@@ -1,11 +1,13 @@
 -- Document 01's examples of single lines, against the definitions: one list, one statement. Each line is read as it says, has the number
 -- that it says, and, where it is an event line, is written back from what was read.
-use Rattle.std.proofs.Common.{Option, None, Some}
+use Rattle.std.proofs.Common.{Option, None, Some, Ok}
 use mathlib.Core.Path.{◌≡◌, refl}
 use mathlib.Core.List.{List, [], ◌∷◌, map}
 use Prim.Native.Nat.{ℕ}
 use Prim.Native.String.{String}
 use lib.ListN.{length, replicate}
+use Rattle.text.specs.declared.refusal.Refusal.{Refusal}
+use Rattle.text.specs.declared.refusal.Refusal.TheVariants as refusal
 use Rattle.text.specs.Literal.{bytes}
 use Rattle.text.specs.Bytes.{same_bytes, starts_with}
 use Rattle.text.specs.Pieces.{pieces}
@@ -24,7 +26,6 @@ use Rattle.forms.specs.Rule.{is_process, zero_source, zero_target, is_own, sourc
 use Rattle.line.specs.declared.event.Event.{Event}
 use Rattle.line.specs.declared.reading.Reading.{Reading}
 use Rattle.line.specs.declared.reading.Reading.TheVariants.{Version, Comment, TimeScale, Creator, CreationDate, EventLine, Refused}
-use Rattle.line.specs.declared.writing.Written.TheVariants.{Done}
 use Rattle.line.specs.Parameter.{is_version, is_version_line, parameter_reading}
 use Rattle.line.specs.Event.{event_of, numbers_of, has_names, known_reading, fields_reading, event_reading}
 use Rattle.line.specs.Reading.{has_break, is_event_line, read_line, answer_of}
@@ -58,23 +59,23 @@ pub record Example : Type 0 where
 
 -- an event line that is taken is written back alike
 abbrev pub event : String → Event → Example
-event s e = record { line = bytes s; becomes = record { reading = EventLine e 0; answer = 0; back = Some (0, wrote (Done (length (bytes s))) (bytes s)) } }
+event s e = record { line = bytes s; becomes = record { reading = EventLine e 0; answer = 0; back = Some (0, wrote (Ok (length (bytes s))) (bytes s)) } }
 
 abbrev pub version : String → Example
 version s = record { line = bytes s; becomes = record { reading = Version; answer = 0; back = None } }
 
-abbrev pub refused : String → ℕ → Example
-refused s n = record { line = bytes s; becomes = record { reading = Refused n; answer = n; back = None } }
+abbrev pub refused : String → Refusal → ℕ → Example
+refused s r n = record { line = bytes s; becomes = record { reading = Refused r; answer = n; back = None } }
 
 abbrev pub lines : List Example
 lines =
     event "100,Core_1,0,T,Task_A,0,start" (event_of 100 0 Task 0 Start)
-    ∷ refused "100,Core_1,0,T,Task_A,0,start," 5
-    ∷ refused "0100,Core_1,0,T,Task_A,0,start" 5
+    ∷ refused "100,Core_1,0,T,Task_A,0,start," refusal.Field 5
+    ∷ refused "0100,Core_1,0,T,Task_A,0,start" refusal.Field 5
     ∷ event "72057594037927935,Core_1,0,T,Task_A,0,start" (event_of 72057594037927935 0 Task 0 Start)
-    ∷ refused "72057594037927936,Core_1,0,T,Task_A,0,start" 5
-    ∷ refused "100,Core_1,1,T,Task_A,0,start" 7
-    ∷ refused "#version 2.1.5" 2
+    ∷ refused "72057594037927936,Core_1,0,T,Task_A,0,start" refusal.Field 5
+    ∷ refused "100,Core_1,1,T,Task_A,0,start" refusal.Rule 7
+    ∷ refused "#version 2.1.5" refusal.Version 2
     ∷ version "#version 2.2.0"
     ∷ []
 

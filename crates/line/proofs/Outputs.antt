@@ -1,6 +1,6 @@
 -- What the writer leaves of an output, for every record and every output: a refusal leaves all of it, and a line that is written stands
 -- at its front and leaves the rest. And which numbers the writer gives.
-use Rattle.std.proofs.Common.{is_none}
+use Rattle.std.proofs.Common.{is_none, Err, Ok}
 use mathlib.Core.Path.{◌≡◌, refl, sym, ap, ◌∙◌}
 use mathlib.Core.Bool.{Bool, true, false, not, ◌&&◌, ◌||◌, cond}
 use mathlib.Core.List.{List, [], ◌∷◌, ◌++◌}
@@ -17,21 +17,20 @@ use Rattle.words.specs.Action.{is_of}
 use Rattle.forms.specs.Note.{note_of}
 use Rattle.forms.specs.Rule.{rule_broken}
 use Rattle.line.specs.declared.event.Event.{Event}
-use Rattle.line.specs.declared.writing.Written.TheVariants.{Done, NotWritten}
 use Rattle.line.specs.Answer.{test, lowest}
 use Rattle.line.specs.Writing.{text_of, has_sizes, has_instances, record_refusal, Wrote, wrote, write_text, write_line, written_answer, writer_numbers}
 
 -- ---- what holds of each way in which a text is written or not holds of writing it
 
-module _ (text out : List ℕ) (P : Wrote → Type 0) (done : length text ≤ length out → P (wrote (Done (length text)) (written out 0 text))) where
-  room_case : (b : Bool) → leb (length text) (length out) ≡ b → P (wrote (NotWritten 15) out) → P (cond b (wrote (Done (length text)) (written out 0 text)) (wrote (NotWritten 15) out))
+module _ (text out : List ℕ) (P : Wrote → Type 0) (done : length text ≤ length out → P (wrote (Ok (length text)) (written out 0 text))) where
+  room_case : (b : Bool) → leb (length text) (length out) ≡ b → P (wrote (Err 15) out) → P (cond b (wrote (Ok (length text)) (written out 0 text)) (wrote (Err 15) out))
   room_case true e short = done (leb-true (length text) (length out) e)
   room_case false e short = short
 
-  fit_case : P (wrote (NotWritten 15) out) → P (write_text 0 text out)
+  fit_case : P (wrote (Err 15) out) → P (write_text 0 text out)
   fit_case short = room_case (leb (length text) (length out)) refl short
 
-  text_case : (r : ℕ) → ((n : ℕ) → P (wrote (NotWritten n) out)) → P (write_text r text out)
+  text_case : (r : ℕ) → ((n : ℕ) → P (wrote (Err n) out)) → P (write_text r text out)
   text_case (suc r) refused = refused (suc r)
   text_case zero refused = fit_case (refused 15)
 
@@ -45,27 +44,27 @@ rest_keeps text out i h =
 -- ---- the writer
 
 module _ (e : Event) (source target note out : List ℕ) where
-  pub refused_keeps : (n : ℕ) → (write_line e source target note out).answer ≡ NotWritten n → (write_line e source target note out).output ≡ out
+  pub refused_keeps : (n : ℕ) → (write_line e source target note out).answer ≡ Err n → (write_line e source target note out).output ≡ out
   unfolding write_line
   refused_keeps n =
-      text_case (text_of e source target note) out (λ w. w.answer ≡ NotWritten n → w.output ≡ out) (λ room p. cc) (record_refusal e source target note) (λ k p. refl)
+      text_case (text_of e source target note) out (λ w. w.answer ≡ Err n → w.output ≡ out) (λ room p. cc) (record_refusal e source target note) (λ k p. refl)
 
   -- the length that is answered, and the output: the text and what stood past it
-  done_parts : (n : ℕ) → (write_line e source target note out).answer ≡ Done n
+  done_parts : (n : ℕ) → (write_line e source target note out).answer ≡ Ok n
       → (n ≡ length (text_of e source target note))
       × ((write_line e source target note out).output ≡ text_of e source target note ++ drop (length (text_of e source target note)) out)
   unfolding write_line
   done_parts n =
       let text = text_of e source target note in
-      text_case text out (λ w. w.answer ≡ Done n → (n ≡ length text) × (w.output ≡ text ++ drop (length text) out)) (λ room p. (cc, written_first out text room)) (record_refusal e source target note) (λ k p. (cc, cc))
+      text_case text out (λ w. w.answer ≡ Ok n → (n ≡ length text) × (w.output ≡ text ++ drop (length text) out)) (λ room p. (cc, written_first out text room)) (record_refusal e source target note) (λ k p. (cc, cc))
 
-  pub written_size : (n : ℕ) → (write_line e source target note out).answer ≡ Done n → n ≡ length (text_of e source target note)
+  pub written_size : (n : ℕ) → (write_line e source target note out).answer ≡ Ok n → n ≡ length (text_of e source target note)
   written_size n p = (done_parts n p).0
 
-  pub written_front : (n : ℕ) → (write_line e source target note out).answer ≡ Done n → take n (write_line e source target note out).output ≡ text_of e source target note
+  pub written_front : (n : ℕ) → (write_line e source target note out).answer ≡ Ok n → take n (write_line e source target note out).output ≡ text_of e source target note
   written_front n p = rw (done_parts n p).1 (take_at (text_of e source target note) _ n (sym (written_size n p)))
 
-  pub written_keeps : (n : ℕ) → (write_line e source target note out).answer ≡ Done n → (i : ℕ) → n ≤ i → get_or (write_line e source target note out).output i 0 ≡ get_or out i 0
+  pub written_keeps : (n : ℕ) → (write_line e source target note out).answer ≡ Ok n → (i : ℕ) → n ≤ i → get_or (write_line e source target note out).output i 0 ≡ get_or out i 0
   written_keeps n p i h = rw (done_parts n p).1 (rest_keeps (text_of e source target note) out i (omega (arith, written_size n p)))
 
   -- whatever the answer

@@ -1,6 +1,6 @@
 -- Laws of writing a record: how long its line is, that each field has room where all of them have, when a record is refused, and what
 -- writing it leaves.
-use Rattle.std.proofs.Common.{is_none}
+use Rattle.std.proofs.Common.{is_none, Err, Ok}
 use mathlib.Core.Path.{◌≡◌, refl, sym, ap, ◌∙◌}
 use mathlib.Core.Bool.{Bool, true, false, not, ◌&&◌, ◌||◌}
 use mathlib.Core.List.{List, [], ◌∷◌}
@@ -25,7 +25,6 @@ use Rattle.words.proofs.Found.{kind_short, word_short}
 use Rattle.forms.specs.Note.{max_instance, note_of}
 use Rattle.forms.specs.Rule.{rule_broken}
 use Rattle.line.specs.declared.event.Event.{Event}
-use Rattle.line.specs.declared.writing.Written.TheVariants.{Done, NotWritten}
 use Rattle.line.specs.Answer.{test, lowest}
 use Rattle.line.specs.Writing.{name_field, number_field, note_text, text_of, has_sizes, has_instances, record_refusal, wrote, write_text}
 
@@ -162,14 +161,14 @@ sized_lengths time source target note e =
 
 -- ---- what writing leaves
 
-pub write_refused : (n : ℕ) (text out : List ℕ) → (n ≡ 0 → ⊥) → wrote (NotWritten n) out ≡ write_text n text out
+pub write_refused : (n : ℕ) (text out : List ℕ) → (n ≡ 0 → ⊥) → wrote (Err n) out ≡ write_text n text out
 write_refused zero text out h = absurd (h refl)
 write_refused (suc n) text out h = refl
 
-pub write_full : (n : ℕ) (text out : List ℕ) → n ≡ 0 → length out < length text → wrote (NotWritten 15) out ≡ write_text n text out
+pub write_full : (n : ℕ) (text out : List ℕ) → n ≡ 0 → length out < length text → wrote (Err 15) out ≡ write_text n text out
 write_full n text out e h = rw (e, lt-leb (length text) (length out) h)
 
-pub write_done : (n : ℕ) {r : ℕ} {m : List ℕ} (text out : List ℕ) → n ≡ 0 → length text ≤ length out → after r m ≡ put out 0 text → wrote (Done (length text)) m ≡ write_text n text out
+pub write_done : (n : ℕ) {r : ℕ} {m : List ℕ} (text out : List ℕ) → n ≡ 0 → length text ≤ length out → after r m ≡ put out 0 text → wrote (Ok (length text)) m ≡ write_text n text out
 write_done n {r} {m} text out e h p =
     let w : m ≡ written out 0 text = ap (λ (q : Put). q.output) (p ∙ put_fits out 0 text (omega arith)) in
     rw (e, le-leb (length text) (length out) h, w)

@@ -1,5 +1,5 @@
 -- Wrong answers that the contracts of the four public functions of a line shut out. That there is no second answer is in `Unique`.
-use Rattle.std.proofs.Common.{None, Some, Option}
+use Rattle.std.proofs.Common.{None, Some, Option, Ok}
 use mathlib.Core.Path.{refl}
 use mathlib.Core.Bool.{Bool, true, false, cond}
 use mathlib.Core.List.{List, [], ◌∷◌}
@@ -24,7 +24,6 @@ use Rattle.forms.specs.Note.{note_of}
 use Rattle.forms.specs.Rule.{is_process, zero_source, zero_target, is_own, source_broken, target_broken, own_broken, presence, note_broken, rule_broken}
 use Rattle.line.specs.declared.event.Event.{Event}
 use Rattle.line.specs.declared.reading.NextRead.{NextRead}
-use Rattle.line.specs.declared.writing.Written.TheVariants.{Done}
 use Rattle.line.specs.Event.{event_of}
 use Rattle.line.specs.Parameter.{is_version, is_version_line, is_comment, parameter_reading}
 use Rattle.line.specs.Reading.{has_break, is_event_line, read_line, split_line, next_reading, answer_of}
@@ -81,6 +80,6 @@ Record = Event × List ℕ × List ℕ × List ℕ × List ℕ
 abbrev writes : Record → Wrote
 writes (e, source, target, note, out) = write_line e source target note out
 
-pub write_not_idle : ShutsOut writes (λ (e, source, target, note, out). wrote (Done (length (text_of e source target note))) out)
+pub write_not_idle : ShutsOut writes (λ (e, source, target, note, out). wrote (Ok (length (text_of e source target note))) out)
 unfolding write_line record_refusal has_instances has_sizes is_name all_name_bytes is_name_byte is_of among actions_of action_code note_of rule_broken source_broken target_broken own_broken note_broken presence zero_source zero_target is_process is_own same_bytes text_of number_field name_field note_text digits_of kind_word word_of written
 write_not_idle = shut_out (λ w. eqb (get_or w.output 0 0) 49) (event_of 1 0 Task 0 Start, bytes "C", bytes "A", [], bytes "....................") refl refl

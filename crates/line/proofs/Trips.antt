@@ -1,6 +1,6 @@
 -- The two round trips, over all bytes: a line that reads as an event, written from what was read, is that very line, and a record that is
 -- written reads back as that record.
-use Rattle.std.proofs.Common.{is_none, None, Some, Option}
+use Rattle.std.proofs.Common.{is_none, None, Some, Option, Err, Ok}
 use mathlib.Core.Path.{◌≡◌, refl, sym, ap, ◌∙◌}
 use mathlib.Core.Bool.{Bool, true, false, not, ◌&&◌, ◌||◌, cond}
 use mathlib.Core.Logic.{inl, inr}
@@ -26,7 +26,6 @@ use Rattle.forms.specs.Note.{max_instance, note_of}
 use Rattle.forms.specs.Rule.{rule_broken}
 use Rattle.line.specs.declared.event.Event.{Event}
 use Rattle.line.specs.declared.reading.Reading.TheVariants.{EventLine}
-use Rattle.line.specs.declared.writing.Written.TheVariants.{Done, NotWritten}
 use Rattle.line.specs.Event.{numbers_of, has_names, known_reading, fields_reading, event_reading}
 use Rattle.line.specs.Reading.{line_most, read_line}
 use Rattle.line.specs.Writing.{has_instances, has_sizes, record_refusal, text_of, wrote, write_text, write_line}
@@ -166,21 +165,21 @@ said_text l e count s = rw (text_joined, ← said_parts l e count s) (join_parts
 -- ---- what is written
 
 fits_front : (text out : List ℕ) (n : ℕ) (b : Bool) → leb (length text) (length out) ≡ b
-    → (cond b (wrote (Done (length text)) (written out 0 text)) (wrote (NotWritten 15) out)).answer ≡ Done n
-    → take n (cond b (wrote (Done (length text)) (written out 0 text)) (wrote (NotWritten 15) out)).output ≡ text
+    → (cond b (wrote (Ok (length text)) (written out 0 text)) (wrote (Err 15) out)).answer ≡ Ok n
+    → take n (cond b (wrote (Ok (length text)) (written out 0 text)) (wrote (Err 15) out)).output ≡ text
 fits_front text out n true p q =
     let m : n ≡ length text = cc in
     rw m (take_written out text (leb-true (length text) (length out) p))
 fits_front text out n false p q = cc
 
-done_front : (r : ℕ) (text out : List ℕ) (n : ℕ) → (write_text r text out).answer ≡ Done n → (r ≡ 0) × (take n (write_text r text out).output ≡ text)
+done_front : (r : ℕ) (text out : List ℕ) (n : ℕ) → (write_text r text out).answer ≡ Ok n → (r ≡ 0) × (take n (write_text r text out).output ≡ text)
 done_front zero text out n q = (refl, fits_front text out n (leb (length text) (length out)) refl q)
 done_front (suc r) text out n q = (cc, cc)
 
 -- ---- the first trip
 
 pub read_then_write : (l : List ℕ) (e : Event) (count : ℕ) (out : List ℕ) → read_line l ≡ EventLine e count → length l ≤ length out
-    → write_line e (field_of l 2) (field_of l 5) (field_of l 8) out ≡ wrote (Done (length l)) (l ++ drop (length l) out)
+    → write_line e (field_of l 2) (field_of l 5) (field_of l 8) out ≡ wrote (Ok (length l)) (l ++ drop (length l) out)
 unfolding write_line
 read_then_write l e count out q h =
     let s = said l e count q in
@@ -207,7 +206,7 @@ read_back e source target note count a =
     let p = text_parts e source target note count a in
     record { count = count; reads = text_read e source target note count a; means = a.means; source_part = rw p; target_part = rw p; note_part = rw p (note_only note) }
 
-pub write_then_read : (e : Event) (source target note out : List ℕ) (n : ℕ) → (write_line e source target note out).answer ≡ Done n
+pub write_then_read : (e : Event) (source target note out : List ℕ) (n : ℕ) → (write_line e source target note out).answer ≡ Ok n
     → ReadBack (take n (write_line e source target note out).output) e source target note
 unfolding write_line
 write_then_read e source target note out n q =

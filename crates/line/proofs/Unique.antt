@@ -1,5 +1,5 @@
 -- No second outcome satisfies the contracts of the four public functions of a line.
-use Rattle.std.proofs.Common.{Option}
+use Rattle.std.proofs.Common.{Option, Result}
 use mathlib.Core.Path.{◌≡◌, ap}
 use mathlib.Core.Bool.{Bool}
 use mathlib.Core.List.{List}
@@ -9,7 +9,6 @@ use Rattle.line.specs.declared.event.Event.{Event}
 use Rattle.line.specs.declared.reading.Reading.{Reading}
 use Rattle.line.specs.declared.reading.Split.{Split}
 use Rattle.line.specs.declared.reading.NextRead.{NextRead}
-use Rattle.line.specs.declared.writing.Written.{Written}
 use Rattle.line.specs.Reading.{read_line, split_line, next_reading}
 use Rattle.line.specs.Writing.{Wrote, wrote, write_line}
 
@@ -22,7 +21,7 @@ split_unique = unique split_line
 pub read_next_unique : (whole : Bool) (s : List ℕ) (at : ℕ) (x y : Option NextRead) → x ≡ next_reading whole s at → y ≡ next_reading whole s at → x ≡ y
 read_next_unique whole s = unique (next_reading whole s)
 
-pub write_unique : (e : Event) (source target note out : List ℕ) (r s : Written) (m n : List ℕ) → wrote r m ≡ write_line e source target note out → wrote s n ≡ write_line e source target note out → (r ≡ s) × (m ≡ n)
+pub write_unique : (e : Event) (source target note out : List ℕ) (r s : Result ℕ ℕ) (m n : List ℕ) → wrote r m ≡ write_line e source target note out → wrote s n ≡ write_line e source target note out → (r ≡ s) × (m ≡ n)
 write_unique e source target note out r s m n p q =
     let w = unique (write_line e source target note) out (wrote r m) (wrote s n) p q in
     (ap (λ (x : Wrote). x.answer) w, ap (λ (x : Wrote). x.output) w)

@@ -1,6 +1,6 @@
 -- The one line that a record is, when it is refused, and what writing it leaves. A record is an event with its source, target and note;
 -- an empty note is no note.
-use Rattle.std.specs.Prelude.{ℕ, zero, suc, Bool, not, ◌&&◌, ◌||◌, cond, List, [], ◌∷◌, ◌++◌, leb, length, is_none}
+use Rattle.std.specs.Prelude.{ℕ, zero, suc, Bool, not, ◌&&◌, ◌||◌, cond, List, [], ◌∷◌, ◌++◌, leb, length, is_none, Err, Ok, Result}
 use Rattle.text.specs.Name.{is_name}
 use Rattle.text.specs.Number.{digits_of}
 use Rattle.text.specs.Put.{written}
@@ -11,8 +11,6 @@ use Rattle.words.specs.Action.{word_of, is_of}
 use Rattle.forms.specs.Note.{max_instance, note_of}
 use Rattle.forms.specs.Rule.{rule_broken}
 use Rattle.line.specs.declared.event.Event.{Event}
-use Rattle.line.specs.declared.writing.Written.{Written}
-use Rattle.line.specs.declared.writing.Written.TheVariants.{Done, NotWritten}
 use Rattle.line.specs.Answer.{test, lowest}
 
 -- ---- the text
@@ -54,23 +52,23 @@ record_refusal e source target note =
 -- ---- what writing leaves
 
 pub record Wrote : Type 0 where
-  pub answer : Written
+  pub answer : Result ℕ ℕ
   pub output : List ℕ
 
-abbrev pub wrote : Written → List ℕ → Wrote
+abbrev pub wrote : Result ℕ ℕ → List ℕ → Wrote
 wrote r out = record { answer = r; output = out }
 
 abbrev pub write_text : ℕ → List ℕ → List ℕ → Wrote
-write_text (suc n) text out = wrote (NotWritten (suc n)) out
-write_text zero text out = cond (leb (length text) (length out)) (wrote (Done (length text)) (written out 0 text)) (wrote (NotWritten 15) out)
+write_text (suc n) text out = wrote (Err (suc n)) out
+write_text zero text out = cond (leb (length text) (length out)) (wrote (Ok (length text)) (written out 0 text)) (wrote (Err 15) out)
 
 unfoldable pub write_line : Event → List ℕ → List ℕ → List ℕ → List ℕ → Wrote
 write_line e source target note out = write_text (record_refusal e source target note) (text_of e source target note) out
 
 -- the number of document 01's table that the writer's answer is
-unfoldable pub written_answer : Written → ℕ
-written_answer (Done n) = 0
-written_answer (NotWritten n) = n
+unfoldable pub written_answer : Result ℕ ℕ → ℕ
+written_answer (Ok n) = 0
+written_answer (Err n) = n
 
 -- "The writer gives 0, 5, 6, 7 or 15"
 abbrev pub writer_numbers : List ℕ

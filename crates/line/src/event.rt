@@ -11,6 +11,7 @@ use forms::note::note_of;
 use forms::rule::rule_broken;
 use text::name::{NAME_MOST, name};
 use text::number::read_number;
+use text::refusal::Refusal;
 use text::size::MAX_TIME;
 use words::action::Action;
 use words::kind::Kind;
@@ -73,7 +74,7 @@ fn read_known(
         source.now source_instance target.now target_instance note.now }
 {
     let Some(count) = note_of(kind, note) else {
-        return Reading::Refused(5);
+        return Reading::Refused(Refusal::Field);
     };
     if rule_broken(
         kind,
@@ -84,7 +85,7 @@ fn read_known(
         target_instance,
         note,
     ) {
-        return Reading::Refused(7);
+        return Reading::Refused(Refusal::Rule);
     }
     let event = Event {
         time,
@@ -114,14 +115,14 @@ fn read_fields(
         target.now target_instance.now action.now note.now noted }
 {
     if !names(source, target, note, noted, plain) {
-        return Reading::Refused(5);
+        return Reading::Refused(Refusal::Field);
     }
     let numbers = read_numbers(time, source_instance, target_instance);
     let Some((time, source_instance, target_instance)) = numbers else {
-        return Reading::Refused(5);
+        return Reading::Refused(Refusal::Field);
     };
     let Some((kind, action)) = named(kind, action) else {
-        return Reading::Refused(6);
+        return Reading::Refused(Refusal::Event);
     };
     read_known(
         kind,
@@ -152,10 +153,10 @@ pub(crate) fn read_event(line: &[u8], c: Commas, plain: bool) -> Reading
     let n = line.len();
     let c1 = c.c1;
     if n <= c.c6 {
-        return Reading::Refused(5);
+        return Reading::Refused(Refusal::Field);
     }
     if c.c8 < n {
-        return Reading::Refused(5);
+        return Reading::Refused(Refusal::Field);
     }
     let time = &line[0..c1];
     let source = part(line, c1, c.c2);

@@ -10,6 +10,7 @@ use fields::part::Commas;
 use fields::split;
 use scan::reader::next_line;
 use text::name::all_plain;
+use text::refusal::Refusal;
 use words::scale::Scale;
 
 // the longest line that is read by its text, as specs/Reading.antt has it
@@ -24,7 +25,7 @@ pub enum Reading {
     Creator,
     CreationDate,
     EventLine(Event, u32),
-    Refused(u8),
+    Refused(Refusal),
 }
 
 // What a line is, and where its commas stand: so whoever asks for its parts need not look for them again.
@@ -86,10 +87,10 @@ fn read_at(line: &[u8], c: Commas, plain: bool) -> Reading
     ensures { result ≡ read_line line.now }
 {
     if LINE_MOST < line.len() {
-        return Reading::Refused(1);
+        return Reading::Refused(Refusal::Line);
     }
     if broken(line, plain) {
-        return Reading::Refused(1);
+        return Reading::Refused(Refusal::Line);
     }
     if event_line(line) {
         return read_event(line, c, plain);

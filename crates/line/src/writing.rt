@@ -2,6 +2,7 @@
 ghost use Rattle.std.specs.Prelude.{◌≡◌, [], ◌∷◌, ◌+◌, ◌≤◌, length};
 ghost use Rattle.text.specs.Name.{name_most};
 ghost use Rattle.text.specs.Put.{put, after};
+ghost use Rattle.text.specs.Refusal.{answer_number, numbered};
 ghost use Rattle.words.specs.Kind.{kind_word};
 ghost use Rattle.line.specs.Writing.{has_sizes, record_refusal, text_of, note_text, number_field, name_field, write_line, wrote};
 
@@ -10,17 +11,11 @@ use forms::note::note_of;
 use forms::rule::rule_broken;
 use text::name::name;
 use text::put::{digit_count, put_bytes, put_number};
+use text::refusal::Refusal;
 use text::size::MAX_TIME;
 use words::class::is_of;
 use words::kind::{Kind, kind_length, put_kind};
 use words::writing::{put_word, word_length};
-
-// The length of the line that was written, or the number of the refusal.
-#[derive(Clone, Copy)]
-pub enum Written {
-    Done(usize),
-    NotWritten(u8),
-}
 
 // Whether the time has its size, source and target are names, and the note is one or empty.
 fn sizes(time: u64, source: &[u8], target: &[u8], note: &[u8]) -> bool
@@ -29,20 +24,20 @@ fn sizes(time: u64, source: &[u8], target: &[u8], note: &[u8]) -> bool
     (time <= MAX_TIME) & (name(source) & (name(target) & ((note.len() == 0) | name(note))))
 }
 
-// The lowest number of a refusal that applies to a record, or 0.
-fn refusal(event: Event, source: &[u8], target: &[u8], note: &[u8]) -> u8
-    ensures { result ≡ record_refusal event source.now target.now note.now }
+// Whether a record may be written; else the refusal with the lowest number of those that apply to it.
+fn may_be_written(event: Event, source: &[u8], target: &[u8], note: &[u8]) -> Result<(), Refusal>
+    ensures { answer_number result ≡ record_refusal event source.now target.now note.now }
 {
     let kind = event.kind;
     let action = event.action;
     if !sizes(event.time, source, target, note) {
-        return 5;
+        return Err(Refusal::Field);
     }
     if !is_of(kind, action) {
-        return 6;
+        return Err(Refusal::Event);
     }
     if note_of(kind, note).is_none() {
-        return 5;
+        return Err(Refusal::Field);
     }
     if rule_broken(
         kind,
@@ -53,9 +48,9 @@ fn refusal(event: Event, source: &[u8], target: &[u8], note: &[u8]) -> u8
         event.target_instance,
         note,
     ) {
-        return 7;
+        return Err(Refusal::Rule);
     }
-    0
+    Ok(())
 }
 
 // How long the line of a record is.
@@ -141,17 +136,20 @@ fn put_line(event: Event, source: &[u8], target: &[u8], note: &[u8], out: &mut [
 
 // Writes the one line that a record is at the front of out, without an end; an empty note is no note. The rest of out stays as it
 // was, and on a refusal all of it.
-pub fn write(event: Event, source: &[u8], target: &[u8], note: &[u8], out: &mut [u8]) -> Written
-    ensures { wrote result out.new ≡ write_line event source.now target.now note.now out.old }
+pub fn write(
+    event: Event,
+    source: &[u8],
+    target: &[u8],
+    note: &[u8],
+    out: &mut [u8],
+) -> Result<usize, Refusal>
+    ensures { wrote (numbered result) out.new ≡ write_line event source.now target.now note.now out.old }
 {
-    let no = refusal(event, source, target, note);
-    if no != 0 {
-        return Written::NotWritten(no);
-    }
+    may_be_written(event, source, target, note)?;
     let n = line_length(event, source, target, note);
     if out.len() < n {
-        return Written::NotWritten(15);
+        return Err(Refusal::Size);
     }
     put_line(event, source, target, note, out);
-    Written::Done(n)
+    Ok(n)
 }

@@ -1,4 +1,5 @@
 -- What each call gives, and what it leaves: the laws behind demand 1, over any bytes, any record, any tables and any output.
+use Rattle.std.proofs.Common.{Err, Ok, Result}
 use mathlib.Core.Path.{◌≡◌, refl, sym, subst}
 use mathlib.Core.Bool.{Bool, true, false, ◌||◌, cond}
 use mathlib.Core.Logic.{⊎_elim}
@@ -11,8 +12,6 @@ use borrow.Author.Tests.{eqb-false, ne_eqb}
 use Rattle.text.specs.Put.{written}
 use Rattle.walk.specs.Lines.{whole_lines, used_up, lines_of}
 use Rattle.line.specs.declared.event.Event.{Event as ReadEvent}
-use Rattle.line.specs.declared.writing.Written.{Written}
-use Rattle.line.specs.declared.writing.Written.TheVariants.{Done as Wrote, NotWritten}
 use Rattle.line.specs.Reading.{read_line, answer_of}
 use Rattle.line.specs.Condition.{reader_tests}
 use Rattle.line.specs.Writing.{write_line, written_answer}
@@ -89,9 +88,9 @@ pub write_kept : (e : ReadEvent) (source target note out : List ℕ) → (writte
 unfolding written_answer
 write_kept e source target note out = by_answer (write_line e source target note out).answer refl
   where
-    by_answer : (w : Written) → (write_line e source target note out).answer ≡ w → (written_answer w ≡ 0 → ⊥) → (write_line e source target note out).output ≡ out
-    by_answer (Wrote n) q h = absurd (h refl)
-    by_answer (NotWritten n) q h = refused_keeps e source target note out n q
+    by_answer : (w : Result ℕ ℕ) → (write_line e source target note out).answer ≡ w → (written_answer w ≡ 0 → ⊥) → (write_line e source target note out).output ≡ out
+    by_answer (Ok n) q h = absurd (h refl)
+    by_answer (Err n) q h = refused_keeps e source target note out n q
 
 -- ---- tables
 

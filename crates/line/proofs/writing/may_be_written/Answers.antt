@@ -1,8 +1,8 @@
--- `line::writing::refusal` meets its contract: the tests are made in the order in which the lowest number wins. The instances have their
+-- `line::writing::may_be_written` meets its contract: the tests are made in the order in which the lowest number wins. The instances have their
 -- size by their type.
 use native.Mathlib.Omega.{arith}
 use Rattle.line.proofs.Texts.{record_refusal_lem}
-use Rattle.line.proofs.writing.refusal.Goals as goal
+use Rattle.line.proofs.writing.may_be_written.Goals as goal
 
 pub returns-then-not-sizes : goal.returns-then-not-sizes
 returns-then-not-sizes c =
