@@ -8,7 +8,7 @@ use Rattle.line.specs.declared.reading.Split.{Split}
 use Rattle.line.specs.declared.reading.NextRead.{NextRead}
 use Rattle.line.specs.Event.{event_reading}
 use Rattle.line.specs.Parameter.{parameter_reading}
-use Rattle.text.specs.Refusal.{number_of}
+use Rattle.text.specs.Refusal.{refusal_number}
 use Rattle.text.specs.declared.refusal.Refusal.TheVariants as refusal
 
 -- "byte 10 or 13 inside"
@@ -48,4 +48,4 @@ answer_of (TimeScale s) = 0
 answer_of Creator = 0
 answer_of CreationDate = 0
 answer_of (EventLine e count) = 0
-answer_of (Refused r) = number_of r
+answer_of (Refused r) = refusal_number r

@@ -2,13 +2,13 @@
 use Rattle.std.proofs.Common.{◌≡◌, ℕ, pred, [], ◌∷◌, get_or, refl, Result, Ok, Err, sym, ap, ◌∙◌, arith}
 use Rattle.text.specs.declared.refusal.Refusal.{Refusal}
 use Rattle.text.specs.declared.refusal.Refusal.TheVariants.{Line, Version, Parameter, Scale, Field, Event, Rule, Time, Kind, Room, Chart, Instance, Core, Count, Size, Range}
-use Rattle.text.specs.Refusal.{number_of, answer_number, numbered}
+use Rattle.text.specs.Refusal.{refusal_number, answer_number, numbered}
 
 -- the refusals in the order of their numbers
 abbrev at : ℕ → Refusal
 at n = get_or (Line ∷ Version ∷ Parameter ∷ Scale ∷ Field ∷ Event ∷ Rule ∷ Time ∷ Kind ∷ Room ∷ Chart ∷ Instance ∷ Core ∷ Count ∷ Size ∷ Range ∷ []) (pred n) Line
 
-at_number : (r : Refusal) → at (number_of r) ≡ r
+at_number : (r : Refusal) → at (refusal_number r) ≡ r
 at_number Line = refl
 at_number Version = refl
 at_number Parameter = refl
@@ -26,10 +26,10 @@ at_number Count = refl
 at_number Size = refl
 at_number Range = refl
 
-pub number_same : (r q : Refusal) → number_of r ≡ number_of q → r ≡ q
+pub number_same : (r q : Refusal) → refusal_number r ≡ refusal_number q → r ≡ q
 number_same r q e = sym (at_number r) ∙ ap at e ∙ at_number q
 
-pub number_not_0 : (r : Refusal) → number_of r ≡ 0 → ⊥
+pub number_not_0 : (r : Refusal) → refusal_number r ≡ 0 → ⊥
 number_not_0 Line e = omega (arith, e)
 number_not_0 Version e = omega (arith, e)
 number_not_0 Parameter e = omega (arith, e)
@@ -53,4 +53,4 @@ module _ {A : Type 0} where
   numbered_same (Ok a) (Ok b) e = cc
   numbered_same (Ok a) (Err q) e = cc
   numbered_same (Err r) (Ok b) e = cc
-  numbered_same (Err r) (Err q) e = let n : number_of r ≡ number_of q = cc in ap Err (number_same r q n)
+  numbered_same (Err r) (Err q) e = let n : refusal_number r ≡ refusal_number q = cc in ap Err (number_same r q n)

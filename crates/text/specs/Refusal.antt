@@ -3,30 +3,30 @@ use Rattle.std.specs.Prelude.{ℕ, Result, Ok, Err}
 use Rattle.text.specs.declared.refusal.Refusal.{Refusal}
 use Rattle.text.specs.declared.refusal.Refusal.TheVariants.{Line, Version, Parameter, Scale, Field, Event, Rule, Time, Kind, Room, Chart, Instance, Core, Count, Size, Range}
 
-abbrev pub number_of : Refusal → ℕ
-number_of Line = 1
-number_of Version = 2
-number_of Parameter = 3
-number_of Scale = 4
-number_of Field = 5
-number_of Event = 6
-number_of Rule = 7
-number_of Time = 8
-number_of Kind = 9
-number_of Room = 10
-number_of Chart = 11
-number_of Instance = 12
-number_of Core = 13
-number_of Count = 14
-number_of Size = 15
-number_of Range = 16
+abbrev pub refusal_number : Refusal → ℕ
+refusal_number Line = 1
+refusal_number Version = 2
+refusal_number Parameter = 3
+refusal_number Scale = 4
+refusal_number Field = 5
+refusal_number Event = 6
+refusal_number Rule = 7
+refusal_number Time = 8
+refusal_number Kind = 9
+refusal_number Room = 10
+refusal_number Chart = 11
+refusal_number Instance = 12
+refusal_number Core = 13
+refusal_number Count = 14
+refusal_number Size = 15
+refusal_number Range = 16
 
 -- an answer that may be a refusal, as its number; 0 where it is none
 abbrev pub answer_number : {A : Type 0} → Result A Refusal → ℕ
 answer_number (Ok x) = 0
-answer_number (Err r) = number_of r
+answer_number (Err r) = refusal_number r
 
 -- an answer with the number in place of the refusal
 abbrev pub numbered : {A : Type 0} → Result A Refusal → Result A ℕ
 numbered (Ok x) = Ok x
-numbered (Err r) = Err (number_of r)
+numbered (Err r) = Err (refusal_number r)

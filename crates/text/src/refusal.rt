@@ -1,6 +1,6 @@
 // "Every call returns one of document 01's numbered answers": the refusals of its table, from 1 on; no refusal is its 0.
 ghost use Rattle.std.specs.Prelude.{◌≡◌};
-ghost use Rattle.text.specs.Refusal.{number_of};
+ghost use Rattle.text.specs.Refusal.{refusal_number};
 
 #[derive(Clone, Copy, Debug, PartialEq, Eq)]
 pub enum Refusal {
@@ -25,7 +25,7 @@ pub enum Refusal {
 impl Refusal {
     // The number in the table.
     pub fn number(self) -> u32
-        ensures { result ≡ number_of self }
+        ensures { result ≡ refusal_number self }
     {
         self as u32
     }

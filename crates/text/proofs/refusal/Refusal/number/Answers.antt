@@ -4,10 +4,10 @@ use denote.Enum.Declared.{tag_of}
 use Rattle.text.specs.contracts.refusal.Refusal.{the_type}
 use Rattle.text.specs.declared.refusal.Refusal.{Refusal}
 use Rattle.text.specs.declared.refusal.Refusal.TheVariants.{Line, Version, Parameter, Scale, Field, Event, Rule, Time, Kind, Room, Chart, Instance, Core, Count, Size, Range}
-use Rattle.text.specs.Refusal.{number_of}
+use Rattle.text.specs.Refusal.{refusal_number}
 use Rattle.text.proofs.refusal.Refusal.number.Goals as goal
 
-one_more : (r : Refusal) → tag_of the_type r + 1 ≡ number_of r
+one_more : (r : Refusal) → tag_of the_type r + 1 ≡ refusal_number r
 one_more Line = refl
 one_more Version = refl
 one_more Parameter = refl
