@@ -1,4 +1,5 @@
 -- The figures that the code reads of a row are the row's own where the row may be added, and a sum of two has room in 64 bits.
+use Rattle.std.proofs.Common.{unwrap_or}
 use mathlib.Core.Path.{◌≡◌, refl, sym, ◌∙◌}
 use mathlib.Core.Bool.{Bool, true, false, ◌&&◌}
 use mathlib.Core.List.{List, [], ◌∷◌, map}
@@ -17,7 +18,7 @@ use Rattle.bill.specs.declared.section.Section.TheVariants.{Cores, Processes}
 use Rattle.bill.specs.Reading.{word_of, row_from, all_numbers, row_exact}
 use Rattle.shifts.specs.Sum.{plus}
 use Rattle.adding.specs.declared.put.Figures.{Figures}
-use Rattle.paper.specs.Lines.{line_from, row_at, value_or0, amount_in}
+use Rattle.paper.specs.Lines.{line_from, row_at, amount_in}
 use Rattle.paper.specs.Rows.{row_of}
 use Rattle.adding.specs.MergeCode.{figures_at, none_for, sum_of, Small, shown, width, all_small, fine_row}
 
@@ -28,7 +29,7 @@ figures_read text p e x y z = rw (x, y, z, e)
 -- ---- one word
 
 abbrev amount : List ℕ → ℕ
-amount w = value_or0 (number_of w (2 ^ 62))
+amount w = unwrap_or (number_of w (2 ^ 62)) 0
 
 amount_own : (w : List ℕ) → is_number w ≡ true → leb (value_from 0 w) (2 ^ 62) ≡ true → amount w ≡ value_from 0 w
 unfolding number_of
@@ -38,7 +39,7 @@ amount_small : (w : List ℕ) → amount w ≤ 2 ^ 62
 unfolding number_of
 amount_small w = go (is_number w) (leb (value_from 0 w) (2 ^ 62)) refl
   where
-    go : (b d : Bool) → leb (value_from 0 w) (2 ^ 62) ≡ d → value_or0 (number_if (b && d) (value_from 0 w)) ≤ 2 ^ 62
+    go : (b d : Bool) → leb (value_from 0 w) (2 ^ 62) ≡ d → unwrap_or (number_if (b && d) (value_from 0 w)) 0 ≤ 2 ^ 62
     go true true e = leb-true (value_from 0 w) (2 ^ 62) e
     go true false e = omega arith
     go false d e = omega arith

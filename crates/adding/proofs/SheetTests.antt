@@ -13,6 +13,7 @@ use Rattle.text.specs.Pieces.{pieces, ended, unended}
 use Rattle.text.specs.Sizes.{max_time, name_limit, core_limit}
 use Rattle.text.specs.Lists.{all}
 use Rattle.text.proofs.Bools.{and_l, and_r, or_l, or_r}
+use Rattle.text.proofs.Pairs.{same_parts}
 use Rattle.bill.specs.declared.section.Section.TheVariants.{Cores, Processes}
 use Rattle.bill.specs.Rows.{all_named}
 use Rattle.bill.specs.Text.{title}
@@ -83,7 +84,7 @@ pub record HeadTold (line : List ℕ) (scale span : ℕ) : Type 0 where
   pub short : span ≤ max_time
 
 head_if_lem : (t u : Bool) (s n scale span : ℕ) → leb n max_time ≡ u → head_if (t && u) s n ≡ Some (scale, span) → (t ≡ true) × (s ≡ scale) × (n ≡ span) × (n ≤ max_time)
-head_if_lem true true s n scale span h e = (refl, cc, cc, leb-true n max_time h)
+head_if_lem true true s n scale span h e = let w = same_parts e in (refl, w.0, w.1, leb-true n max_time h)
 head_if_lem true false s n scale span h e = (cc, cc, cc, absurd (let z : ◌≡◌ {A = ℕ} 0 1 = cc in omega arith))
 head_if_lem false u s n scale span h e = (cc, cc, cc, absurd (let z : ◌≡◌ {A = ℕ} 0 1 = cc in omega arith))
 

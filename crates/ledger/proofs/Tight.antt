@@ -1,5 +1,5 @@
 -- How tight the contract is: one answer where no sheet is read, one for the sheets that were read, and the same one for all that begin so.
-use Rattle.std.proofs.Common.{Some}
+use Rattle.std.proofs.Common.{None, Some}
 use mathlib.Core.Path.{◌≡◌, refl, sym, ap, ap₂, ◌∙◌}
 use mathlib.Core.Bool.{true, false}
 use mathlib.Core.List.{List, [], ◌∷◌, ◌++◌, Perm}
@@ -83,7 +83,9 @@ pub refused_in_any_order : {n k i count : ℕ} {l m : List ℕ} (v : RefusedAt n
 refused_in_any_order v w more p =
     let c = w.sum.came in
     let d = v.came in
-    none-ne-some _ (ap bytes_of (sym (refused_at v more)) ∙ sym (left_any_order c.first d.first c.others (d.others ++ more) p) ∙ ap bytes_of c.total)
+    let e : None ≡ Some w.sum.text =
+    ap bytes_of (sym (refused_at v more)) ∙ sym (left_any_order c.first d.first c.others (d.others ++ more) p) ∙ ap bytes_of c.total in
+    cc
 
 -- of two refusals of the same sheets, one read no further than the other: both are the same
 pub refused_unique : {n k i j : ℕ} (v : RefusedAt n k) (w : RefusedAt i j) (more : List (List ℕ)) → w.came.first ≡ v.came.first →

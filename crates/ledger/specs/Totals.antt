@@ -101,7 +101,7 @@ pub record IsSum (n : ℕ) (s : List ℕ) : Type 0 where
   pub first : List ℕ
   pub others : List (List ℕ)
   pub each : AllSheets (first ∷ others)
-  pub Some : 0 < length others
+  pub some : 0 < length others
   pub sum : add_all (Text first) others ≡ Text (take n s)
   pub fits : n ≤ length s
 

@@ -1,18 +1,16 @@
 -- A line by its place and the words of a line, as the code walks from one to the next.
-use Rattle.std.proofs.Common.{None, Some, Option}
 use mathlib.Core.Path.{◌≡◌}
 use mathlib.Core.List.{List, []}
-use Prim.Native.Nat.{ℕ, ◌+◌, ◌-◌, ◌^◌, ◌≤◌, ◌<◌}
+use Prim.Native.Nat.{ℕ, ◌+◌, ◌-◌, ◌≤◌, ◌<◌}
 use native.Mathlib.Numerals.{add-one}
 use native.Mathlib.Omega.{arith}
 use lib.ListN.{length, take, drop, drop_of_length-le, get_or-eq_default}
 use lib.Seq.{take-nil}
 use Rattle.text.specs.Bytes.{to_byte, find_from}
-use Rattle.text.specs.Number.{number_of}
 use Rattle.text.specs.Pieces.{pieces}
 use Rattle.text.proofs.PiecesFrom.{From, pieces_next, pieces_end, piece_here}
 use Rattle.bill.specs.Reading.{word_of}
-use Rattle.paper.specs.Lines.{line_from, amount_in}
+use Rattle.paper.specs.Lines.{line_from}
 
 -- ---- a line
 
@@ -42,14 +40,3 @@ count_next line k a n e g f h = let z : k + 1 - 1 ≡ k - 1 + 1 = omega arith in
 
 pub count_end : (line : List ℕ) (k a n : ℕ) → n ≡ find_from 32 line a → 1 ≤ k → From 32 line (k - 1) a → length line ≤ n → k ≡ length (pieces 32 line)
 count_end line k a n e g f h = omega (arith, pieces_end 32 line (k - 1) a f (rw e at h))
-
--- ---- a word as a figure
-
-module _ (line : List ℕ) (k : ℕ) (r : Option ℕ) (given : r ≡ number_of (word_of line k) (2 ^ 62)) where
-  pub amount_none : r ≡ None → 0 ≡ amount_in line k
-  unfolding amount_in
-  amount_none e = rw (← given, e)
-
-  pub amount_some : (v : ℕ) → r ≡ Some v → v ≡ amount_in line k
-  unfolding amount_in
-  amount_some v e = rw (← given, e)

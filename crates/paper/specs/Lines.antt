@@ -1,5 +1,5 @@
 -- FOR THE CODE ALONE: a line by the place where it begins, the row that it shows, and its figures as far as they may be added.
-use Rattle.std.specs.Prelude.{List, ℕ, ◌^◌, take, drop, None, Some, Option}
+use Rattle.std.specs.Prelude.{List, ℕ, ◌^◌, take, drop, unwrap_or}
 use Rattle.text.specs.Bytes.{to_byte}
 use Rattle.text.specs.Number.{number_of}
 use Rattle.bill.specs.Rows.{Row}
@@ -18,10 +18,6 @@ row_at text p = row_from (line_from text p)
 abbrev pub name_at : List ℕ → ℕ → Name
 name_at text p = (row_at text p).name
 
-abbrev pub value_or0 : Option ℕ → ℕ
-value_or0 (Some v) = v
-value_or0 None = 0
-
 -- word k as a figure, 0 where it is none of at most 2^62
 unfoldable pub amount_in : List ℕ → ℕ → ℕ
-amount_in line k = value_or0 (number_of (word_of line k) (2 ^ 62))
+amount_in line k = unwrap_or (number_of (word_of line k) (2 ^ 62)) 0

@@ -14,4 +14,4 @@ returns-in_default c =
 
 pub read_counts-requires : goal.read_counts-requires
 read_counts-requires c =
-    begun _ _ _ c.line_starts-n.ensures c.if-n-lt3.false _ _ (ap head_of (sym c.line_at.ensures) ∙ sym c.read_head-head.ensures ∙ c.in-Line.is)
+    begun _ _ _ c.line_starts-n.ensures c.if-n-lt3.false _ _ (ap head_of (sym c.line_at.ensures) ∙ sym c.read_head-head.ensures ∙ c.in-Some.is)

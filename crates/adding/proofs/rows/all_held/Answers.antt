@@ -10,25 +10,26 @@ use Rattle.adding.proofs.rows.all_held.Goals as goal
 pub loop-i-init : goal.loop-i-init
 loop-i-init c = (omega arith, omega arith, held_start _ _)
 
-pub returns-in_default : goal.returns-in_default
-returns-in_default c =
-    sym
+pub returns-in_err-total : goal.returns-in_err-total
+returns-in_err-total c =
+    c.from_residual.ensures
+    ∙ sym
     (c.loop-i.invariant.2
     ∙ ap (held_with c.args.span c.loop-i.total) (rows_next _ _ _ c.loop-i-test.true)
-    ∙ held_bad _ _ _ _ (ap (core_held c.args.span) (sym c.line_at.ensures) ∙ sym c.held_in-held.ensures ∙ c.in_default.is))
+    ∙ held_bad _ _ _ _ (ap (core_held c.args.span) (sym c.line_at.ensures) ∙ sym c.held_in.ensures ∙ c.in_err-total.was))
 
 pub overflow_add-total : goal.overflow_add-total
 overflow_add-total c =
-    let s : c.in-Value.h ≤ c.args.span = held_small _ _ _ (sym c.held_in-held.ensures ∙ c.in-Value.is) in search rules
+    let s : c.in_ok-total.field-0 ≤ c.args.span = held_small _ _ _ (sym c.held_in.ensures ∙ c.in_ok-total.was) in search rules
 
 pub loop-i-preserved : goal.loop-i-preserved
 loop-i-preserved c =
-    let s : c.in-Value.h ≤ c.args.span = held_small _ _ _ (sym c.held_in-held.ensures ∙ c.in-Value.is) in (
+    let s : c.in_ok-total.field-0 ≤ c.args.span = held_small _ _ _ (sym c.held_in.ensures ∙ c.in_ok-total.was) in (
       omega arith,
       omega arith,
       c.loop-i.invariant.2
           ∙ ap (held_with c.args.span c.loop-i.total) (rows_next _ _ _ c.loop-i-test.true)
-          ∙ held_turn _ _ _ _ _ (ap (core_held c.args.span) (sym c.line_at.ensures) ∙ sym c.held_in-held.ensures ∙ c.in-Value.is),
+          ∙ held_turn _ _ _ _ _ (ap (core_held c.args.span) (sym c.line_at.ensures) ∙ sym c.held_in.ensures ∙ c.in_ok-total.was),
     )
 
 pub returns : goal.returns

@@ -14,14 +14,14 @@ returns-in_default c =
     ∙ charge_bad _ _ _ (ap (process_charge c.loop-i.left) (sym c.line_at.ensures) ∙ sym c.charge_in-charge.ensures ∙ c.in_default.is))
 
 pub overflow_sub-left : goal.overflow_sub-left
-overflow_sub-left c = charge_small _ _ _ (sym c.charge_in-charge.ensures ∙ c.in-Value.is)
+overflow_sub-left c = charge_small _ _ _ (sym c.charge_in-charge.ensures ∙ c.in-Some.is)
 
 pub loop-i-preserved : goal.loop-i-preserved
 loop-i-preserved c = (
   omega arith,
   c.loop-i.invariant.1
       ∙ ap (charges_make c.loop-i.left) (rows_next _ _ _ c.loop-i-test.true)
-      ∙ charge_turn _ _ _ _ (ap (process_charge c.loop-i.left) (sym c.line_at.ensures) ∙ sym c.charge_in-charge.ensures ∙ c.in-Value.is),
+      ∙ charge_turn _ _ _ _ (ap (process_charge c.loop-i.left) (sym c.line_at.ensures) ∙ sym c.charge_in-charge.ensures ∙ c.in-Some.is),
 )
 
 pub returns : goal.returns

@@ -6,4 +6,4 @@ pub returns-in_default : goal.returns-in_default
 returns-in_default c = sums_wrong _ _ _ _ c.all_held-held.ensures c.in_default.is
 
 pub returns : goal.returns
-returns c = sums_made _ _ _ _ c.all_held-held.ensures _ c.in-Value.is c.charges_make.ensures
+returns c = sums_made _ _ _ _ c.all_held-held.ensures _ c.in-Some.is c.charges_make.ensures

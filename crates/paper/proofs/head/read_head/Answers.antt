@@ -53,8 +53,8 @@ slice_bounds-read_number-count c = span_room c.args.line.now c.find-blank.result
 pub slice_bounds-read_number-start : goal.slice_bounds-read_number-start
 slice_bounds-read_number-start c = let h = span_room c.args.line.now c.find-blank.result (sym c.starts-2.ensures ∙ c.if-not-starts-2.false) in search rules
 
-pub returns-in_default : goal.returns-in_default
-returns-in_default c = no_number _ (sym c.starts.ensures ∙ c.if-not-starts.false) _ c.find-blank.ensures _ c.scale_code-scale.ensures c.if-scale-eq0.false (sym c.starts-2.ensures ∙ c.if-not-starts-2.false) _ c.read_number-span.ensures c.in_default.is
+pub returns-in_err-span : goal.returns-in_err-span
+returns-in_err-span c = c.from_residual.ensures ∙ no_number _ (sym c.starts.ensures ∙ c.if-not-starts.false) _ c.find-blank.ensures _ c.scale_code-scale.ensures c.if-scale-eq0.false (sym c.starts-2.ensures ∙ c.if-not-starts-2.false) _ c.read_number.ensures c.in_err-span.was
 
 pub returns : goal.returns
-returns c = head_there _ (sym c.starts.ensures ∙ c.if-not-starts.false) _ c.find-blank.ensures _ c.scale_code-scale.ensures c.if-scale-eq0.false (sym c.starts-2.ensures ∙ c.if-not-starts-2.false) _ c.read_number-span.ensures _ c.in-Value.is
+returns c = head_there _ (sym c.starts.ensures ∙ c.if-not-starts.false) _ c.find-blank.ensures _ c.scale_code-scale.ensures c.if-scale-eq0.false (sym c.starts-2.ensures ∙ c.if-not-starts-2.false) _ c.read_number.ensures _ c.in_ok-span.was
