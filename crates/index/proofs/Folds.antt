@@ -38,7 +38,7 @@ fold_short s l =
     rw (none, front)
 
 -- the four bytes from an index on as one number, as the library has it
-lent_word : (s : List ℕ) (at : ℕ) → from_le_bytes w32 (drop at s) ≡ word s at
+pub lent_word : (s : List ℕ) (at : ℕ) → from_le_bytes w32 (drop at s) ≡ word s at
 unfolding word
 lent_word s at = omega (arith, ap (λ k. get_or s k 0) (add-zero at), get_or-drop at s 0 0, get_or-drop at s 1 0, get_or-drop at s 2 0, get_or-drop at s 3 0)
 
@@ -68,9 +68,9 @@ fold_turn s fs h i f n l e =
     rw (f, four_at (length (take m s) / 4) i (take m s) (omega arith)) (four_word (drop (4 * i) (take m s)) ∙ lent_word (take m s) (4 * i) ∙ front_word s m (4 * i) (omega arith)) in
     rw (add-one, e, w)
 
-pub fold_end : (s : List ℕ) (h n : ℕ) → n ≡ (length s - 1) / 4 → h ≡ fours s n → 4 ≤ length s → step h (from_le_bytes w32 (drop (length s - 4) s)) ≡ folded s
+pub fold_end : (s : List ℕ) (h n : ℕ) → n ≡ (length s - 1) / 4 → h ≡ fours s n → step h (word s (length s - 4)) ≡ folded s
 unfolding folded
-fold_end s h n last e few = rw (lent_word s (length s - 4), e, last)
+fold_end s h n last e = rw (e, last)
 
 -- ---- a home is one of the places
 
