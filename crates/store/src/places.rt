@@ -14,13 +14,11 @@ fn free_place(index: &[u32], home: usize) -> usize
     requires { (length index.now ≡ place_rows) × (home < place_rows) }
     ensures { result ≡ free index.now home }
 {
-    let mut d = 0;
-    while d < PLACE_ROWS {
+    for d in 0..PLACE_ROWS {
         let p = (home + d) % PLACE_ROWS;
         if index[p] == 0 {
             return p;
         }
-        d += 1;
     }
     PLACE_ROWS
 }
