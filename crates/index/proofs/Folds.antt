@@ -1,7 +1,10 @@
 -- The fold of a name's bytes: none past their end, a step whose sum wraps, the turns of the loop, and that a home is one of the places.
-use Rattle.std.proofs.Common.{◌≡◌, ℕ, suc, ◌+◌, ◌-◌, ◌*◌, ◌/◌, ◌%◌, ◌^◌, ◌<◌, ◌≤◌, List, length, get_or, sym, ap, ◌∙◌, mod-lt, mul_comm, mul-add, mul_left_comm, arith}
-use native.Mathlib.Nat.{add-mul-mod_self_left, div-add-mod}
+use Rattle.std.proofs.Common.{◌≡◌, ℕ, zero, suc, ◌+◌, ◌-◌, ◌*◌, ◌/◌, ◌%◌, ◌^◌, ◌<◌, ◌≤◌, List, [], length, get_or, take, drop, refl, sym, ap, ◌∙◌, mod-lt, mul_comm, mul-add, mul_left_comm, get_or-take, get_or-drop, length-take, add-zero, add-one, arith}
+use native.Mathlib.Nat.{add-mul-mod_self_left, div-add-mod, not-suc-le-zero}
 use lib.ListN.{get_or-eq_default}
+use lib.Seq.{drop-drop}
+use Rattle.std.specs.Int.{w32, from_le_bytes}
+use Rattle.std.specs.Simd.{first_chunks}
 use Rattle.tables.specs.Entry.{place_rows, name_at}
 use Rattle.index.specs.Hash.{word, factor, step, fours, folded, home_of}
 use Rattle.index.specs.Index.{home_at}
@@ -34,18 +37,40 @@ fold_short s l =
     let front : length s - 4 ≡ 0 = omega arith in
     rw (none, front)
 
-pub fold_turn : (s : List ℕ) (h i : ℕ) → i % 4 ≡ 0 → h ≡ fours s (i / 4) → step h (word s i) ≡ fours s ((i + 4) / 4)
-unfolding fours
-fold_turn s h i whole e =
-    let next : (i + 4) / 4 ≡ suc (i / 4) = omega arith in
-    let here : 4 * (i / 4) ≡ i = omega arith in
-    rw (next, here, e)
+-- the four bytes from an index on as one number, as the library has it
+pub lent_word : (s : List ℕ) (at : ℕ) → from_le_bytes w32 (drop at s) ≡ word s at
+unfolding word
+lent_word s at = omega (arith, ap (λ k. get_or s k 0) (add-zero at), get_or-drop at s 0 0, get_or-drop at s 1 0, get_or-drop at s 2 0, get_or-drop at s 3 0)
 
-pub fold_end : (s : List ℕ) (h i : ℕ) → i % 4 ≡ 0 → i < length s → length s ≤ i + 4 → h ≡ fours s (i / 4) → step h (word s (length s - 4)) ≡ folded s
+four_word : (b : List ℕ) → from_le_bytes w32 (take 4 b) ≡ from_le_bytes w32 b
+four_word b = rw (get_or-take 4 b 0 0 (omega arith), get_or-take 4 b 1 0 (omega arith), get_or-take 4 b 2 0 (omega arith), get_or-take 4 b 3 0 (omega arith))
+
+-- one of the fours of a list
+four_at : (n i : ℕ) (s : List ℕ) → i < n → get_or (first_chunks 4 n s) i [] ≡ take 4 (drop (4 * i) s)
+four_at zero i s h = absurd (not-suc-le-zero h)
+four_at (suc n) zero s h = refl
+four_at (suc n) (suc i) s h =
+    let next : 4 + 4 * i ≡ 4 * suc i = omega arith in
+    four_at n i (drop 4 s) (omega arith) ∙ ap (take 4) (drop-drop (4 * i) 4 s ∙ ap (λ k. drop k s) next)
+
+-- what comes before the last byte has its fours
+front_word : (s : List ℕ) (m at : ℕ) → at + 4 ≤ m → word (take m s) at ≡ word s at
+unfolding word
+front_word s m at h = rw (get_or-take m s at 0 (omega arith), get_or-take m s (at + 1) 0 (omega arith), get_or-take m s (at + 2) 0 (omega arith), get_or-take m s (at + 3) 0 (omega arith))
+
+pub fold_turn : (s : List ℕ) (fs : List (List ℕ)) (h i : ℕ) → fs ≡ first_chunks 4 (length (take (length s - 1) s) / 4) (take (length s - 1) s) → length fs ≡ length (take (length s - 1) s) / 4 → i < length fs
+    → h ≡ fours s i → step h (from_le_bytes w32 (get_or fs i [])) ≡ fours s (i + 1)
+unfolding fours
+fold_turn s fs h i f n l e =
+    let m = length s - 1 in
+    let z : length (take m s) ≤ m = omega (arith, length-take m s) in
+    let w : from_le_bytes w32 (get_or fs i []) ≡ word s (4 * i) =
+    rw (f, four_at (length (take m s) / 4) i (take m s) (omega arith)) (four_word (drop (4 * i) (take m s)) ∙ lent_word (take m s) (4 * i) ∙ front_word s m (4 * i) (omega arith)) in
+    rw (add-one, e, w)
+
+pub fold_end : (s : List ℕ) (h n : ℕ) → n ≡ (length s - 1) / 4 → h ≡ fours s n → step h (word s (length s - 4)) ≡ folded s
 unfolding folded
-fold_end s h i whole some few e =
-    let last : (length s - 1) / 4 ≡ i / 4 = omega arith in
-    rw (last, e)
+fold_end s h n last e = rw (e, last)
 
 -- ---- a home is one of the places
 

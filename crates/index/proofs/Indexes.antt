@@ -1,6 +1,6 @@
 -- The index of lent tables: on which entries it hangs, and a row put into it.
-use Rattle.std.proofs.Common.{◌≡◌, ℕ, zero, suc, ◌+◌, ◌<◌, ◌≤◌, List, length, get_or, drop, set, sym, refl, ap, ◌∙◌, subst, arith, length-drop, length-take, get_or-drop, get_or-take, ext_get_or}
-use lib.Seq.{take-set-lt, drop-set-add}
+use Rattle.std.proofs.Common.{◌≡◌, ℕ, zero, suc, ◌+◌, ◌-◌, ◌<◌, ◌≤◌, List, length, get_or, drop, set, sym, refl, ap, ◌∙◌, subst, arith, length-drop, length-take, get_or-drop, get_or-take, ext_get_or}
+use lib.Seq.{take_all, take-set-lt, drop-set-add}
 use Rattle.tables.specs.Entry.{name_rows, place_rows, place_column, nums_size, store_at, name_count, name_at, places}
 use Rattle.index.specs.Hash.{home_of}
 use Rattle.index.specs.Index.{index_of, home_at, index_from}
@@ -9,6 +9,12 @@ use Rattle.index.proofs.Right.{Right, right_index}
 
 pub places_size : (nums : List ℕ) → length nums ≡ nums_size → length (places nums) ≡ place_rows
 places_size nums z = simp (length-take, length-drop) (omega arith)
+
+-- the places are the last entries
+pub last_places : (nums l : List ℕ) → length nums ≡ nums_size → l ≡ drop (length nums - place_rows) nums → l ≡ places nums
+last_places nums l z e =
+    let n : length nums - place_rows ≡ place_column.base = omega arith in
+    rw (e, n, take_all place_rows (drop place_column.base nums) (omega (arith, length-drop place_column.base nums)))
 
 pub place_entry : (nums : List ℕ) (p : ℕ) → p < place_rows → get_or (places nums) p 0 ≡ get_or nums (place_column.base + p) 0
 place_entry nums p h = get_or-take place_rows (drop place_column.base nums) p 0 h ∙ get_or-drop place_column.base nums p 0

@@ -1,45 +1,31 @@
--- How many places of an index are taken: the steps of the count, and what it tells. Where as many places are taken as there are rows and each row is somewhere, nothing else is in
+-- How many places of an index are taken, and what that tells. Where as many places are taken as there are rows and each row is somewhere, nothing else is in
 -- the index.
-use Rattle.std.proofs.Common.{◌≡◌, ℕ, zero, suc, ◌+◌, ◌<◌, ◌≤◌, not, eqb, List, [], ◌∷◌, length, get_or, drop, set, replicate, refl, ap, ◌∙◌, ⊎_elim, add-one, arith, drop_of_length-le, drop-cons, get_or-set_other, ne_eqb}
+use Rattle.std.proofs.Common.{◌≡◌, ℕ, zero, suc, ◌+◌, ◌<◌, ◌≤◌, Bool, true, false, not, cond, eqb, List, [], ◌∷◌, length, get_or, set, replicate, refl, ap, ◌∙◌, ⊎_elim, arith, get_or-set_other, ne_eqb}
 use lib.ListN.{get_or-eq_default}
 use lib.Seq.{set_out}
+use Rattle.std.proofs.lemmas.List.Sums.{sum_by-cons}
 use Rattle.text.proofs.Bools.{lt_or_ge, same_or_not}
-use Rattle.rules.specs.Lists.{one_if}
-use Rattle.rules.proofs.Room.{at_most_one}
 use Rattle.tables.specs.Entry.{place_rows}
 use Rattle.index.specs.Index.{free, index_of}
 use Rattle.index.specs.Taken.{taken_places}
 
 -- 1 for a taken place, 0 for a free one
 abbrev one_taken : ℕ → ℕ
-one_taken v = one_if (not (eqb v 0))
+one_taken v = cond (not (eqb v 0)) 1 0
 
 one_taken_lem : (v : ℕ) → 1 ≤ v → one_taken v ≡ 1
 one_taken_lem v h = rw (ne_eqb v 0 (λ q. omega arith))
 
--- ---- the steps of the count, as code takes them
-
-taken_turn : (l : List ℕ) (p : ℕ) → p < length l → taken_places (drop p l) ≡ one_taken (get_or l p 0) + taken_places (drop (p + 1) l)
+taken_first : (v : ℕ) (l : List ℕ) → taken_places (v ∷ l) ≡ one_taken v + taken_places l
 unfolding taken_places
-taken_turn l p h = rw (drop-cons l p 0, add-one)
-
-pub turn_taken : (l : List ℕ) (p : ℕ) → p < length l → (get_or l p 0 ≡ 0 → ⊥) → taken_places (drop p l) ≡ suc (taken_places (drop (p + 1) l))
-turn_taken l p h o = omega (arith, taken_turn l p h, one_taken_lem (get_or l p 0) (omega arith))
-
-pub turn_free : (l : List ℕ) (p : ℕ) → p < length l → get_or l p 0 ≡ 0 → taken_places (drop p l) ≡ taken_places (drop (p + 1) l)
-turn_free l p h e = omega (arith, taken_turn l p h, ap one_taken e)
-
-pub taken_end : (l : List ℕ) (p : ℕ) → length l ≤ p → taken_places (drop p l) ≡ 0
-unfolding taken_places
-taken_end l p h = rw (drop_of_length-le l {i = p} h)
+taken_first v l = sum_by-cons one_taken v l
 
 -- ---- a store
 
 taken_set : (l : List ℕ) (p v : ℕ) → p < length l → taken_places (set l p v) + one_taken (get_or l p 0) ≡ taken_places l + one_taken v
-unfolding taken_places
 taken_set [] p v h = absurd (omega arith)
-taken_set (w ∷ l) zero v h = omega arith
-taken_set (w ∷ l) (suc p) v h = omega (arith, taken_set l p v (omega arith))
+taken_set (w ∷ l) zero v h = omega (arith, taken_first w l, taken_first v l)
+taken_set (w ∷ l) (suc p) v h = omega (arith, taken_first w l, taken_first w (set l p v), taken_set l p v (omega arith))
 
 pub taken_put : (l : List ℕ) (p v : ℕ) → p < length l → get_or l p 0 ≡ 0 → 1 ≤ v → taken_places (set l p v) ≡ suc (taken_places l)
 taken_put l p v h f s = omega (arith, taken_set l p v h, ap one_taken f, one_taken_lem v s)
@@ -75,8 +61,12 @@ unfolding taken_places
 none_taken zero = refl
 none_taken (suc n) = omega (arith, none_taken n)
 
+one_at_most : (b : Bool) → cond b 1 0 ≤ 1
+one_at_most true = omega arith
+one_at_most false = omega arith
+
 one_more : (l : List ℕ) (p v : ℕ) → taken_places (set l p v) ≤ taken_places l + 1
-one_more l p v = ⊎_elim (λ h. omega (arith, taken_set l p v h, at_most_one (not (eqb v 0)))) (λ h. omega (arith, ap taken_places (set_out l p v h))) (lt_or_ge p (length l))
+one_more l p v = ⊎_elim (λ h. omega (arith, taken_set l p v h, one_at_most (not (eqb v 0)))) (λ h. omega (arith, ap taken_places (set_out l p v h))) (lt_or_ge p (length l))
 
 -- each takes one place at most
 pub taken_most : (home : ℕ → ℕ) (n : ℕ) → taken_places (index_of home n) ≤ n
@@ -88,7 +78,7 @@ taken_most home (suc n) = omega (arith, taken_most home n, one_more (index_of ho
 pub all_taken : (l : List ℕ) → ((p : ℕ) → p < length l → get_or l p 0 ≡ 0 → ⊥) → taken_places l ≡ length l
 unfolding taken_places
 all_taken [] h = refl
-all_taken (v ∷ l) h = omega (arith, one_taken_lem v (some_there v (h 0 (omega arith))), all_taken l (λ p k. h (suc p) (omega arith)))
+all_taken (v ∷ l) h = omega (arith, taken_first v l, one_taken_lem v (some_there v (h 0 (omega arith))), all_taken l (λ p k. h (suc p) (omega arith)))
   where
     some_there : (v : ℕ) → (v ≡ 0 → ⊥) → 1 ≤ v
     some_there v o = omega arith

@@ -10,17 +10,15 @@ use index::hash::home_of;
 use tables::entry::*;
 
 // Whether row r is where it belongs: in the first place from its home on that holds no row before it.
-pub(crate) fn row_placed(index: &[u32], home: usize, r: usize) -> bool
-    requires { (length index.now ≡ place_rows) × ((home < place_rows) × (r < name_rows)) }
+pub(crate) fn row_placed(index: &[u32; PLACE_ROWS], home: usize, r: usize) -> bool
+    requires { (home < place_rows) × (r < name_rows) }
     ensures { result ≡ row_placed index.now home r }
 {
-    let mut d = 0;
-    while d < PLACE_ROWS {
+    for d in 0..PLACE_ROWS {
         let e = index[(home + d) % PLACE_ROWS] as usize;
         if (e == 0) | (r < e) {
             return e == r + 1;
         }
-        d += 1;
     }
     false
 }
@@ -37,17 +35,8 @@ pub(crate) fn home_at(names: &[u8], nums: &[u32], i: usize) -> usize
 }
 
 // How many places are taken.
-pub(crate) fn taken_places(index: &[u32]) -> usize
-    requires { length index.now ≡ place_rows }
+pub(crate) fn taken_places(index: &[u32; PLACE_ROWS]) -> usize
     ensures { result ≡ taken_places index.now }
 {
-    let mut taken = 0;
-    let mut p = 0;
-    while p < PLACE_ROWS {
-        if index[p] != 0 {
-            taken += 1;
-        }
-        p += 1;
-    }
-    taken
+    index.iter().filter(|e| **e != 0).count()
 }

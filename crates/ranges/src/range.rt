@@ -134,12 +134,11 @@ fn instance_ok(nums: &[u32], j: usize) -> bool
 }
 
 // Whether the row of each of n names is in its range and is where it belongs in the index: in one loop, which is quicker than two.
-fn names_ok(names: &[u8], nums: &[u32], ticks: &[u64], index: &[u32], n: usize) -> bool
-    requires { (n ≤ name_rows) × (Sized names.now nums.now ticks.now × (Counted nums.now × (length index.now ≡ place_rows))) }
+fn names_ok(names: &[u8], nums: &[u32], ticks: &[u64], index: &[u32; PLACE_ROWS], n: usize) -> bool
+    requires { (n ≤ name_rows) × (Sized names.now nums.now ticks.now × Counted nums.now) }
     ensures { result ≡ up_to (name_tests names.now nums.now ticks.now index.now) n }
 {
-    let mut i = 0;
-    while i < n {
+    for i in 0..n {
         if !name_ok(names, nums, ticks, i) {
             return false;
         }
@@ -147,7 +146,6 @@ fn names_ok(names: &[u8], nums: &[u32], ticks: &[u64], index: &[u32], n: usize) 
         if !row_placed(index, home, i) {
             return false;
         }
-        i += 1;
     }
     true
 }
@@ -156,12 +154,10 @@ fn instances_ok(nums: &[u32], n: usize) -> bool
     requires { (n ≤ instance_rows) × Counted nums.now }
     ensures { result ≡ up_to (instance_ok nums.now) n }
 {
-    let mut j = 0;
-    while j < n {
+    for j in 0..n {
         if !instance_ok(nums, j) {
             return false;
         }
-        j += 1;
     }
     true
 }
@@ -177,7 +173,9 @@ fn in_range(names: &[u8], nums: &[u32], ticks: &[u64]) -> bool
     }
     let n = nums[NAMES] as usize;
     let m = nums[INSTANCES] as usize;
-    let index = &nums[PLACE..PLACES_END];
+    let Some(index) = nums.last_chunk::<PLACE_ROWS>() else {
+        unreachable!()
+    };
     let rows = names_ok(names, nums, ticks, index, n) & instances_ok(nums, m);
     line_level_ok(nums) & (times_ok(ticks) & (rows & (taken_places(index) == n)))
 }

@@ -1,5 +1,5 @@
 -- The place of a new name: the search for a free one, step by step as code takes it, and the store to it.
-use Rattle.std.proofs.Common.{◌≡◌, ℕ, ◌+◌, ◌-◌, ◌<◌, ◌≤◌, eqb, List, sym, refl, ap, le-ltb, lt-ltb, eq-eqb, ne_eqb}
+use Rattle.std.proofs.Common.{◌≡◌, ℕ, ◌+◌, ◌-◌, ◌<◌, ◌≤◌, eqb, List, sym, refl, ap, lt-ltb, eq-eqb, ne_eqb}
 use Rattle.marks.specs.First.{first_of}
 use Rattle.marks.proofs.Firsts.{first_hit, first_miss, first_end}
 use Rattle.tables.specs.Entry.{name_rows, place_rows, place_column, store_at, places}
@@ -29,11 +29,11 @@ module _ (l : List ℕ) (home : ℕ) where
 
 -- ---- the row i goes into the place found, where there is one
 
-module _ {p : ℕ} (nums : List ℕ) (i home : ℕ) (row : i < name_rows) (found : p ≡ free (places nums) home) where
-  pub placed : p < place_rows → store_at place_column nums p (i + 1) ≡ store_place nums i home
+module _ (nums : List ℕ) (i home : ℕ) (row : i < name_rows) where
+  pub placed : {p : ℕ} → p ≡ free (places nums) home → p < place_rows → store_at place_column nums p (i + 1) ≡ store_place nums i home
   unfolding store_place
-  placed h = rw (lt-ltb i name_rows row, sym found, lt-ltb p place_rows h)
+  placed {p} found h = rw (lt-ltb i name_rows row, sym found, lt-ltb p place_rows h)
 
-  pub unplaced : place_rows ≤ p → nums ≡ store_place nums i home
+  pub unplaced : free (places nums) home ≡ place_rows → nums ≡ store_place nums i home
   unfolding store_place
-  unplaced h = rw (lt-ltb i name_rows row, sym found, le-ltb p place_rows h)
+  unplaced none = rw (lt-ltb i name_rows row, none)

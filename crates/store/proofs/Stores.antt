@@ -6,7 +6,7 @@ use Rattle.rules.specs.Words.{core, semaphore}
 use Rattle.rules.specs.Core.{no_core, takes_core, gives_core}
 use Rattle.rules.specs.Event.{Event}
 use Rattle.rules.specs.History.{has_instances, activates}
-use Rattle.tables.specs.Entry.{idle_core, Tables, tables, store_at, first_number_column, numbered_at, name_rows, instance_rows, place_rows, name_room, lines_index, started_index, names_index, cores_index}
+use Rattle.tables.specs.Entry.{idle_core, Tables, store_at, first_number_column, numbered_at, name_rows, instance_rows, place_rows, name_room, lines_index, started_index, names_index, cores_index}
 use Rattle.tables.specs.Entry.{line_count, started_entry, name_count, core_count, instance_count, first_time, places}
 use Rattle.tables.specs.Sized.{Sized}
 use Rattle.tables.proofs.Stores.{other}
@@ -87,12 +87,6 @@ pub ticks_taken : {i p : ℕ} {a b d : List ℕ} (ticks nums : List ℕ) (s : Lo
     → a ≡ with_sums ticks nums s kind time → b ≡ settled a s.class i p time → d ≡ with_times b (started_entry nums) time → d ≡ taken_ticks ticks nums s kind time
 unfolding taken_ticks
 ticks_taken ticks nums s kind time pi pp pa pb pd = pd ∙ rw (pb, pa, pi, pp)
-
--- the three tables, each from its own stores
-pub tables_taken : {k : ℕ} {a b d : List ℕ} (t : Tables) (s : LookedUp) (state : ℕ) (e : Event) → k ≡ e.kind
-    → a ≡ taken_names t.names t.nums s k e.source e.target
-    → b ≡ taken_nums t.nums s state e → d ≡ taken_ticks t.ticks t.nums s k e.time → tables a b d ≡ taken_tables t s state e
-tables_taken t s state e pk pa pb pd = rw (pa, pb, pd, pk)
 
 -- ---- lengths
 

@@ -1,5 +1,5 @@
 // The places of new names in the index.
-ghost use Rattle.std.specs.Prelude.{◌≡◌, ◌<◌, length};
+ghost use Rattle.std.specs.Prelude.{◌≡◌, ◌<◌, length, MatchOption};
 ghost use Rattle.tables.specs.Entry.{nums_size, place_rows};
 ghost use Rattle.index.specs.Index.{free};
 ghost use Rattle.store.specs.Store.{store_place, with_places};
@@ -9,20 +9,18 @@ use index::hash::home_of;
 use lookup::look::LookedUp;
 use tables::entry::*;
 
-// The first free place from home on; where none is free, the one past the last.
-fn free_place(index: &[u32], home: usize) -> usize
+// The first free place from home on.
+fn free_place(index: &[u32], home: usize) -> Option<usize>
     requires { (length index.now ≡ place_rows) × (home < place_rows) }
-    ensures { result ≡ free index.now home }
+    ensures { MatchOption result (free index.now home ≡ place_rows) (λ p. (p ≡ free index.now home) × (p < place_rows)) }
 {
-    let mut d = 0;
-    while d < PLACE_ROWS {
+    for d in 0..PLACE_ROWS {
         let p = (home + d) % PLACE_ROWS;
         if index[p] == 0 {
-            return p;
+            return Some(p);
         }
-        d += 1;
     }
-    PLACE_ROWS
+    None
 }
 
 // The row of a new name goes into the index.
@@ -33,8 +31,7 @@ fn store_place(nums: &mut [u32], i: usize, home: usize)
     if NAME_ROWS <= i {
         return;
     }
-    let p = free_place(&nums[PLACE..PLACES_END], home);
-    if p < PLACE_ROWS {
+    if let Some(p) = free_place(&nums[PLACE..PLACES_END], home) {
         nums[PLACE + p] = i as u32 + 1;
     }
 }

@@ -1,22 +1,15 @@
--- A fresh start: the loop that zeroes a table, tables of zeros, and what `fresh` answers.
+-- A fresh start: tables of zeros, and what `fresh` answers.
 use mathlib.Core.Path.{◌≡◌, refl, ap}
 use mathlib.Core.Bool.{Bool, true, false, cond}
-use mathlib.Core.List.{List, ◌++◌}
+use mathlib.Core.List.{List}
 use mathlib.Core.Logic.{◌⊎◌, inl, inr, ⊎_elim}
-use Prim.Native.Nat.{ℕ, zero, suc, ◌≤◌}
+use Prim.Native.Nat.{ℕ, zero, suc}
 use native.Mathlib.Omega.{arith}
-use lib.ListN.{length, get_or, drop, replicate, length-replicate}
+use lib.ListN.{length, get_or, replicate, length-replicate}
 use Rattle.tables.specs.Entry.{names_size, nums_size, ticks_size}
 use Rattle.tables.specs.Sized.{is_sized}
 use Rattle.tables.specs.Fresh.{Cleared, cleared, cleared_of}
 use Rattle.tables.proofs.Sizes.{sizes_mean}
-
--- ---- the loop: the first i entries of d are 0, the rest are as they were
-
-pub record Zeroed (d s : List ℕ) (i : ℕ) : Type 0 where
-  pub inside : i ≤ length d
-  pub front : s ≡ replicate i 0 ++ drop i d
-  pub as_long : length s ≡ length d
 
 -- ---- tables of zeros
 

@@ -1,23 +1,25 @@
-use Rattle.std.proofs.Common.{refl, ◌∙◌, arith}
-use Rattle.index.specs.Hash.{fours}
-use Rattle.index.proofs.Folds.{fold_short, fold_turn, fold_end}
+use Rattle.std.proofs.Common.{◌≡◌, ◌-◌, length, length-take, refl, ◌∙◌, arith}
+use Rattle.std.specs.Int.{w32, from_le_bytes}
+use Rattle.index.specs.Hash.{word, fours}
+use Rattle.index.proofs.Folds.{lent_word, fold_short, fold_turn, fold_end}
 use Rattle.index.proofs.hash.fold.Goals as goal
 
-pub returns-then-n-lt4 : goal.returns-then-n-lt4
-returns-then-n-lt4 c = c.step.ensures ∙ rw c.short_word.ensures (fold_short _ c.if-n-lt4.true)
+pub returns-in_default : goal.returns-in_default
+returns-in_default c = c.step.ensures ∙ rw c.short_word.ensures (fold_short _ c.in_default.ensures.cases)
 
-pub loop-i-init : goal.loop-i-init
+pub loop-four-init : goal.loop-four-init
 unfolding fours
-loop-i-init c = (refl, omega arith, refl)
+loop-four-init c = refl
 
-pub loop-i-preserved : goal.loop-i-preserved
-loop-i-preserved c = (
-  omega arith,
-  omega arith,
-  c.step-h.ensures ∙ rw c.word.ensures (fold_turn c.args.name.now c.loop-i.h c.loop-i.i c.loop-i.invariant.0 c.loop-i.invariant.2),
-)
+pub loop-four-preserved : goal.loop-four-preserved
+loop-four-preserved c =
+    c.step-h.ensures ∙ rw c.from_le_bytes.ensures
+    (fold_turn c.args.name.now c.as_chunks.result.0.now c.loop-four.h c.loop-four.four-index c.as_chunks.ensures.front c.as_chunks.ensures.front_len c.loop-four-test.true c.loop-four.invariant)
 
 pub returns : goal.returns
 returns c =
-    let inv = c.loop-i.invariant in
-    c.step-2.ensures ∙ rw c.word-2.ensures (fold_end c.args.name.now c.loop-i.h c.loop-i.i inv.0 inv.1 (omega arith) inv.2)
+    let n = c.args.name.now in
+    let read : from_le_bytes w32 c.in-Some.last.now ≡ word n (length n - 4) = rw (c.in-Some.ensures.cases).1.same (lent_word n (length n - 4)) in
+    let last : c.from_le_bytes-2.result ≡ word n (length n - 4) = omega (arith, c.from_le_bytes-2.ensures, read) in
+    c.step-2.ensures ∙ rw last
+    (fold_end n c.loop-four.h c.loop-four.four-index (omega (arith, c.as_chunks.ensures.front_len, c.loop-four.auto.four-index-end, length-take (length n - 1) n)) c.loop-four.invariant)

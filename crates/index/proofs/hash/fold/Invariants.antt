@@ -1,10 +1,7 @@
--- `index::hash::fold` meets its contract. The invariant: the fours before `i` are folded, and a byte is left.
-use Rattle.std.proofs.Common.{◌≡◌, ◌-◌, ◌/◌, ◌%◌, ◌<◌, length}
+-- `index::hash::fold` meets its contract. The invariant: the fours before the loop's index are folded.
+use Rattle.std.proofs.Common.{◌≡◌}
 use Rattle.index.specs.Hash.{fours}
 use Rattle.index.proofs.hash.fold.Given as goal
 
-abbrev pub invariant-loop-i : goal.invariant-loop-i
-invariant-loop-i l = (l.i % 4 ≡ 0) × (l.i < length l.name) × (l.h ≡ fours l.name (l.i / 4))
-
-abbrev pub decreases-loop-i : goal.decreases-loop-i
-decreases-loop-i l = length l.name - l.i
+abbrev pub invariant-loop-four : goal.invariant-loop-four
+invariant-loop-four l = l.h ≡ fours l.name l.four-index

@@ -4,7 +4,7 @@ use native.Mathlib.Omega.{arith}
 use lib.Dec.{eqb}
 use Rattle.marks.proofs.Firsts.{first_hit, first_miss, first_end}
 use Rattle.tables.specs.Entry.{place_rows}
-use Rattle.index.specs.Index.{place, entry}
+use Rattle.index.specs.Index.{entry}
 use Rattle.index.proofs.Right.{place_lt}
 use Rattle.ranges.specs.IndexCode.{vacant, holds_row, row_placed}
 use Rattle.ranges.proofs.placed.row_placed.Goals as goal
@@ -15,9 +15,6 @@ loop-d-init c = refl
 
 pub bounds-index-home : goal.bounds-index-home
 bounds-index-home c = omega (arith, place_lt c.args.home c.loop-d.d)
-
-pub overflow_cast-e : goal.overflow_cast-e
-overflow_cast-e c = omega (arith, c.type_inv.index (place c.args.home c.loop-d.d))
 
 pub returns-then-e-r : goal.returns-then-e-r
 unfolding vacant

@@ -9,6 +9,3 @@ use Rattle.ranges.proofs.placed.row_placed.Given as goal
 
 abbrev pub invariant-loop-d : goal.invariant-loop-d
 invariant-loop-d l = row_placed l.index l.home l.r ≡ holds_row l.index l.home l.r (first_of (λ d. vacant l.r (entry l.index l.home d)) l.d (place_rows - l.d))
-
-abbrev pub decreases-loop-d : goal.decreases-loop-d
-decreases-loop-d l = place_rows - l.d

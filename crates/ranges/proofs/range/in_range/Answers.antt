@@ -5,7 +5,8 @@ use mathlib.Core.List.{List}
 use Prim.Native.Nat.{ℕ}
 use lib.ListN.{length}
 use borrow.Author.Rules.{rules}
-use Rattle.tables.specs.Entry.{nums_size, instance_count}
+use Rattle.tables.specs.Entry.{nums_size, instance_count, places}
+use Rattle.index.proofs.Indexes.{last_places}
 use Rattle.ranges.specs.Range.{Counted, counts_ok, line_level_ok, times_ok, instance_ok, up_to, in_range}
 use Rattle.ranges.proofs.Valid.{counts_mean}
 use Rattle.ranges.proofs.Tested.{index_tested}
@@ -40,12 +41,14 @@ unfolding in_range
 returns c =
     let a = c.args in
     let counted = sym c.counts_ok.ensures ∙ c.if-not-counts_ok.false in
+    let index : c.in-Some.index.now ≡ places a.nums.now = last_places a.nums.now c.in-Some.index.now c.requires.nums_sized (c.in-Some.ensures.cases).1.same in
     rw (
       c.line_level_ok.ensures,
       c.times_ok.ensures,
       c.names_ok.ensures,
       c.instances_ok.ensures,
       c.taken_places.ensures,
+      index,
       counted,
     )
     (ap (λ b. line_level_ok a.nums.now && (times_ok a.ticks.now && b))

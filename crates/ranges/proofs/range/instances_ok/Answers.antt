@@ -1,19 +1,15 @@
 use Rattle.std.proofs.Common.{◌∙◌}
 use mathlib.Core.Path.{sym}
 use native.Mathlib.Omega.{arith}
-use borrow.Author.Count.{below_none, below_more}
-use borrow.Author.Rules.{rules}
+use borrow.Author.Count.{below_more}
 use Rattle.ranges.proofs.UpTo.{up_all, up_not}
 use Rattle.ranges.proofs.range.instances_ok.Goals as goal
-
-pub loop-j-init : goal.loop-j-init
-loop-j-init c = (search rules, below_none _)
 
 pub returns-then-not-instance_ok : goal.returns-then-not-instance_ok
 returns-then-not-instance_ok c = sym (up_not _ _ _ c.loop-j-test.true (sym c.instance_ok.ensures ∙ c.if-not-instance_ok.true))
 
 pub loop-j-preserved : goal.loop-j-preserved
-loop-j-preserved c = (search rules, below_more _ _ c.loop-j.invariant.1 (sym c.instance_ok.ensures ∙ c.if-not-instance_ok.false))
+loop-j-preserved c = below_more _ _ c.loop-j.invariant (sym c.instance_ok.ensures ∙ c.if-not-instance_ok.false)
 
 pub returns : goal.returns
-returns c = sym (up_all _ _ (λ k h. c.loop-j.invariant.1 k (omega arith)))
+returns c = sym (up_all _ _ (λ k h. c.loop-j.invariant k (omega arith)))

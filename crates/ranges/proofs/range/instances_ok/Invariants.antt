@@ -1,12 +1,9 @@
 -- `ranges::range::instances_ok` meets its contract. The invariant: every row before `j` passes.
 use mathlib.Core.Path.{◌≡◌}
 use mathlib.Core.Bool.{true}
-use Prim.Native.Nat.{ℕ, ◌-◌, ◌≤◌, ◌<◌}
+use Prim.Native.Nat.{ℕ, ◌<◌}
 use Rattle.ranges.specs.Range.{instance_ok}
 use Rattle.ranges.proofs.range.instances_ok.Given as goal
 
 abbrev pub invariant-loop-j : goal.invariant-loop-j
-invariant-loop-j l = (l.j ≤ l.n) × ((k : ℕ) → k < l.j → instance_ok l.nums k ≡ true)
-
-abbrev pub decreases-loop-j : goal.decreases-loop-j
-decreases-loop-j l = l.n - l.j
+invariant-loop-j l = (k : ℕ) → k < l.j → instance_ok l.nums k ≡ true

@@ -1,16 +1,12 @@
 use mathlib.Core.Path.{sym, ap, ◌∙◌}
 use native.Mathlib.Omega.{arith}
-use borrow.Author.Count.{below_none, below_more}
-use borrow.Author.Rules.{rules}
+use borrow.Author.Count.{below_more}
 use Rattle.tables.proofs.Chains.{pass, stop}
 use Rattle.index.proofs.Folds.{home_at_lt}
 use Rattle.ranges.specs.IndexCode.{row_placed}
 use Rattle.ranges.proofs.UpTo.{up_all, up_not}
 use Rattle.ranges.proofs.Valid.{name_mean}
 use Rattle.ranges.proofs.range.names_ok.Goals as goal
-
-pub loop-i-init : goal.loop-i-init
-loop-i-init c = (search rules, below_none _)
 
 pub returns-then-not-name_ok : goal.returns-then-not-name_ok
 returns-then-not-name_ok c = sym (up_not _ _ _ c.loop-i-test.true (sym (stop _ (sym c.name_ok.ensures ∙ c.if-not-name_ok.true))))
@@ -23,13 +19,13 @@ home_at-home-requires c =
 pub row_placed-requires : goal.row_placed-requires
 row_placed-requires c =
     let h = home_at_lt c.args.names.now c.args.nums.now c.loop-i.i in
-    (c.requires.1.1.1, (omega (arith, c.home_at-home.ensures), omega (arith, c.requires.0)))
+    (omega (arith, c.home_at-home.ensures), omega (arith, c.requires.0))
 
 pub returns-then-not-row_placed : goal.returns-then-not-row_placed
 returns-then-not-row_placed c = sym (up_not _ _ _ c.loop-i-test.true (sym (pass (sym c.name_ok.ensures ∙ c.if-not-name_ok.false) (c.row_placed.ensures ∙ ap (λ h. row_placed c.args.index.now h c.loop-i.i) c.home_at-home.ensures)) ∙ c.if-not-row_placed.true))
 
 pub loop-i-preserved : goal.loop-i-preserved
-loop-i-preserved c = (search rules, below_more _ _ c.loop-i.invariant.1 (sym (pass (sym c.name_ok.ensures ∙ c.if-not-name_ok.false) (c.row_placed.ensures ∙ ap (λ h. row_placed c.args.index.now h c.loop-i.i) c.home_at-home.ensures)) ∙ c.if-not-row_placed.false))
+loop-i-preserved c = below_more _ _ c.loop-i.invariant (sym (pass (sym c.name_ok.ensures ∙ c.if-not-name_ok.false) (c.row_placed.ensures ∙ ap (λ h. row_placed c.args.index.now h c.loop-i.i) c.home_at-home.ensures)) ∙ c.if-not-row_placed.false)
 
 pub returns : goal.returns
-returns c = sym (up_all _ _ (λ k h. c.loop-i.invariant.1 k (omega arith)))
+returns c = sym (up_all _ _ (λ k h. c.loop-i.invariant k (omega arith)))

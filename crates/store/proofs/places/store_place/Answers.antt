@@ -9,8 +9,8 @@ pub returns-then-i-ge-NAME_ROWS : goal.returns-then-i-ge-NAME_ROWS
 unfolding store_place
 returns-then-i-ge-NAME_ROWS c = rw (le-ltb _ name_rows c.if-i-ge-NAME_ROWS.true)
 
-pub returns-then-p-lt-PLACE_ROWS : goal.returns-then-p-lt-PLACE_ROWS
-returns-then-p-lt-PLACE_ROWS c = placed _ _ _ c.if-i-ge-NAME_ROWS.false c.free_place-p.ensures c.if-p-lt-PLACE_ROWS.true
+pub returns-in-Some : goal.returns-in-Some
+returns-in-Some c = placed _ _ _ c.if-i-ge-NAME_ROWS.false c.in-Some.ensures.0 c.in-Some.ensures.1
 
-pub returns-else-p-lt-PLACE_ROWS : goal.returns-else-p-lt-PLACE_ROWS
-returns-else-p-lt-PLACE_ROWS c = unplaced _ _ _ c.if-i-ge-NAME_ROWS.false c.free_place-p.ensures c.if-p-lt-PLACE_ROWS.false
+pub returns-in_default : goal.returns-in_default
+returns-in_default c = unplaced _ _ _ c.if-i-ge-NAME_ROWS.false c.in_default.ensures

@@ -11,6 +11,6 @@ returns-then-not-sized c = rw (← c.sized.ensures, c.if-not-sized.true)
 pub returns : goal.returns
 returns c =
     clear_all _ _ _ _ _ _ (sym c.sized.ensures ∙ c.if-not-sized.false)
-    c.zero_bytes.ensures
-    c.zero_nums.ensures
-    c.zero_ticks.ensures
+    (c.fill.ensures.after (λ y e. e))
+    (c.fill-2.ensures.after (λ y e. e))
+    (c.fill-3.ensures.after (λ y e. e))
