@@ -1,15 +1,8 @@
--- The laws of a window: eight weights added as bytes, and marks as sums of weights.
+-- The laws of a window: what its bytes add, and marks as sums of weights.
 use Rattle.std.proofs.Common.{◌≡◌, ℕ, suc, ◌+◌, ◌*◌, ◌%◌, ◌<◌, ◌≤◌, Bool, true, false, cond, not, List, [], ◌∷◌, get_or, drop, sym, refl, ap, ◌∙◌, mod-eq_of_lt, arith, get_or-drop}
-use native.Mathlib.Nat.{mod-add-mod}
 use Rattle.text.specs.Name.{is_name_byte}
 use Rattle.marks.specs.Marks.{bit, marks_from}
 use Rattle.scan.specs.Window.{is_mark, eight_from, joined_of}
-
--- ---- sums that wrap
-
-pub eight_adds : (a b c d e f g h two three four five six seven r : ℕ) → two ≡ (a + b) % 256 → three ≡ (two + c) % 256 → four ≡ (three + d) % 256
-    → five ≡ (four + e) % 256 → six ≡ (five + f) % 256 → seven ≡ (six + g) % 256 → r ≡ (seven + h) % 256 → r ≡ (a + b + c + d + e + f + g + h) % 256
-eight_adds a b c d e f g h two three four five six seven r e2 e3 e4 e5 e6 e7 e8 = rw (e8, e7, e6, e5, e4, e3, e2) (simp mod-add-mod)
 
 -- ---- what the loop over the window leaves
 
