@@ -95,15 +95,9 @@ unfolding judged_lines
 judged_lines_alike t [] = same t
 judged_lines_alike t (l ∷ ls) = chain (judged_line_alike t l) (judged_lines_alike (judged_line t l).left ls)
 
-pub alike_sized : {t u : Tables} → Alike t u → Sized t.names t.nums t.ticks → Sized u.names u.nums u.ticks
-alike_sized a s = record { names_sized = a.names_kept ∙ s.names_sized; nums_sized = a.nums_kept ∙ s.nums_sized; ticks_sized = a.ticks_kept ∙ s.ticks_sized }
-
 pub fresh_sized : {t : Tables} → t ≡ fresh_tables → Sized t.names t.nums t.ticks
 fresh_sized e = rw e fresh_valid.sizes
 
 -- what a call left is as its contract says
 pub left_alike : {t : Tables} {x y : After} → x ≡ y → Alike t y.left → Alike t x.left
 left_alike e a = rw e a
-
-pub lines_alike : {t u : Tables} (ls : List (List ℕ)) → u ≡ judged_lines t ls → Alike t u
-lines_alike {t} ls e = rw e (judged_lines_alike t ls)

@@ -7,7 +7,7 @@ use Rattle.walk.proofs.Nexts.{Stepped, Rested, line_step, rest_step}
 use Rattle.fields.specs.Part.{part_from}
 use Rattle.scan.specs.Ahead.{line_from}
 use Rattle.judge.specs.Feed.{Tables, After, AfterChunk, judged_line, fed_next, judged_lines, fed_lines}
-use Rattle.judge.proofs.Sizes.{Alike, same, chain, left_alike, judged_line_alike}
+use Rattle.judge.proofs.Sizes.{Alike, chain, left_alike, judged_line_alike}
 
 -- ---- the loop over the lines of a chunk: what is left to do from the index on gives what all lines give; where all of it is one line, nothing is done before
 
@@ -17,9 +17,6 @@ pub record Going (whole : Bool) (t u : Tables) (s : List ℕ) (at : ℕ) : Type 
   pub used : at + used_up (drop at s) ≡ used_up s
   pub lines : judged_lines u (whole_lines (drop at s)) ≡ judged_lines t (whole_lines s)
   pub first : whole ≡ true → (at ≡ 0) × (u ≡ t)
-
-pub going_start : (whole : Bool) (t : Tables) (s : List ℕ) → Going whole t t s 0
-going_start whole t s = record { inside = omega arith; alike = same t; used = omega arith; lines = refl; first = λ e. (refl, refl) }
 
 going_on : {t u : Tables} {s : List ℕ} {at e n : ℕ} {x : After} → Going false t u s at → Stepped s at e n
     → x ≡ judged_line u (take (e - at) (drop at s)) → Going false t x.left s n

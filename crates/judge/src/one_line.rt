@@ -12,7 +12,6 @@ use fields::part::Commas;
 use line::event::Event;
 use line::reading::{Reading, Split};
 use rules::place::Place;
-use std::num::wrapping_add_u32;
 use steps::place::answer_in_place;
 use store::take::take;
 use tables::entry::*;
@@ -36,7 +35,7 @@ fn remember(nums: &mut [u32], n: u32) -> u32
     requires { length nums.old ≡ nums_size }
     ensures { (result ≡ n) × (nums.new ≡ remembered nums.old n) }
 {
-    let line = wrapping_add_u32(nums[LINES], 1);
+    let line = nums[LINES].wrapping_add(1);
     nums[VERDICT] = n;
     nums[VERDICT_LINE] = line;
     n
@@ -47,7 +46,7 @@ fn count_line(nums: &mut [u32]) -> u32
     requires { length nums.old ≡ nums_size }
     ensures { (result ≡ 0) × (nums.new ≡ counted nums.old) }
 {
-    nums[LINES] = wrapping_add_u32(nums[LINES], 1);
+    nums[LINES] = nums[LINES].wrapping_add(1);
     0
 }
 

@@ -1,5 +1,5 @@
 -- The laws of answers in numbers: what the code makes of them, and when two questions have the same answers.
-use Rattle.std.proofs.Common.{◌≡◌, ℕ, zero, suc, ◌+◌, ◌-◌, ◌*◌, ◌/◌, ◌%◌, ◌^◌, ◌<◌, ◌≤◌, Bool, true, false, cond, eqb, leb, ◌⊎◌, sym, refl, subst, ◌∙◌, inl, inr, eq-zero-or-pos, arith, ne_eqb, le-leb, leb-false, leb-true}
+use Rattle.std.proofs.Common.{◌≡◌, ℕ, zero, suc, ◌+◌, ◌-◌, ◌*◌, ◌/◌, ◌%◌, ◌^◌, ◌<◌, ◌≤◌, Bool, true, false, cond, eqb, leb, ◌⊎◌, sym, refl, subst, ◌∙◌, ⊎_elim, eq-zero-or-pos, arith, ne_eqb, le-leb, leb-false, leb-true}
 use native.Mathlib.Nat.{zero-min, min-zero}
 use lib.Dec.{leb-suc-suc, leb-suc-zero}
 use lib.Bits.{bit_and, and_zero_l, and_step, and_self}
@@ -10,13 +10,12 @@ use Rattle.marks.specs.Marks.{bit, marks_from, marks_of, from_on, lowest_off, fi
 use Rattle.marks.proofs.Before.{before_split}
 
 -- one less that wraps: of 0 nothing is left
-off_cases : (x r : ℕ) → (r + 1) % 2 ^ 64 ≡ x → r < 2 ^ 64 → (x ≡ 0) ⊎ (0 < x) → bit_and x r ≡ lowest_off x
+pub off_wrapped : (x : ℕ) → x < 2 ^ 64 → bit_and x ((x + 18446744073709551615) % 18446744073709551616) ≡ lowest_off x
 unfolding lowest_off
-off_cases x r e h (inl z) = rw (z, and_zero_l r, and_zero_l (0 - 1)) refl
-off_cases x r e h (inr p) = let k : r ≡ x - 1 = omega arith in rw k refl
-
-pub off_wrapped : (x r : ℕ) → r < 2 ^ 64 → (r + 1) % 2 ^ 64 ≡ x → bit_and x r ≡ lowest_off x
-off_wrapped x r h e = off_cases x r e h (eq-zero-or-pos x)
+off_wrapped x h =
+    ⊎_elim
+    (λ z. rw z (and_zero_l 18446744073709551615 ∙ sym (and_zero_l 0)))
+    (λ p. let k : (x + 18446744073709551615) % 18446744073709551616 ≡ x - 1 = omega arith in rw k) (eq-zero-or-pos x)
 
 -- ---- one digit put below a number
 

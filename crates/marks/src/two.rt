@@ -2,8 +2,6 @@
 ghost use Rattle.std.specs.Prelude.{◌≡◌};
 ghost use Rattle.marks.specs.Marks.{lowest_off, first_mark, rest_marks};
 
-use std::num::wrapping_sub_u64;
-
 // The first 64 answers and the 64 after them.
 #[derive(Clone, Copy)]
 pub struct Marks {
@@ -15,7 +13,7 @@ pub struct Marks {
 fn lowest_off(x: u64) -> u64
     ensures { result ≡ lowest_off x }
 {
-    x & wrapping_sub_u64(x, 1)
+    x & x.wrapping_sub(1)
 }
 
 // How many answers stand before the first yes; 128 where there is none.
@@ -23,9 +21,9 @@ pub fn first(m: Marks) -> usize
     ensures { result ≡ first_mark m }
 {
     if m.low == 0 {
-        return 64 + u64::trailing_zeros(m.high) as usize;
+        return 64 + m.high.trailing_zeros() as usize;
     }
-    u64::trailing_zeros(m.low) as usize
+    m.low.trailing_zeros() as usize
 }
 
 // The answers without the first yes.

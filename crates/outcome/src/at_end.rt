@@ -4,7 +4,6 @@ ghost use Rattle.tables.specs.Entry.{first_time, last_time, nums_size, ticks_siz
 ghost use Rattle.outcome.specs.AtEnd.{verdict_in};
 
 use bill::verdict::Verdict;
-use std::num::wrapping_add_u32;
 use tables::entry::*;
 
 // How much later the last time is than the first.
@@ -12,10 +11,7 @@ fn span_in(ticks: &[u64]) -> u64
     requires { length ticks.now ≡ ticks_size }
     ensures { result ≡ last_time ticks.now - first_time ticks.now }
 {
-    if ticks[LAST] < ticks[FIRST] {
-        return 0;
-    }
-    ticks[LAST] - ticks[FIRST]
+    ticks[LAST].saturating_sub(ticks[FIRST])
 }
 
 // The verdict if the trace ended now, from tables of the right sizes.
@@ -44,7 +40,7 @@ pub(crate) fn verdict_in(nums: &[u32], ticks: &[u64]) -> Verdict
     if scale == 0 {
         return Verdict {
             number: 4,
-            line: wrapping_add_u32(nums[LINES], 1),
+            line: nums[LINES].wrapping_add(1),
             scale: 0,
             span,
         };

@@ -3,7 +3,6 @@ ghost use Rattle.std.specs.Prelude.{◌≡◌, ◌<◌, ◌≤◌, length};
 ghost use Rattle.tables.specs.Entry.{name_count, nums_size, ticks_size, name_rows};
 ghost use Rattle.sheet.specs.Figure.{open_at, held_in, idle_in, holds_core, charge_in};
 
-use std::num::wrapping_add_u64;
 use steps::numbers::CORE;
 use tables::entry::*;
 
@@ -12,10 +11,7 @@ fn open_ticks(ticks: &[u64], i: usize) -> u64
     requires { (length ticks.now ≡ ticks_size) × (i < name_rows) }
     ensures { result ≡ open_at ticks.now i }
 {
-    if ticks[LAST] < ticks[SINCE + i] {
-        return 0;
-    }
-    ticks[LAST] - ticks[SINCE + i]
+    ticks[LAST].saturating_sub(ticks[SINCE + i])
 }
 
 // The held ticks of the core in row i.
@@ -26,7 +22,7 @@ pub(crate) fn held_ticks(nums: &[u32], ticks: &[u64], i: usize) -> u64
     if nums[STANDING + i] < HELD_FROM {
         return ticks[HELD + i];
     }
-    wrapping_add_u64(ticks[HELD + i], open_ticks(ticks, i))
+    ticks[HELD + i].wrapping_add(open_ticks(ticks, i))
 }
 
 // The idle ticks of the core in row i.
@@ -37,7 +33,7 @@ pub(crate) fn idle_ticks(nums: &[u32], ticks: &[u64], i: usize) -> u64
     if nums[STANDING + i] != IDLE_CORE {
         return ticks[IDLE + i];
     }
-    wrapping_add_u64(ticks[IDLE + i], open_ticks(ticks, i))
+    ticks[IDLE + i].wrapping_add(open_ticks(ticks, i))
 }
 
 // Whether row k is a core that is held by an instance of the process in row i.
@@ -55,12 +51,10 @@ pub(crate) fn charge(nums: &[u32], ticks: &[u64], i: usize) -> u64
 {
     let n = nums[NAMES] as usize;
     let mut sum = ticks[HELD + i];
-    let mut k: usize = 0;
-    while k < n {
+    for k in 0..n {
         if holds_core(nums, i, k) {
-            sum = wrapping_add_u64(sum, open_ticks(ticks, k));
+            sum = sum.wrapping_add(open_ticks(ticks, k));
         }
-        k += 1;
     }
     sum
 }

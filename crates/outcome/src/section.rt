@@ -29,12 +29,10 @@ fn rows_count(names: &[u8], nums: &[u32], ticks: &[u64], section: Section) -> us
 {
     let n = nums[NAMES] as usize;
     let mut count: usize = 0;
-    let mut i: usize = 0;
-    while i < n {
+    for i in 0..n {
         if in_section(section, nums[KIND + i]) {
             count += 1;
         }
-        i += 1;
     }
     count
 }
@@ -46,12 +44,10 @@ fn rows_length(names: &[u8], nums: &[u32], ticks: &[u64], section: Section) -> u
 {
     let n = nums[NAMES] as usize;
     let mut sum: usize = 0;
-    let mut i: usize = 0;
-    while i < n {
+    for i in 0..n {
         if in_section(section, nums[KIND + i]) {
             sum += row_length(names, nums, ticks, section, i);
         }
-        i += 1;
     }
     sum
 }
@@ -72,12 +68,10 @@ fn put_rows(
 {
     let n = nums[NAMES] as usize;
     let mut next = at;
-    let mut i: usize = 0;
-    while i < n {
+    for i in 0..n {
         if in_section(section, nums[KIND + i]) {
             next = put_row(names, nums, ticks, section, i, out, next);
         }
-        i += 1;
     }
     next
 }

@@ -8,8 +8,8 @@ use Prim.Native.Nat.{ℕ, ◌+◌, ◌≤◌, ◌<◌}
 use native.Mathlib.Omega.{arith}
 use lib.Dec.{eqb}
 use lib.ListN.{length, take, length-append}
-use lib.Seq.{length-take-le, take_all, take-length}
-use borrow.Author.Tests.{eq-eqb, ne_eqb, le-leb, lt-leb}
+use lib.Seq.{length-take-le}
+use borrow.Author.Tests.{le-leb, lt-leb}
 use Rattle.text.specs.Put.{written, Put, after, put}
 use Rattle.text.proofs.Writes.{take_written, put_fits, put_two}
 use Rattle.bill.specs.Text.{sheet_text}
@@ -32,15 +32,6 @@ use Rattle.run.specs.Report.{reported, text_printed, outcome_printed, report_wri
 module _ (o : Outcome) (sheet : List ℕ) where
   abbrev pub part : List ℕ
   part = cond (eqb o.verdict.number 0) (take o.length sheet) []
-
-  pub none_printed : (o.verdict.number ≡ 0 → ⊥) → (0 ≤ length sheet) × (take 0 sheet ≡ part)
-  none_printed h = (omega arith, rw (ne_eqb o.verdict.number 0 h))
-
-  pub front_printed : o.verdict.number ≡ 0 → o.length < length sheet → (o.length ≤ length sheet) × (take o.length sheet ≡ part)
-  front_printed z h = (omega arith, rw (eq-eqb o.verdict.number 0 z))
-
-  pub all_printed : o.verdict.number ≡ 0 → length sheet ≤ o.length → (length sheet ≤ length sheet) × (take (length sheet) sheet ≡ part)
-  all_printed z h = (omega arith, rw (eq-eqb o.verdict.number 0 z, take-length sheet, take_all o.length sheet h))
 
   -- ---- the text of an outcome: n bytes of a verdict's line, and m of the sheet
 

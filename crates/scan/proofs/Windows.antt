@@ -1,17 +1,10 @@
--- The laws of a window: eight weights added as bytes, a turn of the loop, and marks as sums of weights.
-use Rattle.std.proofs.Common.{◌≡◌, ℕ, suc, ◌+◌, ◌*◌, ◌%◌, ◌<◌, ◌≤◌, Bool, true, false, cond, not, List, [], ◌∷◌, length, get_or, drop, set, sym, refl, ap, ◌∙◌, mod-eq_of_lt, arith, get_or-drop, get_or-set_other, get_or-set_same, below_more}
-use native.Mathlib.Nat.{mod-add-mod}
+-- The laws of a window: what its bytes add, and marks as sums of weights.
+use Rattle.std.proofs.Common.{◌≡◌, ℕ, suc, ◌+◌, ◌*◌, ◌%◌, ◌<◌, ◌≤◌, Bool, true, false, cond, not, List, [], ◌∷◌, get_or, drop, sym, refl, ap, ◌∙◌, mod-eq_of_lt, arith, get_or-drop}
 use Rattle.text.specs.Name.{is_name_byte}
 use Rattle.marks.specs.Marks.{bit, marks_from}
 use Rattle.scan.specs.Window.{is_mark, eight_from, joined_of}
 
--- ---- sums that wrap
-
-pub eight_adds : (a b c d e f g h two three four five six seven r : ℕ) → two ≡ (a + b) % 256 → three ≡ (two + c) % 256 → four ≡ (three + d) % 256
-    → five ≡ (four + e) % 256 → six ≡ (five + f) % 256 → seven ≡ (six + g) % 256 → r ≡ (seven + h) % 256 → r ≡ (a + b + c + d + e + f + g + h) % 256
-eight_adds a b c d e f g h two three four five six seven r e2 e3 e4 e5 e6 e7 e8 = rw (e8, e7, e6, e5, e4, e3, e2) (simp mod-add-mod)
-
--- ---- the loop
+-- ---- what the loop over the window leaves
 
 -- the weights of eight places, and those of 64
 abbrev octet : List ℕ → List ℕ
@@ -27,10 +20,6 @@ weight_at s at j = cond (is_name_byte (get_or s (at + j) 0)) 0 (get_or weights j
 -- the entries before k are what the bytes add
 abbrev pub Weighed : List ℕ → ℕ → List ℕ → ℕ → Type 0
 Weighed s at l k = (j : ℕ) → j < k → get_or l j 0 ≡ weight_at s at j
-
-pub weighed_turn : (s l : List ℕ) (at k w : ℕ) → k < length l → w ≡ weight_at s at k → Weighed s at l k → Weighed s at (set l k w) (k + 1)
-weighed_turn s l at k w h e known =
-    below_more (λ j. get_or (set l k w) j 0 ≡ weight_at s at j) k (λ j m. get_or-set_other l k j w 0 (λ q. omega (arith, q)) ∙ known j m) (get_or-set_same l k w 0 h ∙ e)
 
 -- ---- marks as sums of weights
 

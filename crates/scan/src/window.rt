@@ -4,7 +4,6 @@ ghost use Rattle.text.specs.Name.{is_name_byte};
 ghost use Rattle.marks.specs.Marks.{marks_from};
 ghost use Rattle.scan.specs.Window.{is_mark, eight_from, joined_of};
 
-use std::num::wrapping_add_u8;
 use text::name::name_byte;
 
 // What a byte adds where w is the weight of its place: nothing where a name may have it.
@@ -19,13 +18,13 @@ fn eight(l: &[u8], i: usize) -> u64
     requires { i + 8 ≤ length l.now }
     ensures { result ≡ eight_from l.now i % 256 }
 {
-    let two = wrapping_add_u8(l[i], l[i + 1]);
-    let three = wrapping_add_u8(two, l[i + 2]);
-    let four = wrapping_add_u8(three, l[i + 3]);
-    let five = wrapping_add_u8(four, l[i + 4]);
-    let six = wrapping_add_u8(five, l[i + 5]);
-    let seven = wrapping_add_u8(six, l[i + 6]);
-    wrapping_add_u8(seven, l[i + 7]) as u64
+    let two = l[i].wrapping_add(l[i + 1]);
+    let three = two.wrapping_add(l[i + 2]);
+    let four = three.wrapping_add(l[i + 3]);
+    let five = four.wrapping_add(l[i + 4]);
+    let six = five.wrapping_add(l[i + 5]);
+    let seven = six.wrapping_add(l[i + 6]);
+    seven.wrapping_add(l[i + 7]) as u64
 }
 
 // The sums of all 64 weights, eight after eight.
@@ -47,10 +46,8 @@ pub(crate) fn marks_at(s: &[u8], at: usize) -> u64
     let weights =
         b"\x01\x02\x04\x08\x10\x20\x40\x80\x01\x02\x04\x08\x10\x20\x40\x80\x01\x02\x04\x08\x10\x20\x40\x80\x01\x02\x04\x08\x10\x20\x40\x80\x01\x02\x04\x08\x10\x20\x40\x80\x01\x02\x04\x08\x10\x20\x40\x80\x01\x02\x04\x08\x10\x20\x40\x80\x01\x02\x04\x08\x10\x20\x40\x80";
     let mut l: [u8; 64] = [0; 64];
-    let mut k = 0;
-    while k < 64 {
+    for k in 0..64 {
         l[k] = weight(s[at + k], weights[k]);
-        k += 1;
     }
     joined(&l)
 }

@@ -1,5 +1,5 @@
 // The code of a chart step: one search over rows of three numbers (event word, state left, state entered), and the three charts as such rows.
-ghost use Rattle.std.specs.Prelude.{◌≡◌, [], ◌<◌, length, get_or};
+ghost use Rattle.std.specs.Prelude.{◌≡◌};
 ghost use Rattle.rules.specs.Charts.{process_chart, runnable_chart, semaphore_chart, chart_of};
 ghost use Rattle.steps.specs.Rows.{row_serves, entered_in, move_in, move_by};
 
@@ -44,29 +44,20 @@ const SEMAPHORES: [[u32; 3]; 10] = [
 ];
 
 // Whether the row is one for the word in the state; 0 is any state.
-fn row_serves(rows: &[[u32; 3]], at: usize, word: u32, state: u32) -> bool
-    requires { at < length rows.now }
-    ensures { result ≡ row_serves (get_or rows.now at []) word state }
+fn row_serves(row: &[u32; 3], word: u32, state: u32) -> bool
+    ensures { result ≡ row_serves row.now word state }
 {
-    if word != rows[at][0] {
-        return false;
-    }
-    if state == 0 {
-        return true;
-    }
-    state == rows[at][1]
+    (word == row[0]) & ((state == 0) | (state == row[1]))
 }
 
 // The state that the first such row enters, 0 where there is none.
 fn entered(rows: &[[u32; 3]], word: u32, state: u32) -> u32
     ensures { result ≡ entered_in rows.now word state }
 {
-    let mut at = 0;
-    while at < rows.len() {
-        if row_serves(rows, at, word, state) {
-            return rows[at][2];
+    for row in rows {
+        if row_serves(row, word, state) {
+            return row[2];
         }
-        at += 1;
     }
     0
 }

@@ -4,4 +4,3 @@ pub mod Chunks
 pub mod Nexts
 pub mod Examples
 pub mod Tight
-pub mod Held

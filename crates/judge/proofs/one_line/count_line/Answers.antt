@@ -5,4 +5,4 @@ use Rattle.judge.proofs.one_line.count_line.Goals as goal
 
 pub returns : goal.returns
 unfolding counted
-returns c = (refl, rw c.wrapping_add_u32.ensures.value)
+returns c = (refl, refl)

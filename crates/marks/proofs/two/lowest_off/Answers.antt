@@ -3,4 +3,4 @@ use Rattle.marks.proofs.Marked.{off_wrapped}
 use Rattle.marks.proofs.two.lowest_off.Goals as goal
 
 pub returns : goal.returns
-returns c = off_wrapped _ _ c.wrapping_sub_u64.type_inv c.wrapping_sub_u64.ensures.value
+returns c = off_wrapped c.args.x c.ranges.x.fits

@@ -14,13 +14,7 @@ returns-then-nums-eq0 c = rw (eq-eqb _ 0 c.if-nums-ne0.false, eq-eqb _ 0 c.if-nu
 pub returns-then-scale-eq0 : goal.returns-then-scale-eq0
 unfolding verdict_in
 returns-then-scale-eq0 c =
-    rw (
-      eq-eqb _ 0 c.if-nums-ne0.false,
-      ne_eqb _ 0 c.if-nums-eq0.false,
-      eq-eqb _ 0 c.if-scale-eq0.true,
-      c.span_in-span.ensures,
-      c.wrapping_add_u32.ensures.value,
-    )
+    rw (eq-eqb _ 0 c.if-nums-ne0.false, ne_eqb _ 0 c.if-nums-eq0.false, eq-eqb _ 0 c.if-scale-eq0.true, c.span_in-span.ensures)
 
 pub returns : goal.returns
 unfolding verdict_in

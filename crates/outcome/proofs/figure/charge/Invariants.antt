@@ -1,10 +1,7 @@
 -- `outcome::figure::charge` meets its contract. The invariant: the sum is the charge that the first k rows make.
-use Rattle.std.proofs.Common.{◌≡◌, ◌-◌, ◌≤◌}
+use Rattle.std.proofs.Common.{◌≡◌}
 use Rattle.sheet.specs.Figure.{charge_to}
 use Rattle.outcome.proofs.figure.charge.Given as goal
 
 abbrev pub invariant-loop-k : goal.invariant-loop-k
-invariant-loop-k l = (l.k ≤ l.n) × (l.sum ≡ charge_to l.nums l.ticks l.i l.k)
-
-abbrev pub decreases-loop-k : goal.decreases-loop-k
-decreases-loop-k l = l.n - l.k
+invariant-loop-k l = l.sum ≡ charge_to l.nums l.ticks l.i l.k

@@ -9,4 +9,4 @@ returns-then-nums-i-lt-HELD_FROM c = rw (lt-ltb _ 2 c.if-nums-i-lt-HELD_FROM.tru
 
 pub returns : goal.returns
 unfolding held_in
-returns c = rw (le-ltb _ 2 c.if-nums-i-lt-HELD_FROM.false, ← c.open_ticks.ensures) c.wrapping_add_u64.ensures.value
+returns c = rw (le-ltb _ 2 c.if-nums-i-lt-HELD_FROM.false, ← c.open_ticks.ensures)

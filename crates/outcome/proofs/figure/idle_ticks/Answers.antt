@@ -9,4 +9,4 @@ returns-then-nums-i-ne-IDLE_CORE c = rw (ne_eqb _ 1 c.if-nums-i-ne-IDLE_CORE.tru
 
 pub returns : goal.returns
 unfolding idle_in
-returns c = rw (eq-eqb _ 1 c.if-nums-i-ne-IDLE_CORE.false, ← c.open_ticks.ensures) c.wrapping_add_u64.ensures.value
+returns c = rw (eq-eqb _ 1 c.if-nums-i-ne-IDLE_CORE.false, ← c.open_ticks.ensures)

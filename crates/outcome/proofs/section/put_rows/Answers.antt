@@ -1,4 +1,4 @@
-use Rattle.std.proofs.Common.{◌≡◌, sym, ◌∙◌, arith, rules}
+use Rattle.std.proofs.Common.{◌≡◌, sym, ◌∙◌, arith}
 use Rattle.line.proofs.Texts.{put_none}
 use Rattle.bill.specs.Text.{rows_text}
 use Rattle.tables.specs.Entry.{name_count}
@@ -11,29 +11,30 @@ use Rattle.outcome.proofs.section.put_rows.Goals.{then-in_section, else-in_secti
 pub bounds-nums-7 : goal.bounds-nums-7
 bounds-nums-7 c = omega (arith, valid _ _ _ c.requires.0)
 
+pub bounds-nums-i : goal.bounds-nums-i
+bounds-nums-i c = omega (arith, valid _ _ _ c.requires.0)
+
 pub loop-i-init : goal.loop-i-init
 unfolding rows_to rows_text
 loop-i-init c =
     let v = valid _ _ _ c.requires.0 in
-    (omega arith, v.name_count_lem, v.sizes.nums_sized, sym (put_none _ _ (omega arith)))
+    (v.name_count_lem, sym (put_none _ _ (omega arith)))
 
 pub put_row-next-requires : goal.put_row-next-requires
 put_row-next-requires c =
     let e = sym c.in_section.ensures ∙ c.if-in_section.true in
-    (c.requires.0, (c.loop-i-test.true, line_room _ _ _ _ _ _ _ e c.loop-i-test.true c.requires.1 c.loop-i.invariant.3))
+    (c.requires.0, (c.loop-i-test.true, line_room _ _ _ _ _ _ _ e c.loop-i-test.true c.requires.1 c.loop-i.invariant.1))
 
 pub loop-i-preserved : goal.loop-i-preserved
 loop-i-preserved c =
     let inv = c.loop-i.invariant in
     let a = c.args in
     let e = sym c.in_section.ensures in (
-      search rules,
-      inv.1,
-      inv.2,
+      inv.0,
       elim c.if-in_section.branch [
         | then-in_section w ↦
-            rw (w.next-is, w.out-is) (line_put _ _ _ _ _ _ _ (e ∙ w.if-in_section.true) c.loop-i-test.true c.requires.1 inv.3 w.put_row-next.ensures)
-        | else-in_section w ↦ rw (w.next-is, w.out-is, row_out a.section a.names.now a.nums.now a.ticks.now c.loop-i.i (e ∙ w.if-in_section.false)) inv.3
+            rw (w.next-is, w.out-is) (line_put _ _ _ _ _ _ _ (e ∙ w.if-in_section.true) c.loop-i-test.true c.requires.1 inv.1 w.put_row-next.ensures)
+        | else-in_section w ↦ rw (w.next-is, w.out-is, row_out a.section a.names.now a.nums.now a.ticks.now c.loop-i.i (e ∙ w.if-in_section.false)) inv.1
       ],
     )
 
@@ -41,4 +42,4 @@ pub returns : goal.returns
 unfolding rows_in
 returns c =
     let e : c.loop-i.i ≡ name_count c.args.nums.now = omega arith in
-    c.loop-i.invariant.3 ∙ rw e
+    c.loop-i.invariant.1 ∙ rw e

@@ -1,13 +1,10 @@
 -- `outcome::section::put_rows` meets its contract. The invariant: the lines of the first i rows are put.
-use Rattle.std.proofs.Common.{◌≡◌, ◌-◌, ◌≤◌, length}
+use Rattle.std.proofs.Common.{◌≡◌, ◌≤◌}
 use Rattle.text.specs.Put.{after, put}
 use Rattle.bill.specs.Text.{rows_text}
-use Rattle.tables.specs.Entry.{name_rows, nums_size}
+use Rattle.tables.specs.Entry.{name_rows}
 use Rattle.sheet.specs.Sheet.{rows_to}
 use Rattle.outcome.proofs.section.put_rows.Given as goal
 
 abbrev pub invariant-loop-i : goal.invariant-loop-i
-invariant-loop-i l = (l.i ≤ l.n) × (l.n ≤ name_rows) × (length l.nums ≡ nums_size) × (after l.next l.out ≡ put l.initial.out l.at (rows_text (rows_to l.section l.names l.nums l.ticks l.i)))
-
-abbrev pub decreases-loop-i : goal.decreases-loop-i
-decreases-loop-i l = l.n - l.i
+invariant-loop-i l = (l.n ≤ name_rows) × (after l.next l.out ≡ put l.initial.out l.at (rows_text (rows_to l.section l.names l.nums l.ticks l.i)))

@@ -1,4 +1,4 @@
-use Rattle.std.proofs.Common.{◌≡◌, sym, refl, ◌∙◌, arith, rules}
+use Rattle.std.proofs.Common.{◌≡◌, sym, refl, ◌∙◌, arith}
 use Rattle.tables.specs.Entry.{name_count}
 use Rattle.ranges.proofs.Valid.{valid}
 use Rattle.sheet.specs.Sheet.{rows_to, rows_in}
@@ -10,11 +10,14 @@ use Rattle.outcome.proofs.section.rows_count.Goals.{then-in_section, else-in_sec
 pub bounds-nums-7 : goal.bounds-nums-7
 bounds-nums-7 c = omega (arith, valid _ _ _ c.requires)
 
+pub bounds-nums-i : goal.bounds-nums-i
+bounds-nums-i c = omega (arith, valid _ _ _ c.requires)
+
 pub loop-i-init : goal.loop-i-init
 unfolding rows_to
 loop-i-init c =
     let v = valid _ _ _ c.requires in
-    (omega arith, v.name_count_lem, v.sizes.nums_sized, refl)
+    (v.name_count_lem, refl)
 
 pub overflow_add-count : goal.overflow_add-count
 overflow_add-count c =
@@ -26,12 +29,10 @@ loop-i-preserved c =
     let inv = c.loop-i.invariant in
     let a = c.args in
     let e = sym c.in_section.ensures in (
-      search rules,
-      inv.1,
-      inv.2,
+      inv.0,
       elim c.if-in_section.branch [
-        | then-in_section w ↦ w.count-is ∙ rw inv.3 (sym (count_in _ _ _ _ _ (e ∙ w.if-in_section.true)))
-        | else-in_section w ↦ rw (row_out a.section a.names.now a.nums.now a.ticks.now c.loop-i.i (e ∙ w.if-in_section.false)) (w.count-is ∙ inv.3)
+        | then-in_section w ↦ w.count-is ∙ rw inv.1 (sym (count_in _ _ _ _ _ (e ∙ w.if-in_section.true)))
+        | else-in_section w ↦ rw (row_out a.section a.names.now a.nums.now a.ticks.now c.loop-i.i (e ∙ w.if-in_section.false)) (w.count-is ∙ inv.1)
       ],
     )
 
@@ -39,4 +40,4 @@ pub returns : goal.returns
 unfolding rows_in
 returns c =
     let e : c.loop-i.i ≡ name_count c.args.nums.now = omega arith in
-    c.loop-i.invariant.3 ∙ rw e
+    c.loop-i.invariant.1 ∙ rw e

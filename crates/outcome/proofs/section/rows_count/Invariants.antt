@@ -1,11 +1,8 @@
 -- `outcome::section::rows_count` meets its contract. The invariant: the count is that of the first i rows.
-use Rattle.std.proofs.Common.{◌≡◌, ◌-◌, ◌≤◌, length}
-use Rattle.tables.specs.Entry.{name_rows, nums_size}
+use Rattle.std.proofs.Common.{◌≡◌, ◌≤◌, length}
+use Rattle.tables.specs.Entry.{name_rows}
 use Rattle.sheet.specs.Sheet.{rows_to}
 use Rattle.outcome.proofs.section.rows_count.Given as goal
 
 abbrev pub invariant-loop-i : goal.invariant-loop-i
-invariant-loop-i l = (l.i ≤ l.n) × (l.n ≤ name_rows) × (length l.nums ≡ nums_size) × (l.count ≡ length (rows_to l.section l.names l.nums l.ticks l.i))
-
-abbrev pub decreases-loop-i : goal.decreases-loop-i
-decreases-loop-i l = l.n - l.i
+invariant-loop-i l = (l.n ≤ name_rows) × (l.count ≡ length (rows_to l.section l.names l.nums l.ticks l.i))

@@ -1,4 +1,4 @@
-use Rattle.std.proofs.Common.{◌≡◌, sym, refl, ◌∙◌, arith, rules}
+use Rattle.std.proofs.Common.{◌≡◌, sym, refl, ◌∙◌, arith}
 use Rattle.bill.specs.Text.{rows_text}
 use Rattle.tables.specs.Entry.{name_count}
 use Rattle.ranges.proofs.Valid.{valid}
@@ -11,17 +11,20 @@ use Rattle.outcome.proofs.section.rows_length.Goals.{then-in_section, else-in_se
 pub bounds-nums-7 : goal.bounds-nums-7
 bounds-nums-7 c = omega (arith, valid _ _ _ c.requires)
 
+pub bounds-nums-i : goal.bounds-nums-i
+bounds-nums-i c = omega (arith, valid _ _ _ c.requires)
+
 pub loop-i-init : goal.loop-i-init
 unfolding rows_to rows_text
 loop-i-init c =
     let v = valid _ _ _ c.requires in
-    (omega arith, v.name_count_lem, v.sizes.nums_sized, refl)
+    (v.name_count_lem, refl)
 
 pub overflow_add-sum : goal.overflow_add-sum
 overflow_add-sum c =
     let v = valid _ _ _ c.requires in
     let row = row_short v c.args.section c.loop-i.i c.loop-i-test.true in
-    let rows = rows_short v c.args.section c.loop-i.i c.loop-i.invariant.0 in
+    let rows = rows_short v c.args.section c.loop-i.i c.loop-i.auto.i-end in
     omega (arith, row, rows)
 
 pub loop-i-preserved : goal.loop-i-preserved
@@ -29,12 +32,10 @@ loop-i-preserved c =
     let inv = c.loop-i.invariant in
     let a = c.args in
     let e = sym c.in_section.ensures in (
-      search rules,
-      inv.1,
-      inv.2,
+      inv.0,
       elim c.if-in_section.branch [
-        | then-in_section w ↦ w.sum-is ∙ rw (inv.3, w.row_length-sum.ensures) (sym (length_in _ _ _ _ _ (e ∙ w.if-in_section.true)))
-        | else-in_section w ↦ rw (row_out a.section a.names.now a.nums.now a.ticks.now c.loop-i.i (e ∙ w.if-in_section.false)) (w.sum-is ∙ inv.3)
+        | then-in_section w ↦ w.sum-is ∙ rw (inv.1, w.row_length-sum.ensures) (sym (length_in _ _ _ _ _ (e ∙ w.if-in_section.true)))
+        | else-in_section w ↦ rw (row_out a.section a.names.now a.nums.now a.ticks.now c.loop-i.i (e ∙ w.if-in_section.false)) (w.sum-is ∙ inv.1)
       ],
     )
 
@@ -42,4 +43,4 @@ pub returns : goal.returns
 unfolding rows_in
 returns c =
     let e : c.loop-i.i ≡ name_count c.args.nums.now = omega arith in
-    c.loop-i.invariant.3 ∙ rw e
+    c.loop-i.invariant.1 ∙ rw e

@@ -1,13 +1,10 @@
 -- `outcome::section::rows_length` meets its contract. The invariant: the sum is the length of the lines of the first i rows. It does not wrap, since
 -- each line is short.
-use Rattle.std.proofs.Common.{◌≡◌, ◌-◌, ◌≤◌, length}
+use Rattle.std.proofs.Common.{◌≡◌, ◌≤◌, length}
 use Rattle.bill.specs.Text.{rows_text}
-use Rattle.tables.specs.Entry.{name_rows, nums_size}
+use Rattle.tables.specs.Entry.{name_rows}
 use Rattle.sheet.specs.Sheet.{rows_to}
 use Rattle.outcome.proofs.section.rows_length.Given as goal
 
 abbrev pub invariant-loop-i : goal.invariant-loop-i
-invariant-loop-i l = (l.i ≤ l.n) × (l.n ≤ name_rows) × (length l.nums ≡ nums_size) × (l.sum ≡ length (rows_text (rows_to l.section l.names l.nums l.ticks l.i)))
-
-abbrev pub decreases-loop-i : goal.decreases-loop-i
-decreases-loop-i l = l.n - l.i
+invariant-loop-i l = (l.n ≤ name_rows) × (l.sum ≡ length (rows_text (rows_to l.section l.names l.nums l.ticks l.i)))

@@ -1,10 +1,7 @@
 -- `scan::window::marks_at` meets its contract. The invariant: the entries before `k` are what the bytes add.
-use Rattle.std.proofs.Common.{◌≡◌, ◌-◌, ◌≤◌, length}
+use Rattle.std.proofs.Common.{◌≡◌, length}
 use Rattle.scan.proofs.Windows.{Weighed}
 use Rattle.scan.proofs.window.marks_at.Given as goal
 
 abbrev pub invariant-loop-k : goal.invariant-loop-k
-invariant-loop-k l = (l.k ≤ 64) × (length l.l ≡ 64) × Weighed l.s l.at l.l l.k
-
-abbrev pub decreases-loop-k : goal.decreases-loop-k
-decreases-loop-k l = 64 - l.k
+invariant-loop-k l = (length l.l ≡ 64) × Weighed l.s l.at l.l l.k
