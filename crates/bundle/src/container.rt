@@ -8,18 +8,18 @@ use std::io::Stdout;
 use text::bytes::{find, starts};
 use text::number::read_number;
 
-// What stands at an index: a trace, with where its header ends and its length; or nothing that can be told.
-#[derive(Clone, Copy)]
-enum Entry {
-    Trace(usize, usize),
-    Untold,
+// A trace of a container: where its header ends, and its length.
+#[derive(Clone, Copy, Debug, PartialEq, Eq, Hash)]
+struct Entry {
+    end: usize,
+    size: usize,
 }
 
-// How a container ends: after so many traces; or broken after so many, with the index from which no trace can be told.
-#[derive(Clone, Copy)]
-pub enum Ended {
-    Whole(usize),
-    Broken(usize, usize),
+// A container that is broken: how many traces stand before, and the index from which no trace can be told.
+#[derive(Clone, Copy, Debug, PartialEq, Eq, Hash)]
+pub struct Broken {
+    pub traces: usize,
+    pub at: usize,
 }
 
 // The length that a header gives.
@@ -45,68 +45,60 @@ fn label_in(header: &[u8]) -> &[u8] {
     &header[6..blank]
 }
 
-// What stands from an index on.
-fn entry_from(s: &[u8], at: usize) -> Entry
+// The trace that stands from an index on, where one can be told.
+fn entry_from(s: &[u8], at: usize) -> Option<Entry>
     requires { at < length s.now }
     ensures { result ≡ entry_from s.now at }
 {
     let end = find(s, b'\n', at);
     if s.len() <= end {
-        return Entry::Untold;
+        return None;
     }
-    let Some(n) = length_in(&s[at..end]) else {
-        return Entry::Untold;
-    };
+    let n = length_in(&s[at..end])?;
     let size = n as usize;
     let rest = &s[end + 1..];
     if rest.len() <= size {
-        return Entry::Untold;
+        return None;
     }
     if rest[size] != b'\n' {
-        return Entry::Untold;
+        return None;
     }
-    Entry::Trace(end, size)
+    Some(Entry { end, size })
 }
 
-// Says the trace whose header stands between two indices, and whose bytes follow the header's end.
-fn say_entry(stdout: Stdout, s: &[u8], at: usize, end: usize, size: usize)
-    requires { (at ≤ end) × (end + 1 + size < length s.now) }
+// Says a trace whose header stands from an index on, and whose bytes follow the header's end.
+fn say_entry(stdout: Stdout, s: &[u8], at: usize, entry: Entry)
+    requires { (at ≤ entry.end) × (entry.end + 1 + entry.size < length s.now) }
 {
-    let start = end + 1;
-    let stop = start + size;
-    say_trace(stdout, label_in(&s[at..end]), &s[start..stop]);
+    let start = entry.end + 1;
+    let stop = start + entry.size;
+    say_trace(stdout, label_in(&s[at..entry.end]), &s[start..stop]);
 }
 
-// Says every trace of a container up to its end.
-fn say_traces(stdout: Stdout, s: &[u8]) -> Ended
+// Says every trace of a container up to its end, and counts them.
+fn say_traces(stdout: Stdout, s: &[u8]) -> Result<usize, Broken>
     ensures { result ≡ container_end s.now }
 {
     let mut at = 0;
-    let mut n = 0;
+    let mut traces = 0;
     while at < s.len() {
-        let Entry::Trace(end, size) = entry_from(s, at) else {
-            return Ended::Broken(n, at);
+        let Some(entry) = entry_from(s, at) else {
+            return Err(Broken { traces, at });
         };
-        say_entry(stdout, s, at, end, size);
-        at = end + size + 2;
-        n += 1;
+        say_entry(stdout, s, at, entry);
+        at = entry.end + entry.size + 2;
+        traces += 1;
     }
-    Ended::Whole(n)
-}
-
-// Says that a container is broken.
-fn say_end(stdout: Stdout, ended: Ended) {
-    let Ended::Broken(_, _) = ended else {
-        return;
-    };
-    say(stdout, b"container broken\n");
+    Ok(traces)
 }
 
 // Says every trace of a container, and that it is broken where the rest can't be told apart; how it ended.
-pub fn say_all(stdout: Stdout, s: &[u8]) -> Ended
+pub fn say_all(stdout: Stdout, s: &[u8]) -> Result<usize, Broken>
     ensures { result ≡ container_end s.now }
 {
     let ended = say_traces(stdout, s);
-    say_end(stdout, ended);
+    if ended.is_err() {
+        say(stdout, b"container broken\n");
+    }
     ended
 }

@@ -11,15 +11,6 @@ pub(crate) fn say(stdout: Stdout, s: &[u8]) {
     let _ = stdout.write_all(s);
 }
 
-fn least(a: usize, b: usize) -> usize
-    ensures { (result ≤ a) × (result ≤ b) }
-{
-    if a < b {
-        return a;
-    }
-    b
-}
-
 // The text of a trace at the front of the output; how long it is. A text that does not come counts as an empty one.
 fn put_text(trace: &[u8], out: &mut [u8]) -> usize
     ensures { result ≤ length out.new }
@@ -32,7 +23,7 @@ fn put_text(trace: &[u8], out: &mut [u8]) -> usize
     let Printed::Done(n) = put_outcome(o, &sheet, out) else {
         return 0;
     };
-    least(n, out.len())
+    n.min(out.len())
 }
 
 pub(crate) fn say_trace(stdout: Stdout, label: &[u8], trace: &[u8]) {

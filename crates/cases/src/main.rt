@@ -8,5 +8,5 @@ use intake::read_full;
 fn main(rt: HostRuntime) {
     let mut input = [0u8; 1048576];
     let n = read_full(&mut rt.stdin(), &mut input);
-    say_all(rt.stdout(), &input[..n]);
+    let _ = say_all(rt.stdout(), &input[..n]);
 }

@@ -7,5 +7,5 @@ use intake::read_full;
 fn main(rt: HostRuntime) {
     let mut input = [0u8; 262144];
     let n = read_full(&mut rt.stdin(), &mut input);
-    say_all(rt.stdout(), &input[..n]);
+    let _ = say_all(rt.stdout(), &input[..n]);
 }

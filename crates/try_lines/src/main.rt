@@ -3,14 +3,11 @@
 // records that standard input can't hold or that no line gives.
 #![tactic(auto)]
 
-ghost use Rattle.std.specs.Prelude.{◌≤◌, length};
-
 use intake::read_full;
 use line::event::Event;
 use line::reading::Reading;
 use line::writing::Written;
 use std::io::Stdout;
-use text::bytes::find;
 use words::action::Action;
 use words::kind::Kind;
 use words::scale::Scale;
@@ -24,19 +21,20 @@ fn say_number(stdout: Stdout, n: u64) {
 }
 
 fn say_scale(stdout: Stdout, scale: Scale) {
+    say(stdout, b"0 scale ");
     match scale {
-        Scale::Picoseconds => say(stdout, b"0 scale ps\n"),
-        Scale::Nanoseconds => say(stdout, b"0 scale ns\n"),
-        Scale::Microseconds => say(stdout, b"0 scale us\n"),
-        Scale::Milliseconds => say(stdout, b"0 scale ms\n"),
-        Scale::Seconds => say(stdout, b"0 scale s\n"),
+        Scale::Picoseconds => say(stdout, b"ps\n"),
+        Scale::Nanoseconds => say(stdout, b"ns\n"),
+        Scale::Microseconds => say(stdout, b"us\n"),
+        Scale::Milliseconds => say(stdout, b"ms\n"),
+        Scale::Seconds => say(stdout, b"s\n"),
     }
 }
 
 // The first n bytes of s.
 fn say_front(stdout: Stdout, s: &[u8], n: usize) {
-    if n <= s.len() {
-        say(stdout, &s[0..n]);
+    if let Some(front) = s.get(..n) {
+        say(stdout, front);
     }
 }
 
@@ -99,11 +97,8 @@ fn say_line(stdout: Stdout, l: &[u8]) {
 
 // Every line of s.
 fn say_lines(stdout: Stdout, s: &[u8]) {
-    let mut at = 0;
-    while at < s.len() {
-        let end = find(s, b'\n', at);
-        say_line(stdout, &s[at..end]);
-        at = end + 1;
+    for l in s.split_inclusive(|b| *b == b'\n') {
+        say_line(stdout, l.strip_suffix(b"\n").unwrap_or(l));
     }
 }
 

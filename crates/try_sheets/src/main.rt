@@ -2,7 +2,7 @@
 // text of the sum, or the line `refused N`; it is held to the second reader's answers.
 #![tactic(auto)]
 
-ghost use Rattle.std.specs.Prelude.{◌≤◌, ◌<◌, length};
+ghost use Rattle.std.specs.Prelude.{◌≤◌, ◌<◌, length, IfSome};
 ghost use Rattle.try_sheets.specs.Steps.{Step};
 
 use adding::add::{Sum, add};
@@ -19,24 +19,20 @@ struct Told {
     next: usize,
 }
 
-// The number from the index at on, up to the byte `end`; where there is none, 0, and the end of all.
-fn number_to(s: &[u8], end: u8, at: usize) -> Told
+// The number from the index at on, up to the byte `end`, where there is one.
+fn number_to(s: &[u8], end: u8, at: usize) -> Option<Told>
     requires { at ≤ length s.now }
-    ensures { Step result at (length s.now) }
+    ensures { IfSome result (λ r. Step r at (length s.now)) }
 {
-    let n = s.len();
     let stop = find(s, end, at);
-    if n <= stop {
-        return Told { number: 0, next: n };
+    if s.len() <= stop {
+        return None;
     }
-    let number = read_number(&s[at..stop], 65536);
-    let Some(v) = number else {
-        return Told { number: 0, next: n };
-    };
-    Told {
-        number: v as usize,
+    let number = read_number(&s[at..stop], 65536)?;
+    Some(Told {
+        number: number as usize,
         next: stop + 1,
-    }
+    })
 }
 
 fn say(stdout: Stdout, s: &[u8]) {
@@ -45,10 +41,9 @@ fn say(stdout: Stdout, s: &[u8]) {
 
 // The first n bytes, where there are as many.
 fn say_front(stdout: Stdout, s: &[u8], n: usize) {
-    if s.len() < n {
-        return;
+    if let Some(front) = s.get(..n) {
+        say(stdout, front);
     }
-    say(stdout, &s[0..n]);
 }
 
 fn say_refused(stdout: Stdout, number: u32) {
@@ -86,28 +81,24 @@ fn say_sum(stdout: Stdout, a: &[u8], b: &[u8]) {
     }
 }
 
-// Says the pair whose header stands at the index `at`, and answers where the next one begins; the end where there is none.
-fn say_pair(stdout: Stdout, s: &[u8], at: usize) -> usize
-    requires { at < length s.now }
-    ensures { (at < result) × (result ≤ length s.now) }
+// Says the pair whose header stands at the index `at`, and answers where the next one begins; where no pair can be told, nothing is said.
+fn say_pair(stdout: Stdout, s: &[u8], at: usize) -> Option<usize>
+    requires { at ≤ length s.now }
+    ensures { IfSome result (λ next. (at < next) × (next ≤ length s.now)) }
 {
-    let n = s.len();
-    let first = number_to(s, b' ', at);
-    let second = number_to(s, b'\n', first.next);
+    let first = number_to(s, b' ', at)?;
+    let second = number_to(s, b'\n', first.next)?;
     let from = second.next;
     let middle = from + first.number;
     let end = middle + second.number;
-    if n < end {
-        return n;
-    }
-    say_sum(stdout, &s[from..middle], &s[middle..end]);
-    end
+    say_sum(stdout, s.get(from..middle)?, s.get(middle..end)?);
+    Some(end)
 }
 
 fn say_pairs(stdout: Stdout, s: &[u8]) {
     let mut at = 0;
-    while at < s.len() {
-        at = say_pair(stdout, s, at);
+    while let Some(next) = say_pair(stdout, s, at) {
+        at = next;
     }
 }
 

@@ -1,7 +1,5 @@
 // The buffers whose first entries are lent as tables. They are handed on by value: a function that is lent three slices, to lend them on, takes the
 // prover far longer than one that takes and returns a struct.
-ghost use Rattle.std.specs.Prelude.{◌≤◌};
-
 use crate::say::say_done;
 use crate::step::Numbers;
 use std::io::Stdout;
@@ -23,16 +21,6 @@ pub(crate) struct Buffers {
     pub(crate) names_lent: usize,
     pub(crate) nums_lent: usize,
     pub(crate) ticks_lent: usize,
-}
-
-// How many entries of a buffer are lent: n, or all where there are fewer.
-pub(crate) fn at_most(n: usize, most: usize) -> usize
-    ensures { result ≤ most }
-{
-    if n < most {
-        return n;
-    }
-    most
 }
 
 pub(crate) fn zeros() -> Buffers {

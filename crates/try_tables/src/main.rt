@@ -27,27 +27,27 @@ mod word;
 use crate::buffers::{Buffers, resized, zeros};
 use crate::call::run_call;
 use crate::fill::store;
-use crate::say::say_line;
+use crate::say::{say_done, say_line};
 use crate::step::{end_lines, first_of, numbers_of};
-use crate::word::{REMARK, SIZES, is_call, word_number};
+use crate::word::Word;
 use intake::read_full;
 use std::io::Stdout;
-use text::bytes::find;
 
 // Runs a step, and returns the buffers after it.
 fn run_step(stdout: Stdout, t: Buffers, step: &[u8]) -> Buffers {
-    let word = word_number(first_of(step));
-    if word == REMARK {
-        say_line(stdout, step);
+    let Ok(word) = Word::try_from(first_of(step)) else {
+        say_done(stdout, false);
         return t;
+    };
+    match word {
+        Word::Remark => {
+            say_line(stdout, step);
+            t
+        }
+        Word::Sizes => resized(stdout, t, numbers_of(step)),
+        Word::Call(call) => run_call(stdout, t, call, step),
+        Word::Names | Word::Nums | Word::Ticks => store(stdout, t, word, numbers_of(step)),
     }
-    if word == SIZES {
-        return resized(stdout, t, numbers_of(step));
-    }
-    if is_call(word) {
-        return run_call(stdout, t, word, step);
-    }
-    store(stdout, t, word, numbers_of(step))
 }
 
 // Runs the step that a line holds.
@@ -56,14 +56,14 @@ fn run_line(stdout: Stdout, t: Buffers, line: &mut [u8]) -> Buffers {
     run_step(stdout, t, line)
 }
 
-// Runs every line of a script, on buffers that begin as zeros.
+// Runs every line of a script, on buffers that begin as zeros. The last line may lack its end.
 fn run_script(stdout: Stdout, s: &mut [u8]) {
     let mut t = zeros();
-    let mut at = 0;
-    while at < s.len() {
-        let end = find(s, b'\n', at);
-        t = run_line(stdout, t, &mut s[at..end]);
-        at = end + 1;
+    for piece in s.split_inclusive_mut(|b| *b == b'\n') {
+        t = match piece {
+            [line @ .., b'\n'] => run_line(stdout, t, line),
+            line => run_line(stdout, t, line),
+        };
     }
 }
 

@@ -1,10 +1,8 @@
 // The output that is lent for the sheet.
-use crate::buffers::at_most;
 use crate::say::say;
-use crate::word::SHEET;
+use crate::word::Call;
 use outcome::now::SHEET_MOST;
 use std::io::Stdout;
-use text::bytes::same;
 
 // One byte more than any sheet has, so that one is left that is not lent.
 pub(crate) const OUTPUT_ROOM: usize = SHEET_MOST + 1;
@@ -15,14 +13,14 @@ pub(crate) fn blank() -> [u8; OUTPUT_ROOM] {
 }
 
 // Ends the line that tells of a call: no byte past the sheet may change, those that were not lent too. Then the sheet, where it is to be printed.
-pub(crate) fn say_output(stdout: Stdout, out: [u8; OUTPUT_ROOM], length: usize, word: u64) {
+pub(crate) fn say_output(stdout: Stdout, out: [u8; OUTPUT_ROOM], length: usize, call: Call) {
     let before = blank();
-    let end = at_most(length, OUTPUT_ROOM);
-    if !same(&out[end..], &before[end..]) {
+    let end = length.min(OUTPUT_ROOM);
+    if out[end..] != before[end..] {
         say(stdout, b" output changed");
     }
     say(stdout, b"\n");
-    if word == SHEET {
+    if call == Call::Sheet {
         say(stdout, &out[0..end]);
     }
 }

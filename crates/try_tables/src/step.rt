@@ -40,21 +40,14 @@ pub(crate) fn numbers_of(step: &[u8]) -> Numbers {
     }
 }
 
-// Byte 10 for a slash, but not in a remark: a chunk stands in one line of the script.
-fn end_or(first: u8, b: u8) -> u8 {
-    if first == b'#' {
-        return b;
-    }
-    if b == b'/' {
-        return b'\n';
-    }
-    b
-}
-
+// Byte 10 for every slash, but not in a remark: a chunk stands in one line of the script.
 pub(crate) fn end_lines(s: &mut [u8]) {
-    let mut i = 0;
-    while i < s.len() {
-        s[i] = end_or(s[0], s[i]);
-        i += 1;
+    if s.starts_with(b"#") {
+        return;
+    }
+    for b in s.iter_mut() {
+        if *b == b'/' {
+            *b = b'\n';
+        }
     }
 }

@@ -18,10 +18,8 @@ slice_bounds-read_number-start c =
 pub returns : goal.returns
 returns c =
     let a = c.args in
-    let ge = find_ge a.end a.s.now a.at in
     record {
       small = (read_written _ 65536 _ (sym c.read_number-number.ensures ∙ c.in-Value.is)).1;
-      within = omega (arith, c.find-stop.ensures);
-      on = omega (arith, c.find-stop.ensures, ge);
-      further = λ h. omega (arith, c.find-stop.ensures, ge);
+      within = omega arith;
+      further = omega (arith, c.find-stop.ensures, find_ge a.end a.s.now a.at);
     }

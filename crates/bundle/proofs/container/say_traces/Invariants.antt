@@ -4,7 +4,7 @@ use Rattle.bundle.proofs.Apart.{Remains}
 use Rattle.bundle.proofs.container.say_traces.Given as goal
 
 abbrev pub invariant-loop-at : goal.invariant-loop-at
-invariant-loop-at l = (l.at ≤ length l.s) × (l.n ≤ l.at) × Remains l.s l.at l.n
+invariant-loop-at l = (l.at ≤ length l.s) × (l.traces ≤ l.at) × Remains l.s l.at l.traces
 
 abbrev pub decreases-loop-at : goal.decreases-loop-at
 decreases-loop-at l = length l.s - l.at
