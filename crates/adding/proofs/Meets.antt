@@ -5,8 +5,8 @@ use mathlib.Core.List.{List, [], ◌∷◌, map}
 use Prim.Native.Nat.{ℕ, suc, ◌+◌, ◌≤◌, ◌<◌}
 use lib.ListN.{length, get_or, drop, length-map, get_or-map, drop_of_length-le}
 use lib.Seq.{drop-cons, drop-drop}
-use Rattle.sorting.specs.declared.order.Order.{Order}
-use Rattle.sorting.specs.declared.order.Order.TheVariants.{Less, Same, More}
+use Rattle.std.specs.declared.cmp.Ordering.{Ordering}
+use Rattle.std.specs.declared.cmp.Ordering.TheVariants.{Less, Equal, Greater}
 use Rattle.sorting.specs.Order.{Name, order, is_same}
 use Rattle.sorting.specs.Sets.{meets, rising}
 use Rattle.sorting.proofs.Sets.{turn}
@@ -14,11 +14,11 @@ use Rattle.sorting.proofs.Meets.{meets_none, meets_turned, meets_less, rising_dr
 use Rattle.shifts.specs.Merge.{left_step, right_step}
 
 module _ (n m : Name) (ns ms : List Name) (r : rising (n ∷ ns) ≡ true) (q : rising (m ∷ ms) ≡ true) where
-  meets_step : (o : Order) → o ≡ order n m →
+  meets_step : (o : Ordering) → o ≡ order n m →
       meets (n ∷ ns) (m ∷ ms) ≡ is_same o || meets (drop (left_step o) (n ∷ ns)) (drop (right_step o) (m ∷ ms))
   meets_step Less e = meets_less n m ns ms (sym e) q
-  meets_step Same e = rw (← e)
-  meets_step More e = meets_turned (n ∷ ns) (m ∷ ms) ∙ meets_less m n ms ns (turn n m More (sym e)) r ∙ meets_turned ms (n ∷ ns)
+  meets_step Equal e = rw (← e)
+  meets_step Greater e = meets_turned (n ∷ ns) (m ∷ ms) ∙ meets_less m n ms ns (turn n m Greater (sym e)) r ∙ meets_turned ms (n ∷ ns)
 
 -- ---- the names of rows, from the i-th and the j-th on
 
@@ -40,7 +40,7 @@ module _ (key key' : ℕ → Name) (left right : List ℕ) (i j : ℕ) where
   second_done h = rw (at_end_lem key' right j h) (meets_none (drop i (map key left)))
 
   module _ (r : rising (map key left) ≡ true) (q : rising (map key' right) ≡ true) (h : i < length left) (k : j < length right)
-      (o : Order) (e : o ≡ order (key (get_or left i 0)) (key' (get_or right j 0))) where
+      (o : Ordering) (e : o ≡ order (key (get_or left i 0)) (key' (get_or right j 0))) where
     turned : common ≡ is_same o || meets (drop (i + left_step o) (map key left)) (drop (j + right_step o) (map key' right))
     turned =
         rw (← drop-drop (left_step o) i (map key left), ← drop-drop (right_step o) j (map key' right))

@@ -6,38 +6,39 @@ ghost use Rattle.paper.specs.Lines.{name_at};
 ghost use Rattle.shifts.specs.Merge.{left_step, right_step};
 
 use paper::line::name_at;
-use sorting::order::{Order, compare};
+use sorting::order::compare;
+use std::cmp::Ordering;
 
 // Whether the walk goes on in the first section: its name comes first, or stands in both.
-pub(crate) fn left_step(o: Order) -> usize
+pub(crate) fn left_step(o: Ordering) -> usize
     ensures { result ≡ left_step o }
 {
     match o {
-        Order::Less => 1,
-        Order::Same => 1,
-        Order::More => 0,
+        Ordering::Less => 1,
+        Ordering::Equal => 1,
+        Ordering::Greater => 0,
     }
 }
 
 // Whether it goes on in the second.
-pub(crate) fn right_step(o: Order) -> usize
+pub(crate) fn right_step(o: Ordering) -> usize
     ensures { result ≡ right_step o }
 {
     match o {
-        Order::Less => 0,
-        Order::Same => 1,
-        Order::More => 1,
+        Ordering::Less => 0,
+        Ordering::Equal => 1,
+        Ordering::Greater => 1,
     }
 }
 
 // Whether the two names are one.
-fn is_one(o: Order) -> bool
+fn is_one(o: Ordering) -> bool
     ensures { result ≡ is_same o }
 {
     match o {
-        Order::Less => false,
-        Order::Same => true,
-        Order::More => false,
+        Ordering::Less => false,
+        Ordering::Equal => true,
+        Ordering::Greater => false,
     }
 }
 

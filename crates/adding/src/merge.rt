@@ -10,7 +10,8 @@ use crate::apart::{left_step, right_step};
 use crate::put::{figures_at, none_for, put_row, sum_of};
 use bill::section::Section;
 use paper::line::name_at;
-use sorting::order::{Order, compare};
+use sorting::order::compare;
+use std::cmp::Ordering;
 
 // How many rows there are, and where the output goes on behind them.
 #[derive(Clone, Copy)]
@@ -20,14 +21,14 @@ pub(crate) struct Merged {
 }
 
 // Whose name comes next, from row i of the first section and row j of the second on; one that has no row left comes no more.
-fn next_of(s: &[u8], left: &[u32], i: usize, t: &[u8], right: &[u32], j: usize) -> Order
+fn next_of(s: &[u8], left: &[u32], i: usize, t: &[u8], right: &[u32], j: usize) -> Ordering
     ensures { result ≡ next_of (drop i (map (name_at s.now) left.now)) (drop j (map (name_at t.now) right.now)) }
 {
     if left.len() <= i {
-        return Order::More;
+        return Ordering::Greater;
     }
     if right.len() <= j {
-        return Order::Less;
+        return Ordering::Less;
     }
     compare(name_at(s, left[i]), name_at(t, right[j]))
 }
@@ -43,7 +44,7 @@ fn put_next(
     y: u64,
     i: usize,
     j: usize,
-    o: Order,
+    o: Ordering,
     out: &mut [u8],
     at: usize,
 ) -> usize
@@ -52,17 +53,17 @@ fn put_next(
         (row_text (next_row o (shown section (none_for x)) (shown section (none_for y)) (drop i (rows_at s.now left.now)) (drop j (rows_at t.now right.now)))) }
 {
     match o {
-        Order::Less => {
+        Ordering::Less => {
             let p = left[i];
             let f = sum_of(figures_at(s, p), none_for(y));
             put_row(section, name_at(s, p), f, out, at)
         }
-        Order::Same => {
+        Ordering::Equal => {
             let p = left[i];
             let f = sum_of(figures_at(s, p), figures_at(t, right[j]));
             put_row(section, name_at(s, p), f, out, at)
         }
-        Order::More => {
+        Ordering::Greater => {
             let q = right[j];
             let f = sum_of(none_for(x), figures_at(t, q));
             put_row(section, name_at(t, q), f, out, at)

@@ -6,16 +6,17 @@ ghost use Rattle.paper.specs.Lines.{name_at};
 ghost use Rattle.adding.specs.SortCode.{Inserted, Sorting};
 
 use paper::line::name_at;
-use sorting::order::{Order, compare};
+use sorting::order::compare;
+use std::cmp::Ordering;
 
 // Whether the first of the two names comes before the second.
-fn is_less(o: Order) -> bool
+fn is_less(o: Ordering) -> bool
     ensures { result ≡ is_less o }
 {
     match o {
-        Order::Less => true,
-        Order::Same => false,
-        Order::More => false,
+        Ordering::Less => true,
+        Ordering::Equal => false,
+        Ordering::Greater => false,
     }
 }
 

@@ -6,8 +6,8 @@ use Prim.Native.Nat.{ℕ, zero, suc, ◌≤◌, ◌<◌}
 use native.Mathlib.Omega.{arith}
 use lib.ListN.{length, get_or, take, drop, length-map, length-append, length-take, length-drop}
 use Rattle.text.proofs.Bools.{is_false, and_l, and_r}
-use Rattle.sorting.specs.declared.order.Order.{Order}
-use Rattle.sorting.specs.declared.order.Order.TheVariants.{Less, Same, More}
+use Rattle.std.specs.declared.cmp.Ordering.{Ordering}
+use Rattle.std.specs.declared.cmp.Ordering.TheVariants.{Less, Equal, Greater}
 use Rattle.sorting.specs.Order.{Name, order, is_same, is_less}
 use Rattle.sorting.specs.Sets.{has, insert_by, gather_by, rising, lower}
 use Rattle.sorting.proofs.Orders.{order_less}
@@ -30,11 +30,11 @@ module _ {A : Type 0} (key : A → Name) (d x : A) where
   insert_at [] h = refl
   insert_at (y ∷ l) h = go (order (key x) (key y)) refl (insert_at l)
     where
-      go : (o : Order) → order (key x) (key y) ≡ o → ((place_in l < length l → before l ≡ true) → insert_by key x l ≡ take (place_in l) l ++ x ∷ drop (place_in l) l) →
+      go : (o : Ordering) → order (key x) (key y) ≡ o → ((place_in l < length l → before l ≡ true) → insert_by key x l ≡ take (place_in l) l ++ x ∷ drop (place_in l) l) →
           insert_by key x (y ∷ l) ≡ take (place_in (y ∷ l)) (y ∷ l) ++ x ∷ drop (place_in (y ∷ l)) (y ∷ l)
       go Less e ih = rw (turn (key x) (key y) Less e, e)
-      go Same e ih = let k = simp (turn (key x) (key y) Same e, e) at h in let z : false ≡ true = k (omega arith) in cc
-      go More e ih = rw (turn (key x) (key y) More e, e) (let k = rw (turn (key x) (key y) More e) at h in ap (λ m. y ∷ m) (ih (λ s. k (omega arith))))
+      go Equal e ih = let k = simp (turn (key x) (key y) Equal e, e) at h in let z : false ≡ true = k (omega arith) in cc
+      go Greater e ih = rw (turn (key x) (key y) Greater e, e) (let k = rw (turn (key x) (key y) Greater e) at h in ap (λ m. y ∷ m) (ih (λ s. k (omega arith))))
 
   -- then its name is none of theirs
   pub fresh_at : (l : List A) → rising (map key l) ≡ true → (place_in l < length l → before l ≡ true) → has (key x) (map key l) ≡ false
@@ -53,11 +53,11 @@ module _ {A : Type 0} (key : A → Name) (d x : A) where
   taken_at [] h b = absurd (omega arith)
   taken_at (y ∷ l) h b = go (order (key x) (key y)) refl (taken_at l)
     where
-      go : (o : Order) → order (key x) (key y) ≡ o → (place_in l < length l → before l ≡ false → has (key x) (map key l) ≡ true) →
+      go : (o : Ordering) → order (key x) (key y) ≡ o → (place_in l < length l → before l ≡ false → has (key x) (map key l) ≡ true) →
           is_same (order (key x) (key y)) || has (key x) (map key l) ≡ true
       go Less e ih = let k = simp (turn (key x) (key y) Less e, e) at b in cc
-      go Same e ih = rw e
-      go More e ih = rw e (let k = rw (turn (key x) (key y) More e) at h in ih (omega arith) (rw (turn (key x) (key y) More e) at b))
+      go Equal e ih = rw e
+      go Greater e ih = rw e (let k = rw (turn (key x) (key y) Greater e) at h in ih (omega arith) (rw (turn (key x) (key y) Greater e) at b))
 
 -- ---- found by halves
 
