@@ -6,7 +6,6 @@ ghost use Rattle.shifts.specs.Merge.{next_of, next_row};
 ghost use Rattle.paper.specs.Lines.{name_at};
 ghost use Rattle.adding.specs.MergeCode.{none_for, shown, rows_at, sum_rows, Merging, Next};
 
-use crate::apart::{left_step, right_step};
 use crate::put::{figures_at, none_for, put_row, sum_of};
 use bill::section::Section;
 use paper::line::name_at;
@@ -95,8 +94,8 @@ pub(crate) fn put_sums(
         let o = next_of(s, left, i, t, right, j);
         at = put_next(section, s, left, x, t, right, y, i, j, o, out, at);
         count += 1;
-        i += left_step(o);
-        j += right_step(o);
+        i += usize::from(o.is_le());
+        j += usize::from(o.is_ge());
     }
     Merged { count, next: at }
 }

@@ -1,8 +1,9 @@
 -- FOR THE CODE ALONE: two sections in the order of their names, walked side by side. `Merges.add_step` says that this gives the rows of the sum.
-use Rattle.std.specs.Prelude.{List, [], ◌∷◌, ℕ, get_or}
+use Rattle.std.specs.Prelude.{cond, List, [], ◌∷◌, ℕ, get_or}
 use Rattle.bill.specs.Rows.{Row}
 use Rattle.std.specs.declared.cmp.Ordering.{Ordering}
 use Rattle.std.specs.declared.cmp.Ordering.TheVariants.{Less, Equal, Greater}
+use Rattle.std.specs.Ordering.{is_le, is_ge}
 use Rattle.sorting.specs.Order.{Name, order}
 use Rattle.shifts.specs.Sum.{plus}
 
@@ -14,14 +15,10 @@ next_of (n ∷ ns) (m ∷ ms) = order n m
 
 -- how many rows of the first section that takes, and of the second
 abbrev pub left_step : Ordering → ℕ
-left_step Less = 1
-left_step Equal = 1
-left_step Greater = 0
+left_step o = cond (is_le o) 1 0
 
 abbrev pub right_step : Ordering → ℕ
-right_step Less = 0
-right_step Equal = 1
-right_step Greater = 1
+right_step o = cond (is_ge o) 1 0
 
 -- the row of the sum then, of the rows r and q that stand first; x and y for a name that is missing
 abbrev pub row_by : Ordering → List ℕ → List ℕ → Row → Row → Row

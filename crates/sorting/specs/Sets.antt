@@ -1,5 +1,5 @@
 -- Lists of names, and things sorted by their names, each name once.
-use Rattle.std.specs.Prelude.{Bool, true, false, ◌&&◌, ◌||◌, cond, List, [], ◌∷◌, ℕ, zero, suc}
+use Rattle.std.specs.Prelude.{Bool, true, false, ◌&&◌, ◌||◌, List, [], ◌∷◌}
 use Rattle.text.specs.Lists.{any}
 use Rattle.std.specs.declared.cmp.Ordering.{Ordering}
 use Rattle.std.specs.declared.cmp.Ordering.TheVariants.{Less, Equal, Greater}
@@ -56,9 +56,3 @@ under n (m ∷ ms) = is_less (order n m)
 unfoldable pub rising : List Name → Bool
 rising [] = true
 rising (n ∷ ns) = under n ns && rising ns
-
--- ---- for the code alone: how many names at the front are less than n. `Places.insert_at` says that n goes there
-
-unfoldable pub lower : Name → List Name → ℕ
-lower n [] = zero
-lower n (m ∷ ms) = cond (is_less (order m n)) (suc (lower n ms)) zero
