@@ -1,12 +1,8 @@
 -- What the comparison of two lent names tells of the names that they are.
-use mathlib.Core.Path.{◌≡◌, sym, ap, ◌∙◌}
-use mathlib.Core.Bool.{Bool}
-use Rattle.sorting.specs.declared.order.Order.{Order}
-use Rattle.sorting.specs.Order.{Name, order, is_less}
+use mathlib.Core.Path.{◌≡◌}
+use Rattle.std.specs.declared.cmp.Ordering.{Ordering}
+use Rattle.sorting.specs.Order.{Name, order}
 
-module _ {o : Order} {s t n m : Name} (e : o ≡ order s t) (f : s ≡ n) (g : t ≡ m) where
+module _ {o : Ordering} {s t n m : Name} (e : o ≡ order s t) (f : s ≡ n) (g : t ≡ m) where
   pub compared : o ≡ order n m
   compared = cc
-
-  pub less_told : {told : Bool} → told ≡ is_less o → is_less (order n m) ≡ told
-  less_told h = sym (h ∙ ap is_less compared)

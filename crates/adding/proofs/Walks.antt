@@ -11,7 +11,7 @@ use Rattle.text.proofs.Writes.{put_length}
 use Rattle.bill.specs.declared.section.Section.{Section}
 use Rattle.bill.specs.Rows.{Row}
 use Rattle.bill.specs.Text.{row_text, rows_text}
-use Rattle.sorting.specs.declared.order.Order.{Order}
+use Rattle.std.specs.declared.cmp.Ordering.{Ordering}
 use Rattle.sorting.specs.Order.{Name, order}
 use Rattle.sorting.specs.Sets.{rising}
 use Rattle.sorting.proofs.Meets.{rising_drop}
@@ -51,7 +51,7 @@ right_within (n ∷ ns) (m ∷ ms) h = omega (arith, step (order n m))
 
 -- ---- a step of two sections that were begun
 
-add_turn : (x y : List ℕ) (rs qs : List Row) (i j : ℕ) (o : Order) → rising (names (drop i rs)) ≡ true → rising (names (drop j qs)) ≡ true →
+add_turn : (x y : List ℕ) (rs qs : List Row) (i j : ℕ) (o : Ordering) → rising (names (drop i rs)) ≡ true → rising (names (drop j qs)) ≡ true →
     0 < length (drop i rs) + length (drop j qs) → o ≡ next_of (names (drop i rs)) (names (drop j qs)) →
     add_rows x y (drop i rs) (drop j qs) ≡ next_row o x y (drop i rs) (drop j qs) ∷ add_rows x y (drop (i + left_step o) rs) (drop (j + right_step o) qs)
 add_turn x y rs qs i j o h k l e = rw (← (drop-drop (left_step o) i rs), ← (drop-drop (right_step o) j qs), e) (add_step x y (drop i rs) (drop j qs) h k l)
@@ -66,7 +66,7 @@ module _ (section : Section) (s left : List ℕ) (x : ℕ) (t right : List ℕ) 
   abbrev rows_from : ℕ → ℕ → List Row
   rows_from i j = sum_rows section (drop i (rows_at s left)) x (drop j (rows_at t right)) y
 
-  abbrev row_from : Order → ℕ → ℕ → Row
+  abbrev row_from : Ordering → ℕ → ℕ → Row
   row_from o i j = next_row o (shown section (none_for x)) (shown section (none_for y)) (drop i (rows_at s left)) (drop j (rows_at t right))
 
   -- with so many rows put into the output, up to the index at
@@ -92,7 +92,7 @@ module _ (section : Section) (s left : List ℕ) (x : ℕ) (t right : List ℕ) 
       }
 
   -- a turn
-  module _ {before out : List ℕ} {room i j count at : ℕ} {o : Order} (m : Merging section s left x t right y room) (w : Walk before out i j count at) (h : i + j < length left + length right)
+  module _ {before out : List ℕ} {room i j count at : ℕ} {o : Ordering} (m : Merging section s left x t right y room) (w : Walk before out i j count at) (h : i + j < length left + length right)
       (e : o ≡ next_of (drop i (map (name_at s) left)) (drop j (map (name_at t) right))) where
     some_left : {A : Type 0} (f g : ℕ → A) → 0 < length (drop i (map f left)) + length (drop j (map g right))
     some_left f g = simp (length-drop, length-map) (let a = w.left_in in let b = w.right_in in omega arith)

@@ -8,7 +8,7 @@ use Rattle.bill.specs.Text.{row_text, rows_text}
 use Rattle.bill.specs.Reading.{row_from}
 use Rattle.sorting.specs.Order.{Name}
 use Rattle.sorting.specs.Sets.{rising}
-use Rattle.sorting.specs.declared.order.Order.{Order}
+use Rattle.std.specs.declared.cmp.Ordering.{Ordering}
 use Rattle.shifts.specs.Sum.{add_rows}
 use Rattle.shifts.specs.Merge.{left_step, right_step, next_row}
 use Rattle.adding.specs.declared.put.Figures.{Figures}
@@ -72,7 +72,7 @@ pub record Merging (section : Section) (s left : List ℕ) (x : ℕ) (t right : 
   pub fits : length (rows_text (sum_rows section (rows_at s left) x (rows_at t right) y)) ≤ room
 
 -- the row that comes next is there, may be added, and has room
-pub record Next (section : Section) (s left : List ℕ) (x : ℕ) (t right : List ℕ) (y i j : ℕ) (o : Order) (room at : ℕ) : Type 0 where
+pub record Next (section : Section) (s left : List ℕ) (x : ℕ) (t right : List ℕ) (y i j : ℕ) (o : Ordering) (room at : ℕ) : Type 0 where
   pub first : InOrder section s left
   pub second : InOrder section t right
   pub first_span : x ≤ 2 ^ 62

@@ -1,45 +1,11 @@
 // Two sections, each in the order of its names, walked side by side.
 ghost use Rattle.std.specs.Prelude.{◌≡◌, true, map};
-ghost use Rattle.sorting.specs.Order.{is_same};
 ghost use Rattle.sorting.specs.Sets.{meets, rising};
 ghost use Rattle.paper.specs.Lines.{name_at};
-ghost use Rattle.shifts.specs.Merge.{left_step, right_step};
 
 use paper::line::name_at;
-use sorting::order::{Order, compare};
-
-// Whether the walk goes on in the first section: its name comes first, or stands in both.
-pub(crate) fn left_step(o: Order) -> usize
-    ensures { result ≡ left_step o }
-{
-    match o {
-        Order::Less => 1,
-        Order::Same => 1,
-        Order::More => 0,
-    }
-}
-
-// Whether it goes on in the second.
-pub(crate) fn right_step(o: Order) -> usize
-    ensures { result ≡ right_step o }
-{
-    match o {
-        Order::Less => 0,
-        Order::Same => 1,
-        Order::More => 1,
-    }
-}
-
-// Whether the two names are one.
-fn is_one(o: Order) -> bool
-    ensures { result ≡ is_same o }
-{
-    match o {
-        Order::Less => false,
-        Order::Same => true,
-        Order::More => false,
-    }
-}
+use sorting::order::compare;
+use std::cmp::Ordering;
 
 // Whether some name stands in both of two sections.
 pub(crate) fn meet(s: &[u8], left: &[u32], t: &[u8], right: &[u32]) -> bool
@@ -48,16 +14,12 @@ pub(crate) fn meet(s: &[u8], left: &[u32], t: &[u8], right: &[u32]) -> bool
 {
     let mut i = 0;
     let mut j = 0;
-    while i < left.len() {
-        if right.len() <= j {
-            return false;
+    while i < left.len() && j < right.len() {
+        match compare(name_at(s, left[i]), name_at(t, right[j])) {
+            Ordering::Less => i += 1,
+            Ordering::Equal => return true,
+            Ordering::Greater => j += 1,
         }
-        let o = compare(name_at(s, left[i]), name_at(t, right[j]));
-        if is_one(o) {
-            return true;
-        }
-        i += left_step(o);
-        j += right_step(o);
     }
     false
 }

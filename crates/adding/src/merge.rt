@@ -6,11 +6,11 @@ ghost use Rattle.shifts.specs.Merge.{next_of, next_row};
 ghost use Rattle.paper.specs.Lines.{name_at};
 ghost use Rattle.adding.specs.MergeCode.{none_for, shown, rows_at, sum_rows, Merging, Next};
 
-use crate::apart::{left_step, right_step};
 use crate::put::{figures_at, none_for, put_row, sum_of};
 use bill::section::Section;
 use paper::line::name_at;
-use sorting::order::{Order, compare};
+use sorting::order::compare;
+use std::cmp::Ordering;
 
 // How many rows there are, and where the output goes on behind them.
 #[derive(Clone, Copy)]
@@ -20,14 +20,14 @@ pub(crate) struct Merged {
 }
 
 // Whose name comes next, from row i of the first section and row j of the second on; one that has no row left comes no more.
-fn next_of(s: &[u8], left: &[u32], i: usize, t: &[u8], right: &[u32], j: usize) -> Order
+fn next_of(s: &[u8], left: &[u32], i: usize, t: &[u8], right: &[u32], j: usize) -> Ordering
     ensures { result ≡ next_of (drop i (map (name_at s.now) left.now)) (drop j (map (name_at t.now) right.now)) }
 {
     if left.len() <= i {
-        return Order::More;
+        return Ordering::Greater;
     }
     if right.len() <= j {
-        return Order::Less;
+        return Ordering::Less;
     }
     compare(name_at(s, left[i]), name_at(t, right[j]))
 }
@@ -43,7 +43,7 @@ fn put_next(
     y: u64,
     i: usize,
     j: usize,
-    o: Order,
+    o: Ordering,
     out: &mut [u8],
     at: usize,
 ) -> usize
@@ -52,17 +52,17 @@ fn put_next(
         (row_text (next_row o (shown section (none_for x)) (shown section (none_for y)) (drop i (rows_at s.now left.now)) (drop j (rows_at t.now right.now)))) }
 {
     match o {
-        Order::Less => {
+        Ordering::Less => {
             let p = left[i];
             let f = sum_of(figures_at(s, p), none_for(y));
             put_row(section, name_at(s, p), f, out, at)
         }
-        Order::Same => {
+        Ordering::Equal => {
             let p = left[i];
             let f = sum_of(figures_at(s, p), figures_at(t, right[j]));
             put_row(section, name_at(s, p), f, out, at)
         }
-        Order::More => {
+        Ordering::Greater => {
             let q = right[j];
             let f = sum_of(none_for(x), figures_at(t, q));
             put_row(section, name_at(t, q), f, out, at)
@@ -94,8 +94,8 @@ pub(crate) fn put_sums(
         let o = next_of(s, left, i, t, right, j);
         at = put_next(section, s, left, x, t, right, y, i, j, o, out, at);
         count += 1;
-        i += left_step(o);
-        j += right_step(o);
+        i += usize::from(o.is_le());
+        j += usize::from(o.is_ge());
     }
     Merged { count, next: at }
 }

@@ -1,43 +1,11 @@
 // Rows put in the order of their names. A row is known by the place where its line begins.
 ghost use Rattle.std.specs.Prelude.{◌≡◌, true, ◌∷◌, ◌++◌, map, ◌+◌, ◌≤◌, ◌<◌, length, take, drop};
-ghost use Rattle.sorting.specs.Order.{is_less};
-ghost use Rattle.sorting.specs.Sets.{lower, rising};
+ghost use Rattle.sorting.specs.Sets.{rising};
 ghost use Rattle.paper.specs.Lines.{name_at};
 ghost use Rattle.adding.specs.SortCode.{Inserted, Sorting};
 
 use paper::line::name_at;
-use sorting::order::{Order, compare};
-
-// Whether the first of the two names comes before the second.
-fn is_less(o: Order) -> bool
-    ensures { result ≡ is_less o }
-{
-    match o {
-        Order::Less => true,
-        Order::Same => false,
-        Order::More => false,
-    }
-}
-
-// How many of the rows, which are in order, have a name less than that of the row at p: halves of them are looked through.
-fn rank(text: &[u8], places: &[u32], p: u32) -> usize
-    requires { rising (map (name_at text.now) places.now) ≡ true }
-    ensures { result ≡ lower (name_at text.now p) (map (name_at text.now) places.now) }
-{
-    let name = name_at(text, p);
-    let mut low = 0;
-    let mut high = places.len();
-    while low < high {
-        let middle = low + (high - low) / 2;
-        let o = compare(name_at(text, places[middle]), name);
-        if is_less(o) {
-            low = middle + 1;
-        } else {
-            high = middle;
-        }
-    }
-    low
-}
+use sorting::order::compare;
 
 // Puts p before the entry k of the first n, of which those from k on move up.
 fn put_at(places: &mut [u32], n: usize, k: usize, p: u32)
@@ -45,11 +13,7 @@ fn put_at(places: &mut [u32], n: usize, k: usize, p: u32)
     ensures { (length places.new ≡ length places.old)
         × (take (n + 1) places.new ≡ take k places.old ++ p ∷ drop k (take n places.old)) }
 {
-    let mut i = n;
-    while k < i {
-        places[i] = places[i - 1];
-        i -= 1;
-    }
+    places.copy_within(k..n, k + 1);
     places[k] = p;
 }
 
@@ -59,13 +23,11 @@ fn insert(text: &[u8], places: &mut [u32], n: usize, p: u32) -> bool
     ensures { (length places.new ≡ length places.old)
         × Inserted text.now (take n places.old) p places.new result }
 {
-    let k = rank(text, &places[0..n], p);
-    if k < n {
-        let o = compare(name_at(text, p), name_at(text, places[k]));
-        if !is_less(o) {
-            return false;
-        }
-    }
+    let name = name_at(text, p);
+    let found = places[..n].binary_search_by(|q| compare(name_at(text, *q), name));
+    let Err(k) = found else {
+        return false;
+    };
     put_at(places, n, k, p);
     true
 }
@@ -77,9 +39,7 @@ pub(crate) fn sort(text: &[u8], places: &[u32], sorted: &mut [u32]) -> bool
         × Sorting text.now places.now sorted.new result }
 {
     let n = places.len();
-    let mut i = n;
-    while 0 < i {
-        i -= 1;
+    for i in (0..n).rev() {
         if !insert(text, sorted, n - 1 - i, places[i]) {
             return false;
         }

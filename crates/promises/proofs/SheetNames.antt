@@ -12,8 +12,8 @@ use Rattle.text.specs.Bytes.{same_bytes}
 use Rattle.text.specs.Lists.{any}
 use Rattle.text.proofs.Bools.{and_l, is_false}
 use Rattle.text.proofs.Words.{same_eq, same_refl, eq_same}
-use Rattle.sorting.specs.declared.order.Order.{Order}
-use Rattle.sorting.specs.declared.order.Order.TheVariants.{Less, Same, More}
+use Rattle.std.specs.declared.cmp.Ordering.{Ordering}
+use Rattle.std.specs.declared.cmp.Ordering.TheVariants.{Less, Equal, Greater}
 use Rattle.sorting.specs.Order.{Name, order, is_same}
 use Rattle.sorting.specs.Sets.{has, meets, twice}
 use Rattle.sorting.proofs.Orders.{order_self, order_same}
@@ -34,13 +34,13 @@ use Rattle.promises.proofs.Listed.{names_distinct}
 same_order : (n m : Name) → is_same (order n m) ≡ same_bytes n m
 same_order n m = by_order (order n m) refl
   where
-    other : (o : Order) → order n m ≡ o → is_same o ≡ false → same_bytes n m ≡ false
+    other : (o : Ordering) → order n m ≡ o → is_same o ≡ false → same_bytes n m ≡ false
     other o e d = is_false (same_bytes n m) (λ s. clash (is_same o) (rw (← e, same_eq n m s, order_self m)) d)
 
-    by_order : (o : Order) → order n m ≡ o → is_same o ≡ same_bytes n m
+    by_order : (o : Ordering) → order n m ≡ o → is_same o ≡ same_bytes n m
     by_order Less e = sym (other Less e refl)
-    by_order Same e = sym (eq_same n m (order_same n m e))
-    by_order More e = sym (other More e refl)
+    by_order Equal e = sym (eq_same n m (order_same n m e))
+    by_order Greater e = sym (other Greater e refl)
 
 has_any : (n : Name) (ns : List Name) → has n ns ≡ any (same_bytes n) ns
 has_any n [] = refl

@@ -8,8 +8,8 @@ use lib.ListN.{length, drop}
 use Rattle.text.specs.Lists.{any}
 use Rattle.text.proofs.Bools.{or_l, or_r, and_l, and_r}
 use Rattle.bill.specs.Rows.{Row}
-use Rattle.sorting.specs.declared.order.Order.{Order}
-use Rattle.sorting.specs.declared.order.Order.TheVariants.{Less, Same, More}
+use Rattle.std.specs.declared.cmp.Ordering.{Ordering}
+use Rattle.std.specs.declared.cmp.Ordering.TheVariants.{Less, Equal, Greater}
 use Rattle.sorting.specs.Order.{Name, order, is_less}
 use Rattle.sorting.specs.Sets.{has, insert_by, gather_by, insert, gather, sorted, under, rising}
 use Rattle.sorting.proofs.Orders.{order_self, order_same, order_less}
@@ -30,10 +30,10 @@ module _ (m n : Name) (ns : List Name) (h : any (not_after m) (n ∷ ns) ≡ fal
   first_after : order m n ≡ Less
   first_after = go (order m n) (or_l (not_after m n) (any (not_after m) ns) h)
     where
-      go : (o : Order) → not (is_less o) ≡ false → o ≡ Less
+      go : (o : Ordering) → not (is_less o) ≡ false → o ≡ Less
       go Less e = refl
-      go Same e = cc
-      go More e = cc
+      go Equal e = cc
+      go Greater e = cc
 
   rest_after : any (not_after m) ns ≡ false
   rest_after = or_r (not_after m n) (any (not_after m) ns) h
@@ -77,7 +77,7 @@ from_none m x rs h k =
     record { after = a; gathered = λ l. refl; its = figures_missing x rs m (not_there m (names rs) a); others = λ n e. refl }
 
 -- its first row is of that name
-from_first : (m : Name) (x : List ℕ) (r : Row) (rs : List Row) → order m r.name ≡ Same → rising (names (r ∷ rs)) ≡ true → From m x (r ∷ rs) r.figures rs
+from_first : (m : Name) (x : List ℕ) (r : Row) (rs : List Row) → order m r.name ≡ Equal → rising (names (r ∷ rs)) ≡ true → From m x (r ∷ rs) r.figures rs
 unfolding rising figures_of gather_by names rows_of
 from_first m x r rs e k =
     let q = order_same m r.name e in
@@ -85,7 +85,7 @@ from_first m x r rs e k =
       after = rw q (all_after r.name (names rs) (and_l (under r.name (names rs)) (rising (names rs)) k) (and_r (under r.name (names rs)) (rising (names rs)) k));
       gathered = λ l. rw q (insert_again r.name (gather (names rs) l));
       its = rw e;
-      others = λ n f. let t : order n r.name ≡ More = rw q at (turn m n Less f) in rw t;
+      others = λ n f. let t : order n r.name ≡ Greater = rw q at (turn m n Less f) in rw t;
     }
 
 -- ---- both sections beside the least name of both
@@ -120,7 +120,7 @@ module _ (x y : List ℕ) where
       least_row r.name x y (from_first r.name x r rs (order_self r.name) h) (from_none r.name y qs e k) (insert_again r.name (sorted (names rs ++ names qs)))
 
   -- both have it
-  both_first : (r q : Row) (rs qs : List Row) → rising (names (r ∷ rs)) ≡ true → rising (names (q ∷ qs)) ≡ true → order r.name q.name ≡ Same →
+  both_first : (r q : Row) (rs qs : List Row) → rising (names (r ∷ rs)) ≡ true → rising (names (q ∷ qs)) ≡ true → order r.name q.name ≡ Equal →
       add_rows x y (r ∷ rs) (q ∷ qs) ≡ record { name = r.name; figures = plus r.figures q.figures } ∷ add_rows x y rs qs
   unfolding gather_by names rows_of
   both_first r q rs qs h k e =
@@ -144,10 +144,10 @@ module _ (x y : List ℕ) where
   add_step (r ∷ rs) [] h k l = left_first r rs [] h k refl
   add_step (r ∷ rs) (q ∷ qs) h k l = go (order r.name q.name) refl
     where
-      go : (o : Order) → order r.name q.name ≡ o → add_rows x y (r ∷ rs) (q ∷ qs) ≡ next_row o x y (r ∷ rs) (q ∷ qs) ∷ add_rows x y (drop (left_step o) (r ∷ rs)) (drop (right_step o) (q ∷ qs))
+      go : (o : Ordering) → order r.name q.name ≡ o → add_rows x y (r ∷ rs) (q ∷ qs) ≡ next_row o x y (r ∷ rs) (q ∷ qs) ∷ add_rows x y (drop (left_step o) (r ∷ rs)) (drop (right_step o) (q ∷ qs))
       go Less e = left_first r rs (q ∷ qs) h k (rw e)
-      go Same e = both_first r q rs qs h k e
-      go More e = right_first q (r ∷ rs) qs h k (rw (turn r.name q.name More e))
+      go Equal e = both_first r q rs qs h k e
+      go Greater e = right_first q (r ∷ rs) qs h k (rw (turn r.name q.name Greater e))
 
   pub add_end : add_rows x y [] [] ≡ []
   unfolding add_rows gather_by names rows_of

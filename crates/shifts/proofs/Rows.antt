@@ -7,11 +7,12 @@ use native.Mathlib.Omega.{arith}
 use lib.ListN.{length}
 use Rattle.text.proofs.Bools.{or_l, or_r}
 use Rattle.bill.specs.Rows.{Row}
-use Rattle.sorting.specs.declared.order.Order.{Order}
-use Rattle.sorting.specs.declared.order.Order.TheVariants.{Less, Same, More}
+use Rattle.std.specs.declared.cmp.Ordering.{Ordering}
+use Rattle.std.specs.declared.cmp.Ordering.TheVariants.{Less, Equal, Greater}
+use Rattle.std.specs.Ordering.{ordering_reverse}
 use Rattle.sorting.specs.Order.{Name, order, is_same}
 use Rattle.sorting.specs.Sets.{has, twice, sorted}
-use Rattle.sorting.proofs.Orders.{turned, order_turned, order_self, order_same}
+use Rattle.sorting.proofs.Orders.{order_turned, order_self, order_same}
 use Rattle.sorting.proofs.Sets.{any_sorted}
 use Rattle.shifts.specs.Sound.{names, total, first}
 use Rattle.shifts.specs.Sum.{by_name, plus, figures_of, rows_of, add_rows}
@@ -50,20 +51,20 @@ unfolding figures_of names rows_of
 figures_rows d f [] n h = h refl
 figures_rows d f (m ∷ ns) n h = go (order n m) refl h (figures_rows d f ns n)
   where
-    go : (o : Order) → order n m ≡ o → (is_same o || has n ns ≡ false → d ≡ f n) → ((has n ns ≡ false → d ≡ f n) → figures_of d (rows_of f ns) n ≡ f n) →
+    go : (o : Ordering) → order n m ≡ o → (is_same o || has n ns ≡ false → d ≡ f n) → ((has n ns ≡ false → d ≡ f n) → figures_of d (rows_of f ns) n ≡ f n) →
         cond (is_same (order n m)) (f m) (figures_of d (rows_of f ns) n) ≡ f n
     go Less e h ih = rw e (ih h)
-    go Same e h ih = rw (e, order_same n m e)
-    go More e h ih = rw e (ih h)
+    go Equal e h ih = rw (e, order_same n m e)
+    go Greater e h ih = rw e (ih h)
 
 -- the rows of a section, from its own figures
 same_two : (n m : Name) → is_same (order n m) ≡ is_same (order m n)
 same_two n m = rw (order_turned n m) (go (order n m))
   where
-    go : (o : Order) → is_same o ≡ is_same (turned o)
+    go : (o : Ordering) → is_same o ≡ is_same (ordering_reverse o)
     go Less = refl
-    go Same = refl
-    go More = refl
+    go Equal = refl
+    go Greater = refl
 
 rows_skip : (d : List ℕ) (r : Row) (rs : List Row) (ns : List Name) → has r.name ns ≡ false → rows_of (figures_of d (r ∷ rs)) ns ≡ rows_of (figures_of d rs) ns
 unfolding figures_of names rows_of

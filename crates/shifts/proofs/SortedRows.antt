@@ -5,8 +5,8 @@ use mathlib.Core.List.{List, [], ◌∷◌, ◌++◌}
 use Prim.Native.Nat.{ℕ}
 use Rattle.text.proofs.Bools.{or_l, or_r}
 use Rattle.bill.specs.Rows.{Row}
-use Rattle.sorting.specs.declared.order.Order.{Order}
-use Rattle.sorting.specs.declared.order.Order.TheVariants.{Less, Same, More}
+use Rattle.std.specs.declared.cmp.Ordering.{Ordering}
+use Rattle.std.specs.declared.cmp.Ordering.TheVariants.{Less, Equal, Greater}
 use Rattle.sorting.specs.Order.{Name, order, is_same}
 use Rattle.sorting.specs.Sets.{has, twice, insert_by, gather_by, sorted_by, sorted}
 use Rattle.sorting.proofs.Orders.{order_same}
@@ -25,13 +25,13 @@ module _ (d : List ℕ) (n : Name) where
   figures_insert r (q ∷ rs) h =
       go (order r.name q.name) refl h (order n r.name) refl (figures_insert r rs (or_r (is_same (order r.name q.name)) (has r.name (names rs)) h))
     where
-      go : (o : Order) → order r.name q.name ≡ o → is_same o || has r.name (names rs) ≡ false → (p : Order) → order n r.name ≡ p →
+      go : (o : Ordering) → order r.name q.name ≡ o → is_same o || has r.name (names rs) ≡ false → (p : Ordering) → order n r.name ≡ p →
           figures_of d (insert_by by_name r rs) n ≡ figures_of d (r ∷ rs) n → figures_of d (insert_by by_name r (q ∷ rs)) n ≡ figures_of d (r ∷ q ∷ rs) n
       go Less e h p f ih = rw e
-      go Same e h p f ih = cc
-      go More e h Less f ih = rw (e, f, ih, f)
-      go More e h Same f ih = let k : order n q.name ≡ More = rw (order_same n r.name f) e in rw (e, k, ih, f)
-      go More e h More f ih = rw (e, f, ih, f)
+      go Equal e h p f ih = cc
+      go Greater e h Less f ih = rw (e, f, ih, f)
+      go Greater e h Equal f ih = let k : order n q.name ≡ Greater = rw (order_same n r.name f) e in rw (e, k, ih, f)
+      go Greater e h Greater f ih = rw (e, f, ih, f)
 
   pub figures_sorted : (rs : List Row) → twice (names rs) ≡ false → figures_of d (sorted_by by_name rs) n ≡ figures_of d rs n
   unfolding gather_by figures_of names rows_of

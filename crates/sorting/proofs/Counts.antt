@@ -4,8 +4,8 @@ use mathlib.Core.List.{List, [], ◌∷◌, ◌++◌}
 use Prim.Native.Nat.{◌+◌, ◌≤◌}
 use native.Mathlib.Omega.{arith}
 use lib.ListN.{length, length-append}
-use Rattle.sorting.specs.declared.order.Order.{Order}
-use Rattle.sorting.specs.declared.order.Order.TheVariants.{Less, Same, More}
+use Rattle.std.specs.declared.cmp.Ordering.{Ordering}
+use Rattle.std.specs.declared.cmp.Ordering.TheVariants.{Less, Equal, Greater}
 use Rattle.sorting.specs.Order.{Name, order}
 use Rattle.sorting.specs.Sets.{insert_by, gather_by, sorted_by}
 
@@ -15,10 +15,10 @@ module _ {A : Type 0} (key : A → Name) where
   insert_most x [] = omega arith
   insert_most x (y ∷ l) = go (order (key x) (key y)) refl (insert_most x l)
     where
-      go : (o : Order) → order (key x) (key y) ≡ o → length (insert_by key x l) ≤ length l + 1 → length (insert_by key x (y ∷ l)) ≤ length (y ∷ l) + 1
+      go : (o : Ordering) → order (key x) (key y) ≡ o → length (insert_by key x l) ≤ length l + 1 → length (insert_by key x (y ∷ l)) ≤ length (y ∷ l) + 1
       go Less e ih = rw e (omega arith)
-      go Same e ih = rw e (omega arith)
-      go More e ih = rw e (omega arith)
+      go Equal e ih = rw e (omega arith)
+      go Greater e ih = rw e (omega arith)
 
   pub sorted_most : (xs : List A) → length (sorted_by key xs) ≤ length xs
   unfolding gather_by

@@ -7,8 +7,8 @@ use native.Mathlib.Omega.{arith}
 use lib.ListN.{length, length-map}
 use Rattle.text.specs.Lists.{all, sum_over}
 use Rattle.text.proofs.Bools.{and_l, and_r}
-use Rattle.sorting.specs.declared.order.Order.{Order}
-use Rattle.sorting.specs.declared.order.Order.TheVariants.{Less, Same, More}
+use Rattle.std.specs.declared.cmp.Ordering.{Ordering}
+use Rattle.std.specs.declared.cmp.Ordering.TheVariants.{Less, Equal, Greater}
 use Rattle.sorting.specs.Order.{Name, order, is_same}
 use Rattle.sorting.specs.Sets.{has, twice, place, insert_by, gather_by, sorted_by, itself, insert, sorted, rising}
 use Rattle.sorting.proofs.Sets.{any_alone}
@@ -17,10 +17,10 @@ use Rattle.sorting.proofs.Rising.{sum_sorted, rising_sorted}
 -- ---- other things with the same names
 
 module _ {A B : Type 0} (f : A → B) where
-  map_place : (o : Order) (x y : A) (ys ins : List A) → map f (place o x y ys ins) ≡ place o (f x) (f y) (map f ys) (map f ins)
+  map_place : (o : Ordering) (x y : A) (ys ins : List A) → map f (place o x y ys ins) ≡ place o (f x) (f y) (map f ys) (map f ins)
   map_place Less x y ys ins = refl
-  map_place Same x y ys ins = refl
-  map_place More x y ys ins = refl
+  map_place Equal x y ys ins = refl
+  map_place Greater x y ys ins = refl
 
   module _ (key : B → Name) where
     rename_insert : (x : A) (l : List A) → map f (insert_by (λ a. key (f a)) x l) ≡ insert_by key (f x) (map f l)
@@ -69,10 +69,10 @@ module _ {A : Type 0} (key : A → Name) where
     all_insert x [] h hs = rw h
     all_insert x (y ∷ l) h hs = go (order (key x) (key y)) (all_insert x l h (and_r (p (f y)) (all p (map f l)) hs))
       where
-        go : (o : Order) → all p (map f (insert_by key x l)) ≡ true → all p (map f (place o x y l (insert_by key x l))) ≡ true
+        go : (o : Ordering) → all p (map f (insert_by key x l)) ≡ true → all p (map f (place o x y l (insert_by key x l))) ≡ true
         go Less ih = rw (h, hs)
-        go Same ih = hs
-        go More ih = rw (and_l (p (f y)) (all p (map f l)) hs, ih)
+        go Equal ih = hs
+        go Greater ih = rw (and_l (p (f y)) (all p (map f l)) hs, ih)
 
     pub all_sorted : (xs : List A) → all p (map f xs) ≡ true → all p (map f (sorted_by key xs)) ≡ true
     unfolding gather_by

@@ -1,6 +1,5 @@
 -- The laws of names in order.
 pub mod Orders
-pub mod Compares
 pub mod Sets
 pub mod Rising
 pub mod Keys

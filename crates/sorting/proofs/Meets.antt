@@ -6,11 +6,12 @@ use Prim.Native.Nat.{ℕ, zero, suc}
 use lib.ListN.{drop}
 use Rattle.text.proofs.Bools.{and_r, or_l}
 use Rattle.text.proofs.Lists.{any_append}
-use Rattle.sorting.specs.declared.order.Order.{Order}
-use Rattle.sorting.specs.declared.order.Order.TheVariants.{Less, Same, More}
+use Rattle.std.specs.declared.cmp.Ordering.{Ordering}
+use Rattle.std.specs.declared.cmp.Ordering.TheVariants.{Less, Equal, Greater}
+use Rattle.std.specs.Ordering.{ordering_reverse}
 use Rattle.sorting.specs.Order.{Name, order, is_same}
 use Rattle.sorting.specs.Sets.{has, meets, twice, sorted, under, rising}
-use Rattle.sorting.proofs.Orders.{turned, order_turned}
+use Rattle.sorting.proofs.Orders.{order_turned}
 use Rattle.sorting.proofs.Sets.{swap_or, any_alone}
 use Rattle.sorting.proofs.Rising.{twice_sorted, sorted_rising}
 
@@ -25,10 +26,10 @@ meets_more : (ns : List Name) (m : Name) (ms : List Name) → meets ns (m ∷ ms
 meets_more [] m ms = refl
 meets_more (n ∷ ns) m ms = rw (meets_more ns m ms, order_turned m n, same_turned (order m n)) (regroup (is_same (order m n)) (has n ms) (has m ns) (meets ns ms))
   where
-    same_turned : (o : Order) → is_same (turned o) ≡ is_same o
+    same_turned : (o : Ordering) → is_same (ordering_reverse o) ≡ is_same o
     same_turned Less = refl
-    same_turned Same = refl
-    same_turned More = refl
+    same_turned Equal = refl
+    same_turned Greater = refl
 
     regroup : (p q r s : Bool) → (p || q) || (r || s) ≡ (p || r) || (q || s)
     regroup true q r s = refl

@@ -7,8 +7,8 @@ use native.Mathlib.Omega.{arith}
 use lib.ListN.{length}
 use Rattle.text.specs.Lists.{sum_over}
 use Rattle.text.proofs.Bools.{or_l, or_r, and_l, and_r}
-use Rattle.sorting.specs.declared.order.Order.{Order}
-use Rattle.sorting.specs.declared.order.Order.TheVariants.{Less, Same, More}
+use Rattle.std.specs.declared.cmp.Ordering.{Ordering}
+use Rattle.std.specs.declared.cmp.Ordering.TheVariants.{Less, Equal, Greater}
 use Rattle.sorting.specs.Order.{Name, order, is_same, is_less}
 use Rattle.sorting.specs.Sets.{has, twice, insert_by, gather_by, insert, gather, sorted, under, rising}
 use Rattle.sorting.proofs.Sets.{turn, at_less, gather_insert, gather_two, gather_append, sorted_two, any_insert, any_gather, has_insert}
@@ -21,20 +21,20 @@ module _ (f : Name → ℕ) where
   sum_none x [] z = omega arith
   sum_none x (m ∷ l) z = go (order x m) refl (sum_none x l z)
     where
-      go : (o : Order) → order x m ≡ o → sum_over f (insert x l) ≡ sum_over f l → sum_over f (insert x (m ∷ l)) ≡ sum_over f (m ∷ l)
+      go : (o : Ordering) → order x m ≡ o → sum_over f (insert x l) ≡ sum_over f l → sum_over f (insert x (m ∷ l)) ≡ sum_over f (m ∷ l)
       go Less e ih = rw e (omega arith)
-      go Same e ih = rw e
-      go More e ih = rw e (omega arith)
+      go Equal e ih = rw e
+      go Greater e ih = rw e (omega arith)
 
   sum_fresh : (x : Name) (l : List Name) → has x l ≡ false → sum_over f (insert x l) ≡ f x + sum_over f l
   unfolding insert_by
   sum_fresh x [] z = refl
   sum_fresh x (m ∷ l) z = go (order x m) refl z (sum_fresh x l (or_r (is_same (order x m)) (has x l) z))
     where
-      go : (o : Order) → order x m ≡ o → is_same o || has x l ≡ false → sum_over f (insert x l) ≡ f x + sum_over f l → sum_over f (insert x (m ∷ l)) ≡ f x + sum_over f (m ∷ l)
+      go : (o : Ordering) → order x m ≡ o → is_same o || has x l ≡ false → sum_over f (insert x l) ≡ f x + sum_over f l → sum_over f (insert x (m ∷ l)) ≡ f x + sum_over f (m ∷ l)
       go Less e z ih = rw e
-      go Same e z ih = cc
-      go More e z ih = rw e (omega arith)
+      go Equal e z ih = cc
+      go Greater e z ih = rw e (omega arith)
 
   -- names that are no others, none of them twice
   pub sum_sorted : (ns : List Name) → twice ns ≡ false → sum_over f (sorted ns) ≡ sum_over f ns
@@ -66,10 +66,10 @@ unfolding insert_by
 twice_insert x [] h z = refl
 twice_insert x (m ∷ l) h z = go (order x m) refl h (twice_insert x l (or_r (is_same (order x m)) (has x l) h) (or_r (has m l) (twice l) z))
   where
-    go : (o : Order) → order x m ≡ o → is_same o || has x l ≡ false → twice (insert x l) ≡ false → twice (insert x (m ∷ l)) ≡ false
+    go : (o : Ordering) → order x m ≡ o → is_same o || has x l ≡ false → twice (insert x l) ≡ false → twice (insert x (m ∷ l)) ≡ false
     go Less e h ih = rw (e, e, z, h)
-    go Same e h ih = cc
-    go More e h ih = rw (e, any_insert (λ n. is_same (order m n)) x l, turn x m More e, or_l (has m l) (twice l) z, ih)
+    go Equal e h ih = cc
+    go Greater e h ih = rw (e, any_insert (λ n. is_same (order m n)) x l, turn x m Greater e, or_l (has m l) (twice l) z, ih)
 
 pub twice_sorted : (ns : List Name) → twice (sorted ns) ≡ false
 unfolding gather_by
@@ -87,10 +87,10 @@ unfolding insert_by
 length_insert x [] = omega arith
 length_insert x (m ∷ l) = go (order x m) refl (length_insert x l)
   where
-    go : (o : Order) → order x m ≡ o → length l ≤ length (insert x l) → length (m ∷ l) ≤ length (insert x (m ∷ l))
+    go : (o : Ordering) → order x m ≡ o → length l ≤ length (insert x l) → length (m ∷ l) ≤ length (insert x (m ∷ l))
     go Less e ih = rw e (omega arith)
-    go Same e ih = rw e (omega arith)
-    go More e ih = rw e (omega arith)
+    go Equal e ih = rw e (omega arith)
+    go Greater e ih = rw e (omega arith)
 
 length_gather : (ns l : List Name) → length l ≤ length (gather ns l)
 unfolding gather_by
@@ -111,30 +111,30 @@ unfolding insert_by
 under_insert n x [] e h = rw e
 under_insert n x (m ∷ l) e h = go (order x m) refl
   where
-    go : (o : Order) → order x m ≡ o → under n (insert x (m ∷ l)) ≡ true
+    go : (o : Ordering) → order x m ≡ o → under n (insert x (m ∷ l)) ≡ true
     go Less f = rw (f, e)
-    go Same f = rw (f, h)
-    go More f = rw (f, h)
+    go Equal f = rw (f, h)
+    go Greater f = rw (f, h)
 
 rising_insert : (x : Name) (l : List Name) → rising l ≡ true → rising (insert x l) ≡ true
 unfolding rising insert_by
 rising_insert x [] h = refl
 rising_insert x (m ∷ l) h = go (order x m) refl (rising_insert x l (and_r (under m l) (rising l) h))
   where
-    go : (o : Order) → order x m ≡ o → rising (insert x l) ≡ true → rising (insert x (m ∷ l)) ≡ true
+    go : (o : Ordering) → order x m ≡ o → rising (insert x l) ≡ true → rising (insert x (m ∷ l)) ≡ true
     go Less e ih = rw (e, e, h)
-    go Same e ih = rw (e, h)
-    go More e ih = rw (e, under_insert m x l (turn x m More e) (and_l (under m l) (rising l) h), ih)
+    go Equal e ih = rw (e, h)
+    go Greater e ih = rw (e, under_insert m x l (turn x m Greater e) (and_l (under m l) (rising l) h), ih)
 
 pub rising_sorted : (ns : List Name) → rising (sorted ns) ≡ true
 unfolding gather_by
 rising_sorted [] = unfold rising in refl
 rising_sorted (n ∷ ns) = rising_insert n (sorted ns) (rising_sorted ns)
 
-pub is_less_lem : (o : Order) → is_less o ≡ true → o ≡ Less
+pub is_less_lem : (o : Ordering) → is_less o ≡ true → o ≡ Less
 is_less_lem Less e = refl
-is_less_lem Same e = cc
-is_less_lem More e = cc
+is_less_lem Equal e = cc
+is_less_lem Greater e = cc
 
 pub sorted_rising : (ns : List Name) → rising ns ≡ true → sorted ns ≡ ns
 unfolding rising gather_by insert_by

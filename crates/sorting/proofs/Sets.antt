@@ -4,11 +4,12 @@ use mathlib.Core.Path.{◌≡◌, refl, sym, ap, ◌∙◌}
 use mathlib.Core.Bool.{Bool, true, false, ◌||◌, or-false}
 use mathlib.Core.List.{List, [], ◌∷◌, ◌++◌, append_assoc}
 use Rattle.text.specs.Lists.{any}
-use Rattle.sorting.specs.declared.order.Order.{Order}
-use Rattle.sorting.specs.declared.order.Order.TheVariants.{Less, Same, More}
+use Rattle.std.specs.declared.cmp.Ordering.{Ordering}
+use Rattle.std.specs.declared.cmp.Ordering.TheVariants.{Less, Equal, Greater}
+use Rattle.std.specs.Ordering.{ordering_reverse}
 use Rattle.sorting.specs.Order.{Name, order, is_same}
 use Rattle.sorting.specs.Sets.{has, insert_by, gather_by, insert, gather, sorted}
-use Rattle.sorting.proofs.Orders.{turned, order_turned, order_self, order_same, order_less}
+use Rattle.sorting.proofs.Orders.{order_turned, order_self, order_same, order_less}
 
 -- ---- one name
 
@@ -18,50 +19,50 @@ module _ (n m : Name) (ms : List Name) where
   unfolding insert_by
   at_less e = rw e
 
-  pub at_same : order n m ≡ Same → insert n (m ∷ ms) ≡ m ∷ ms
+  pub at_same : order n m ≡ Equal → insert n (m ∷ ms) ≡ m ∷ ms
   unfolding insert_by
   at_same e = rw e
 
-  pub at_more : order n m ≡ More → insert n (m ∷ ms) ≡ m ∷ insert n ms
+  pub at_more : order n m ≡ Greater → insert n (m ∷ ms) ≡ m ∷ insert n ms
   unfolding insert_by
   at_more e = rw e
 
 module _ (x y : Name) where
-  pub turn : (o : Order) → order x y ≡ o → order y x ≡ turned o
-  turn o e = order_turned x y ∙ ap turned e
+  pub turn : (o : Ordering) → order x y ≡ o → order y x ≡ ordering_reverse o
+  turn o e = order_turned x y ∙ ap ordering_reverse e
 
 pub insert_again : (x : Name) (l : List Name) → insert x (insert x l) ≡ insert x l
 insert_again x [] = unfold insert_by in at_same x x [] (order_self x)
 insert_again x (m ∷ l) = go (order x m) refl (insert_again x l)
   where
-    go : (o : Order) → order x m ≡ o → insert x (insert x l) ≡ insert x l → insert x (insert x (m ∷ l)) ≡ insert x (m ∷ l)
+    go : (o : Ordering) → order x m ≡ o → insert x (insert x l) ≡ insert x l → insert x (insert x (m ∷ l)) ≡ insert x (m ∷ l)
     go Less e ih = rw (at_less x m l e) (at_same x x (m ∷ l) (order_self x))
-    go Same e ih = rw (at_same x m l e) (at_same x m l e)
-    go More e ih = rw (at_more x m l e, at_more x m (insert x l) e, ih)
+    go Equal e ih = rw (at_same x m l e) (at_same x m l e)
+    go Greater e ih = rw (at_more x m l e, at_more x m (insert x l) e, ih)
 
 -- the lesser of two and the greater, either way round
 two_less : (x y : Name) (l : List Name) → order x y ≡ Less → insert x (insert y l) ≡ insert y (insert x l)
 two_less x y [] e = unfold insert_by in (at_less x y [] e ∙ sym (at_more y x [] (turn x y Less e)))
 two_less x y (m ∷ l) e = go (order y m) refl (order x m) refl (two_less x y l e)
   where
-    go : (o : Order) → order y m ≡ o → (p : Order) → order x m ≡ p → insert x (insert y l) ≡ insert y (insert x l) → insert x (insert y (m ∷ l)) ≡ insert y (insert x (m ∷ l))
+    go : (o : Ordering) → order y m ≡ o → (p : Ordering) → order x m ≡ p → insert x (insert y l) ≡ insert y (insert x l) → insert x (insert y (m ∷ l)) ≡ insert y (insert x (m ∷ l))
     go Less f p g ih =
         let h = order_less x y m e f in
         rw (at_less y m l f, at_less x m l h, at_less x y (m ∷ l) e, at_more y x (m ∷ l) (turn x y Less e), at_less y m l f)
-    go Same f p g ih =
+    go Equal f p g ih =
         let h : order x m ≡ Less = rw (← order_same y m f) e in
         rw (at_same y m l f, at_less x m l h, at_more y x (m ∷ l) (turn x y Less e), at_same y m l f)
-    go More f Less g ih = rw (at_more y m l f, at_less x m l g, at_less x m (insert y l) g, at_more y x (m ∷ l) (turn x y Less e), at_more y m l f)
-    go More f Same g ih = rw (at_more y m l f, at_same x m l g, at_same x m (insert y l) g, at_more y m l f)
-    go More f More g ih = rw (at_more y m l f, at_more x m l g, at_more x m (insert y l) g, at_more y m (insert x l) f, ih)
+    go Greater f Less g ih = rw (at_more y m l f, at_less x m l g, at_less x m (insert y l) g, at_more y x (m ∷ l) (turn x y Less e), at_more y m l f)
+    go Greater f Equal g ih = rw (at_more y m l f, at_same x m l g, at_same x m (insert y l) g, at_more y m l f)
+    go Greater f Greater g ih = rw (at_more y m l f, at_more x m l g, at_more x m (insert y l) g, at_more y m (insert x l) f, ih)
 
 pub insert_two : (x y : Name) (l : List Name) → insert x (insert y l) ≡ insert y (insert x l)
 insert_two x y l = go (order x y) refl
   where
-    go : (o : Order) → order x y ≡ o → insert x (insert y l) ≡ insert y (insert x l)
+    go : (o : Ordering) → order x y ≡ o → insert x (insert y l) ≡ insert y (insert x l)
     go Less e = two_less x y l e
-    go Same e = rw (order_same x y e)
-    go More e = sym (two_less y x l (turn x y More e))
+    go Equal e = rw (order_same x y e)
+    go Greater e = sym (two_less y x l (turn x y Greater e))
 
 -- ---- many names
 
@@ -85,10 +86,10 @@ unfolding gather_by
 insert_gather x [] l = unfold insert_by in refl
 insert_gather x (m ∷ ns) l = go (order x m) refl (insert_gather x ns l)
   where
-    go : (o : Order) → order x m ≡ o → gather (insert x ns) l ≡ insert x (gather ns l) → gather (insert x (m ∷ ns)) l ≡ insert x (gather (m ∷ ns) l)
+    go : (o : Ordering) → order x m ≡ o → gather (insert x ns) l ≡ insert x (gather ns l) → gather (insert x (m ∷ ns)) l ≡ insert x (gather (m ∷ ns) l)
     go Less e ih = rw (at_less x m ns e)
-    go Same e ih = rw (at_same x m ns e, order_same x m e) (sym (insert_again m (gather ns l)))
-    go More e ih = rw (at_more x m ns e) (ap (insert m) ih ∙ insert_two m x (gather ns l))
+    go Equal e ih = rw (at_same x m ns e, order_same x m e) (sym (insert_again m (gather ns l)))
+    go Greater e ih = rw (at_more x m ns e) (ap (insert m) ih ∙ insert_two m x (gather ns l))
 
 pub gather_gather : (ns ms l : List Name) → gather (gather ns ms) l ≡ gather ns (gather ms l)
 unfolding gather_by
@@ -126,10 +127,10 @@ pub any_insert : (p : Name → Bool) (x : Name) (l : List Name) → any p (inser
 any_insert p x [] = unfold insert_by in refl
 any_insert p x (m ∷ l) = go (order x m) refl (any_insert p x l)
   where
-    go : (o : Order) → order x m ≡ o → any p (insert x l) ≡ p x || any p l → any p (insert x (m ∷ l)) ≡ p x || (p m || any p l)
+    go : (o : Ordering) → order x m ≡ o → any p (insert x l) ≡ p x || any p l → any p (insert x (m ∷ l)) ≡ p x || (p m || any p l)
     go Less e ih = rw (at_less x m l e)
-    go Same e ih = rw (at_same x m l e, order_same x m e) (same_or (p m) (any p l))
-    go More e ih = rw (at_more x m l e, ih) (swap_or (p m) (p x) (any p l))
+    go Equal e ih = rw (at_same x m l e, order_same x m e) (same_or (p m) (any p l))
+    go Greater e ih = rw (at_more x m l e, ih) (swap_or (p m) (p x) (any p l))
 
 or_assoc : (p q r : Bool) → p || (q || r) ≡ (p || q) || r
 or_assoc true q r = refl
@@ -152,7 +153,7 @@ unfolding gather_by
 has_insert x [] l h = cc
 has_insert x (n ∷ ns) l h = go (order x n) refl (has_insert x ns l) h
   where
-    go : (o : Order) → order x n ≡ o → (has x ns ≡ true → insert x (gather ns l) ≡ gather ns l) → is_same o || has x ns ≡ true → insert x (gather (n ∷ ns) l) ≡ gather (n ∷ ns) l
+    go : (o : Ordering) → order x n ≡ o → (has x ns ≡ true → insert x (gather ns l) ≡ gather ns l) → is_same o || has x ns ≡ true → insert x (gather (n ∷ ns) l) ≡ gather (n ∷ ns) l
     go Less e ih h = insert_two x n (gather ns l) ∙ ap (insert n) (ih h)
-    go Same e ih h = rw (order_same x n e) (insert_again n (gather ns l))
-    go More e ih h = insert_two x n (gather ns l) ∙ ap (insert n) (ih h)
+    go Equal e ih h = rw (order_same x n e) (insert_again n (gather ns l))
+    go Greater e ih h = insert_two x n (gather ns l) ∙ ap (insert n) (ih h)

@@ -1,8 +1,8 @@
 -- Lists of names, and things sorted by their names, each name once.
-use Rattle.std.specs.Prelude.{Bool, true, false, ◌&&◌, ◌||◌, cond, List, [], ◌∷◌, ℕ, zero, suc}
+use Rattle.std.specs.Prelude.{Bool, true, false, ◌&&◌, ◌||◌, List, [], ◌∷◌}
 use Rattle.text.specs.Lists.{any}
-use Rattle.sorting.specs.declared.order.Order.{Order}
-use Rattle.sorting.specs.declared.order.Order.TheVariants.{Less, Same, More}
+use Rattle.std.specs.declared.cmp.Ordering.{Ordering}
+use Rattle.std.specs.declared.cmp.Ordering.TheVariants.{Less, Equal, Greater}
 use Rattle.sorting.specs.Order.{Name, order, is_same, is_less}
 
 abbrev pub has : Name → List Name → Bool
@@ -19,10 +19,10 @@ twice (n ∷ ns) = has n ns || twice ns
 -- ---- in order, each name once: for any things that have a name
 
 -- x beside y, the first of things in order: before it, not at all, or among those after it
-abbrev pub place : {A : Type 0} → Order → A → A → List A → List A → List A
+abbrev pub place : {A : Type 0} → Ordering → A → A → List A → List A → List A
 place Less x y ys further = x ∷ y ∷ ys
-place Same x y ys further = y ∷ ys
-place More x y ys further = y ∷ further
+place Equal x y ys further = y ∷ ys
+place Greater x y ys further = y ∷ further
 
 unfoldable pub insert_by : {A : Type 0} → (A → Name) → A → List A → List A
 insert_by key x [] = x ∷ []
@@ -56,9 +56,3 @@ under n (m ∷ ms) = is_less (order n m)
 unfoldable pub rising : List Name → Bool
 rising [] = true
 rising (n ∷ ns) = under n ns && rising ns
-
--- ---- for the code alone: how many names at the front are less than n. `Places.insert_at` says that n goes there
-
-unfoldable pub lower : Name → List Name → ℕ
-lower n [] = zero
-lower n (m ∷ ms) = cond (is_less (order m n)) (suc (lower n ms)) zero

@@ -1,30 +1,18 @@
--- `adding::sort::insert` meets its contract: where the name at the row's place is its own nothing is put, and otherwise the row goes there.
-use mathlib.Core.Path.{◌∙◌}
-use native.Mathlib.Omega.{arith}
+-- `adding::sort::insert` meets its contract: where the row's name is found nothing is put, and otherwise the row goes to the place for it.
 use borrow.Author.Rules.{rules}
-use Rattle.adding.proofs.Compared.{less_told}
-use Rattle.adding.proofs.Inserts.{within, taken, inserted}
+use Rattle.std.proofs.Common.{of_calls}
+use Rattle.std.proofs.lemmas.Fn.{always_returns_same}
+use Rattle.paper.specs.Lines.{name_at}
+use Rattle.sorting.proofs.Places.{against}
+use Rattle.adding.proofs.Inserts.{taken, inserted}
 use Rattle.adding.proofs.sort.insert.Goals as goal
-use Rattle.adding.proofs.sort.insert.Goals.{then-k-n+else-not-is_less, else-k-n}
 
-pub returns-then-not-is_less : goal.returns-then-not-is_less
-returns-then-not-is_less c =
+pub returns-in_default : goal.returns-in_default
+returns-in_default c =
     let a = c.args in
-    let b = less_told c.compare-o.ensures c.name_at.ensures c.name_at-then-k-n.ensures c.is_less.ensures in (
-      search rules,
-      taken a.text.now a.places.now a.n a.p c.rank-k.result c.requires.0 c.rank-k.ensures c.if-k-n.true
-          (b ∙ c.if-not-is_less.true),
-    )
-
-pub put_at-requires : goal.put_at-requires
-put_at-requires c =
-    let a = c.args in
-    let h = within a.text.now a.places.now a.n a.p c.rank-k.result c.requires.0 c.rank-k.ensures in
-    (search rules, search rules)
+    (search rules, taken a.text.now a.places.now a.n a.p (search rules) _ c.in_default.ensures.bound (c.in_default.ensures.position (against (name_at a.text.now) a.p) (always_returns_same _ _ _ (λ a r f k. search (rules, of_calls)))))
 
 pub returns : goal.returns
 returns c =
-    let a = c.args in (
-      search rules,
-      inserted a.text.now a.places.now a.n a.p c.rank-k.result c.requires.0 c.rank-k.ensures c.requires.1 (λ h. elim c.if-k-n.branch [ then-k-n+else-not-is_less w ↦ less_told w.compare-o.ensures w.name_at.ensures w.name_at-then-k-n.ensures w.is_less.ensures ∙ w.if-not-is_less.false | else-k-n w ↦ absurd (omega arith) ]) _ c.put_at.ensures.1,
-    )
+    let a = c.args in
+    (search rules, inserted a.text.now a.places.now a.n a.p (search rules) c.in-Err.k c.in-Err.ensures.bound (search rules) (c.in-Err.ensures.position (against (name_at a.text.now) a.p) (always_returns_same _ _ _ (λ a r f k. search (rules, of_calls)))) _ c.put_at.ensures.1)
