@@ -54,10 +54,10 @@ module _ (s : List ℕ) (at e : ℕ) (found : e ≡ find_from 10 s at) where
     unfolding entry_from
     by_length = rw (← found, lt-ltb e (length s) h, ← given)
 
-    pub no_length : w ≡ Bad → None ≡ entry_from s at
+    pub no_length : w ≡ None → None ≡ entry_from s at
     no_length p = sym (by_length ∙ rw p)
 
-    module _ {n : ℕ} (p : w ≡ Value n) where
+    module _ {n : ℕ} (p : w ≡ Some n) where
       pub other_byte : (get_or rest n 0 ≡ 10 → ⊥) → None ≡ entry_from s at
       other_byte g = sym (by_length ∙ rw (p, ne_eqb (get_or s (e + 1 + n) 0) 10 (λ z. g (rest_byte n ∙ z))))
 
@@ -77,8 +77,8 @@ byte_inside s i e = ⊎_elim (λ h. h) (λ h. absurd (omega (arith, e, get_or-eq
 abbrev Inside : List ℕ → ℕ → ℕ → ℕ → Type 0
 Inside s at e size = (at ≤ e) × (e + 1 + size < length s)
 
-entry_inside : (s : List ℕ) (at e : ℕ) (w : Number) {end size : ℕ} → at ≤ e → header_entry s e w ≡ Some (record { end = end; size = size }) → Inside s at end size
-entry_inside s at e (Value n) {end} {size} h p = by_byte (eqb (get_or s (e + 1 + n) 0) 10) refl p
+entry_inside : (s : List ℕ) (at e : ℕ) (w : Option ℕ) {end size : ℕ} → at ≤ e → header_entry s e w ≡ Some (record { end = end; size = size }) → Inside s at end size
+entry_inside s at e (Some n) {end} {size} h p = by_byte (eqb (get_or s (e + 1 + n) 0) 10) refl p
   where
     by_byte : (b : Bool) → eqb (get_or s (e + 1 + n) 0) 10 ≡ b → cond {A = Option Entry} b (Some (record { end = e; size = n })) None ≡ Some (record { end = end; size = size }) → Inside s at end size
     by_byte true q z =

@@ -17,9 +17,9 @@ length_in header =
     cond (starts_with header (bytes "trace ")) (cond (ltb (label_end header) (length header)) (number_of (drop (label_end header + 1) header) 4294967295) None) None
 
 -- A header that ends at an index, by its length: the trace is followed by a byte 10, and past the end of the bytes there is none.
-abbrev pub header_entry : List ℕ → ℕ → Number → Option Entry
-header_entry s end (Value n) = cond (eqb (get_or s (end + 1 + n) 0) 10) (Some (record { end = end; size = n })) None
-header_entry s end Bad = None
+abbrev pub header_entry : List ℕ → ℕ → Option ℕ → Option Entry
+header_entry s end (Some n) = cond (eqb (get_or s (end + 1 + n) 0) 10) (Some (record { end = end; size = n })) None
+header_entry s end None = None
 
 -- what stands from an index on: a trace with the end of its header and its length, or nothing that can be told
 unfoldable pub entry_from : List ℕ → ℕ → Option Entry
