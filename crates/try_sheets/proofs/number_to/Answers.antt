@@ -20,7 +20,7 @@ returns c =
     let a = c.args in
     let ge = find_ge a.end a.s.now a.at in
     record {
-      small = (read_written _ 65536 _ (sym c.read_number-number.ensures ∙ c.in-Value.is)).1;
+      small = (read_written _ 65536 _ (sym c.read_number-number.ensures ∙ c.in-Some.is)).1;
       within = omega (arith, c.find-stop.ensures);
       on = omega (arith, c.find-stop.ensures, ge);
       further = λ h. omega (arith, c.find-stop.ensures, ge);
