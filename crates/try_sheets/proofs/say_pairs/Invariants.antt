@@ -1,6 +1,5 @@
 -- `try_sheets::say_pairs` ends: each pair begins behind the one before.
 use Prim.Native.Nat.{◌-◌, ◌≤◌}
-use borrow.Author.Rules.{rules}
 use lib.ListN.{length}
 use Rattle.try_sheets.proofs.say_pairs.Given as goal
 

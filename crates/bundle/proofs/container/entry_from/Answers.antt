@@ -17,10 +17,10 @@ pub returns-in_default : goal.returns-in_default
 returns-in_default c = no_length _ _ _ c.find-end.ensures c.if-s-end.false c.length_in.ensures c.in_default.is
 
 pub returns-then-rest-size : goal.returns-then-rest-size
-returns-then-rest-size c = too_short _ _ _ c.find-end.ensures c.if-s-end.false c.length_in.ensures c.in-Value.is c.if-rest-size.true
+returns-then-rest-size c = too_short _ _ _ c.find-end.ensures c.if-s-end.false c.length_in.ensures c.in-Some.is c.if-rest-size.true
 
 pub returns-then-rest-size-ne10 : goal.returns-then-rest-size-ne10
-returns-then-rest-size-ne10 c = other_byte _ _ _ c.find-end.ensures c.if-s-end.false c.length_in.ensures c.in-Value.is c.if-rest-size-ne10.true
+returns-then-rest-size-ne10 c = other_byte _ _ _ c.find-end.ensures c.if-s-end.false c.length_in.ensures c.in-Some.is c.if-rest-size-ne10.true
 
 pub returns : goal.returns
-returns c = trace_there _ _ _ c.find-end.ensures c.if-s-end.false c.length_in.ensures c.in-Value.is c.if-rest-size-ne10.false
+returns c = trace_there _ _ _ c.find-end.ensures c.if-s-end.false c.length_in.ensures c.in-Some.is c.if-rest-size-ne10.false
