@@ -1,11 +1,12 @@
--- Laws of creation dates: what `fits_pattern` does at a turn, that what fits a pattern has its length, and the table of the months' days.
-use mathlib.Core.Path.{◌≡◌, refl, ap}
+-- Laws of creation dates: what `fits_pattern` is by a test of each byte, that what fits a pattern has its length, and the table of the months' days.
+use mathlib.Core.Path.{◌≡◌, refl, ap, sym}
 use mathlib.Core.Bool.{Bool, true, false, ◌&&◌, cond}
 use mathlib.Core.List.{List, [], ◌∷◌}
-use Prim.Native.Nat.{ℕ, zero, suc, ◌+◌, ◌≤◌, ◌<◌}
-use native.Mathlib.Numerals.{add-one}
-use lib.ListN.{length, get_or, drop, drop_of_length-le, get_or-eq_default}
-use lib.Seq.{drop-cons}
+use Prim.Native.Nat.{ℕ, zero, suc, ◌<◌}
+use native.Mathlib.Nat.{suc-ne-zero}
+use native.Mathlib.Omega.{arith}
+use Rattle.std.specs.List.{list_all, zip}
+use lib.ListN.{length, get_or, get_or-eq_default}
 use Rattle.text.proofs.Bools.{and_r, is_false}
 use Rattle.forms.specs.Date.{fits_byte, fits_pattern, is_leap, days_in}
 
@@ -21,14 +22,13 @@ fits_length (x ∷ s) (y ∷ p) e = ap suc (fits_length s p (and_r (fits_byte x 
 pub fits_other : (s p : List ℕ) → (length s ≡ length p → ⊥) → fits_pattern s p ≡ false
 fits_other s p h = is_false (fits_pattern s p) (λ e. h (fits_length s p e))
 
--- a turn of the loop, and its end
-pub fits_turn : (s p : List ℕ) (i : ℕ) → i < length s → i < length p → fits_pattern (drop i s) (drop i p) ≡ fits_byte (get_or s i 0) (get_or p i 0) && fits_pattern (drop (i + 1) s) (drop (i + 1) p)
+-- by a test of each byte and the pattern's byte at its place
+pub fits_zip : (s p : List ℕ) → length s ≡ length p → list_all (λ (q : ℕ × ℕ). fits_byte q.0 q.1) (zip s p) ≡ fits_pattern s p
 unfolding fits_pattern
-fits_turn s p i h k = rw (drop-cons s i 0, drop-cons p i 0, add-one)
-
-pub fits_end : (s p : List ℕ) (i : ℕ) → length s ≤ i → length p ≤ i → fits_pattern (drop i s) (drop i p) ≡ true
-unfolding fits_pattern
-fits_end s p i h k = rw (drop_of_length-le s h, drop_of_length-le p k)
+fits_zip [] [] e = refl
+fits_zip [] (y ∷ p) e = absurd (suc-ne-zero _ (sym e))
+fits_zip (x ∷ s) [] e = absurd (suc-ne-zero _ e)
+fits_zip (x ∷ s) (y ∷ p) e = let h : length s ≡ length p = omega arith in rw (fits_zip s p h)
 
 -- ---- the calendar
 

@@ -9,14 +9,7 @@ fn fits_pattern(s: &[u8], pattern: &[u8]) -> bool
     if s.len() != pattern.len() {
         return false;
     }
-    let mut i = 0;
-    while i < s.len() {
-        if !fits_byte(s[i], pattern[i]) {
-            return false;
-        }
-        i += 1;
-    }
-    true
+    s.iter().zip(pattern).all(|(b, p)| fits_byte(*b, *p))
 }
 
 // Whether b is the pattern's byte, or a digit where that is a 0.

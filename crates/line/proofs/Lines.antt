@@ -1,31 +1,27 @@
--- Laws of the line as a whole: what `has_break` does at a turn, what the first byte says, and the next line of a chunk.
-use Rattle.std.proofs.Common.{None, Some, Option, subst}
+-- Laws of the line as a whole: what `has_break` is by a test of each byte, what the first byte says, and the next line of a chunk.
+use Rattle.std.proofs.Common.{None, Some, Option, false, subst}
 use mathlib.Core.Path.{◌≡◌, refl, sym}
-use mathlib.Core.Bool.{Bool, true, false, not, ◌||◌}
+use mathlib.Core.Bool.{Bool, true, not, ◌||◌}
 use mathlib.Core.List.{List, [], ◌∷◌}
-use Prim.Native.Nat.{ℕ, ◌+◌, ◌≤◌, ◌<◌}
+use Prim.Native.Nat.{ℕ, ◌≤◌}
 use native.Mathlib.Nat.{suc-ne-zero}
-use native.Mathlib.Numerals.{add-one}
 use native.Mathlib.Omega.{arith}
 use lib.Dec.{eqb}
-use lib.ListN.{length, get_or, drop, drop_of_length-le}
-use lib.Seq.{drop-cons}
+use lib.ListN.{length, get_or}
 use Rattle.fields.specs.declared.part.Commas.{Commas}
 use Rattle.fields.specs.Part.{part_from, commas_of}
 use Rattle.scan.specs.Ahead.{line_from}
 use Rattle.scan.proofs.Nexts.{line_inside}
+use Rattle.std.specs.List.{list_any}
 use Rattle.line.specs.declared.reading.Reading.{Reading}
 use Rattle.line.specs.declared.reading.NextRead.{NextRead}
 use Rattle.line.specs.Reading.{has_break, is_event_line, read_line, split_line, reading_of, next_reading}
 
--- a turn of the loop, and its end
-pub break_turn : (s : List ℕ) (i : ℕ) → i < length s → has_break (drop i s) ≡ (eqb (get_or s i 0) 10 || eqb (get_or s i 0) 13) || has_break (drop (i + 1) s)
+-- by a test of each byte
+pub any_break : (s : List ℕ) → list_any (λ x. eqb x 10 || eqb x 13) s ≡ has_break s
 unfolding has_break
-break_turn s i h = rw (drop-cons s i 0, add-one)
-
-pub break_end : (s : List ℕ) (i : ℕ) → length s ≤ i → has_break (drop i s) ≡ false
-unfolding has_break
-break_end s i h = rw (drop_of_length-le s h)
+any_break [] = refl
+any_break (x ∷ s) = rw (any_break s)
 
 -- the first byte
 pub empty_event : (s : List ℕ) → length s ≡ 0 → is_event_line s ≡ true

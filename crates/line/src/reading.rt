@@ -47,17 +47,7 @@ pub struct NextRead {
 fn has_break(line: &[u8]) -> bool
     ensures { result ≡ has_break line.now }
 {
-    let mut i = 0;
-    while i < line.len() {
-        if line[i] == 10 {
-            return true;
-        }
-        if line[i] == 13 {
-            return true;
-        }
-        i += 1;
-    }
-    false
+    line.iter().any(|b| (*b == 10) | (*b == 13))
 }
 
 // Whether a byte 10 or 13 stands in a line that may be known to be plain.

@@ -19,7 +19,7 @@ pub returns : goal.returns
 returns c =
     let a = c.args in
     record {
-      small = (read_written _ 65536 _ (sym c.read_number-number.ensures ∙ c.in-Value.is)).1;
+      small = (read_written _ 65536 _ (sym c.read_number.ensures ∙ c.in_ok-number.was)).1;
       within = omega arith;
       further = omega (arith, c.find-stop.ensures, find_ge a.end a.s.now a.at);
     }

@@ -15,15 +15,15 @@ returns-then-line-c c =
     let l = c.loop-j in
     record {
       block = refl;
-      place = rw (at_stop _ _ l.j _ _ c.find-c.ensures l.auto.j l.invariant.2 c.if-line-c.true c.loop-j-test.true);
-      bytes = sym (field_stop _ _ l.j _ _ c.find-c.ensures l.auto.j l.invariant.1 c.if-line-c.true c.loop-j-test.true);
+      place = rw (at_stop _ _ l.j _ _ c.find-c.ensures (omega arith) l.invariant.2 c.if-line-c.true c.loop-j-test.true);
+      bytes = sym (field_stop _ _ l.j _ _ c.find-c.ensures (omega arith) l.invariant.1 c.if-line-c.true c.loop-j-test.true);
     }
 
 pub loop-j-preserved : goal.loop-j-preserved
 loop-j-preserved c =
     let l = c.loop-j in
-    let next = field_turn _ _ _ _ c.find-c.ensures l.auto.j l.invariant.1 c.if-line-c.false in
-    (omega arith, next, at_turn _ _ _ _ c.find-c.ensures l.auto.j l.invariant.2)
+    let next = field_turn _ _ _ _ c.find-c.ensures (omega arith) l.invariant.1 c.if-line-c.false in
+    (omega arith, next, at_turn _ _ _ _ c.find-c.ensures (omega arith) l.invariant.2)
 
 pub slice_bounds-result-count-2 : goal.slice_bounds-result-count-2
 slice_bounds-result-count-2 c = (found_within 44 c.args.line.now c.loop-j.a c.find-b.result c.find-b.ensures c.loop-j.invariant.0).0
@@ -40,6 +40,6 @@ returns c =
     let l = c.loop-j in
     record {
       block = refl;
-      place = rw (at_found _ _ l.j _ l.auto.j l.invariant.2 l.invariant.0 (l.auto.j-end (omega arith)) c.loop-j-test.false);
-      bytes = sym (field_found _ _ l.j _ _ c.find-b.ensures l.auto.j l.invariant.1 (l.auto.j-end (omega arith)) c.loop-j-test.false);
+      place = rw (at_found _ _ l.j _ (omega arith) l.invariant.2 l.invariant.0 (omega arith) c.loop-j-test.false);
+      bytes = sym (field_found _ _ l.j _ _ c.find-b.ensures (omega arith) l.invariant.1 (omega arith) c.loop-j-test.false);
     }

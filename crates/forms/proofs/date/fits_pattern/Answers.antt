@@ -1,16 +1,19 @@
+-- `forms::date::fits_pattern` meets its contract.
 use mathlib.Core.Path.{sym, ◌∙◌}
-use native.Mathlib.Omega.{arith}
-use Rattle.forms.proofs.Dates.{fits_other, fits_turn, fits_end}
+use borrow.Author.Rules.{rules}
+use Rattle.std.proofs.Common.{tests}
+use Rattle.std.proofs.lemmas.Iterator.{YieldsList-from_slice, YieldsList-from_zip}
+use Rattle.std.proofs.lemmas.Iterator.Search.{all_from_yields_List}
+use Rattle.forms.specs.Date.{fits_byte}
+use Rattle.forms.proofs.Dates.{fits_other, fits_zip}
 use Rattle.forms.proofs.date.fits_pattern.Goals as goal
 
 pub returns-then-s-pattern : goal.returns-then-s-pattern
 returns-then-s-pattern c = sym (fits_other _ _ c.if-s-pattern.true)
 
-pub returns-then-not-fits_byte : goal.returns-then-not-fits_byte
-returns-then-not-fits_byte c = sym (c.loop-i.invariant.2 ∙ fits_turn _ _ c.loop-i.i (omega arith) (omega arith) ∙ rw (← c.fits_byte.ensures, c.if-not-fits_byte.true))
-
-pub loop-i-preserved : goal.loop-i-preserved
-loop-i-preserved c = (omega arith, omega arith, c.loop-i.invariant.2 ∙ fits_turn _ _ c.loop-i.i (omega arith) (omega arith) ∙ rw (← c.fits_byte.ensures, c.if-not-fits_byte.false))
-
 pub returns : goal.returns
-returns c = sym (c.loop-i.invariant.2 ∙ fits_end _ _ c.loop-i.i (omega arith) (omega arith))
+returns c =
+    let s = c.args.s.now in
+    let p = c.args.pattern.now in
+    all_from_yields_List (λ q. fits_byte q.0 q.1) c.all.new.self _ c.all.result c.all.ensures.ran (YieldsList-from_zip (YieldsList-from_slice s cc) (YieldsList-from_slice p cc)) (λ x b q k. search (rules, tests))
+    ∙ fits_zip s p c.if-s-pattern.false
