@@ -1,5 +1,5 @@
 -- What the tables say of what the rules ask for: `Known` from the rows that were looked up.
-use Rattle.std.specs.Prelude.{Bool, false, not, cond, ◌&&◌, List, ℕ, suc, ◌+◌, eqb, ltb, None, Some, Option, is_some}
+use Rattle.std.specs.Prelude.{Bool, false, cond, ◌&&◌, List, ℕ, suc, ◌+◌, eqb, ltb, None, Some, Option, is_some}
 use Rattle.rules.specs.Words.{semaphore}
 use Rattle.rules.specs.Event.{Event, Instance, instance_of}
 use Rattle.rules.specs.Core.{Core, unknown, idle, held}
