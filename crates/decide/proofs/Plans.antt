@@ -1,7 +1,7 @@
 -- What the code decides test after test is what the rules answer at what the tables say.
 use Rattle.std.proofs.Common.{None, Some, Option}
 use mathlib.Core.Path.{◌≡◌, refl, sym, ap, ◌∙◌}
-use mathlib.Core.Bool.{Bool, true, false, not, ◌&&◌, ◌||◌, cond, not-not}
+use mathlib.Core.Bool.{Bool, true, false, not, ◌&&◌, ◌||◌, cond}
 use mathlib.Core.List.{List}
 use Prim.Native.Nat.{ℕ, zero, suc, ◌+◌}
 use native.Mathlib.Omega.{arith}
@@ -46,7 +46,7 @@ use Rattle.steps.specs.Rows.{opened, leads_to, move_if, move_by}
 use Rattle.steps.proofs.CoreClasses.{class_on, class_takes}
 use Rattle.tables.specs.Entry.{idle_core, held_by, started_entry, last_time}
 use Rattle.lookup.specs.declared.look.LookedUp.{LookedUp}
-use Rattle.lookup.specs.LookedUp.{looked_up, is_nothing, above_in}
+use Rattle.lookup.specs.LookedUp.{looked_up, above_in}
 use Rattle.decide.specs.declared.plan.Plan.{Plan}
 use Rattle.decide.specs.declared.plan.Plan.TheVariants.{Refuse, Take}
 use Rattle.decide.specs.Known.{kind_in, standing_in, number_in, numbered_in, first_number_in, state_in, another, is_holder, core_in, known_by}
@@ -154,7 +154,7 @@ module _ (nums ticks : List ℕ) (s : LookedUp) (e : Event) where
 
   room_in : no_room_in nums s e.kind e.word e.target_instance ≡ no_room (known_by nums ticks s e) e
   unfolding no_room_in needs_one_in no_room needs_one is_next_activation known_by
-  room_in = rw (first_in, next_in, not-not (is_nothing s.instance))
+  room_in = rw (first_in, next_in)
 
   activated_in : never_activated_in nums s e.kind e.word e.target_instance ≡ never_activated (known_by nums ticks s e) e
   unfolding never_activated_in never_activated known_by

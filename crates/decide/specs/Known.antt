@@ -1,5 +1,5 @@
 -- What the tables say of what the rules ask for: `Known` from the rows that were looked up.
-use Rattle.std.specs.Prelude.{Bool, false, not, cond, ◌&&◌, List, ℕ, suc, ◌+◌, eqb, ltb, None, Some, Option}
+use Rattle.std.specs.Prelude.{Bool, false, cond, ◌&&◌, List, ℕ, suc, ◌+◌, eqb, ltb, None, Some, Option, is_some}
 use Rattle.rules.specs.Words.{semaphore}
 use Rattle.rules.specs.Event.{Event, Instance, instance_of}
 use Rattle.rules.specs.Core.{Core, unknown, idle, held}
@@ -7,7 +7,7 @@ use Rattle.rules.specs.Refusals.{Known}
 use Rattle.steps.specs.Rows.{opened}
 use Rattle.tables.specs.Entry.{Column, entry_at, kind_column, standing_column, number_column, numbered_column, first_number_column, state_column, started_entry, last_time, name_count, core_count, instance_count, idle_core, held_by}
 use Rattle.lookup.specs.declared.look.LookedUp.{LookedUp}
-use Rattle.lookup.specs.LookedUp.{new_core, new_name, is_nothing, above_in}
+use Rattle.lookup.specs.LookedUp.{new_core, new_name, above_in}
 
 -- an entry of a column, in the row found; 0 where there is none
 unfoldable pub entry_of : Column → List ℕ → Option ℕ → ℕ
@@ -58,7 +58,7 @@ known_by nums ticks s e = record {
   names = name_count nums + new_core s + new_name s e.kind;
   cores = core_count nums + new_core s;
   entries = instance_count nums;
-  entry = not (is_nothing s.instance);
+  entry = is_some s.instance;
   state = opened (state_in nums s e.kind);
   number = number_known number_column nums s.target;
   first = number_known first_number_column nums s.target;

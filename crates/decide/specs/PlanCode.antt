@@ -1,6 +1,6 @@
 -- For the code alone: how it tests each refusal in the tables, and what it decides test after test. What is to be believed is `plan_by` (Decide), by the rules'
 -- own answer at what is known; the theorems `tests_plan_lem` and `tests_decide` (proofs/Plans) say that the two are the same.
-use Rattle.std.specs.Prelude.{Bool, not, ◌&&◌, ◌||◌, cond, List, [], ◌∷◌, ℕ, ◌+◌, eqb, leb, ltb, None, Some, Option}
+use Rattle.std.specs.Prelude.{Bool, not, ◌&&◌, ◌||◌, cond, List, [], ◌∷◌, ℕ, ◌+◌, eqb, leb, ltb, None, Some, Option, is_none}
 use Rattle.text.specs.Bytes.{same_bytes}
 use Rattle.text.specs.Sizes.{name_limit, core_limit}
 use Rattle.rules.specs.Words.{core, semaphore, increment, decrement, lock_used, full, overfull, unlock_full, used}
@@ -14,7 +14,7 @@ use Rattle.rules.specs.Refusals.{exceeds_limit, count_allowed}
 use Rattle.steps.specs.Rows.{move_by}
 use Rattle.tables.specs.Entry.{started_entry, last_time, name_count, core_count, instance_count, idle_core}
 use Rattle.lookup.specs.declared.look.LookedUp.{LookedUp}
-use Rattle.lookup.specs.LookedUp.{new_core, new_name, is_nothing, above_in}
+use Rattle.lookup.specs.LookedUp.{new_core, new_name, above_in}
 use Rattle.decide.specs.declared.plan.Plan.{Plan}
 use Rattle.decide.specs.declared.plan.Plan.TheVariants.{Refuse, Take}
 use Rattle.decide.specs.Known.{kind_in, standing_in, number_in, numbered_in, first_number_in, state_in, is_holder}
@@ -42,7 +42,7 @@ is_next_in nums f n = cond (eqb (numbered_in nums f) 0) (above_in nums f n) (eqb
 
 unfoldable pub needs_one_in : List ℕ → LookedUp → ℕ → ℕ → ℕ → Bool
 needs_one_in nums s k a n =
-    has_instances k && (is_nothing s.instance
+    has_instances k && (is_none s.instance
     && (not (exceeds_limit k a) && (not (reaches_first nums s.target n) || (activates k a && is_next_in nums s.target n))))
 
 unfoldable pub no_room_in : List ℕ → LookedUp → ℕ → ℕ → ℕ → Bool

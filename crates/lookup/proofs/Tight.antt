@@ -1,5 +1,5 @@
 -- How tight the contracts of what is looked up are: no second answer, and wrong answers that they shut out.
-use Rattle.std.proofs.Common.{None, Some, Option}
+use Rattle.std.proofs.Common.{None, Some, Option, is_none}
 use mathlib.Core.Path.{◌≡◌, refl}
 use mathlib.Core.Bool.{Bool, true, false, cond}
 use mathlib.Core.List.{List, []}
@@ -12,7 +12,7 @@ use Rattle.rules.specs.Charts.{is_process}
 use Rattle.rules.specs.Core.{no_core, takes, core_class}
 use Rattle.lookup.specs.Find.{find_name, find_instance}
 use Rattle.lookup.specs.declared.look.LookedUp.{LookedUp}
-use Rattle.lookup.specs.LookedUp.{looked_up_for, rows_added, is_nothing, above_in}
+use Rattle.lookup.specs.LookedUp.{looked_up_for, rows_added, above_in}
 
 -- ---- `find_name`, `find_instance`
 
@@ -35,7 +35,7 @@ looks kind = looked_up_for [] [] kind start 0 (bytes "C") (bytes "A")
 -- a name that is not there has no row, and not the first
 pub look_not_the_first : ShutsOut looks (λ kind. record { class = (looks kind).class; source = Some 0; target = Some 0; instance = Some 0 })
 unfolding find_name core_class is_process takes
-look_not_the_first = shut_out (λ s. is_nothing s.source) task refl refl
+look_not_the_first = shut_out (λ s. is_none s.source) task refl refl
 
 -- a runnable's start takes no core
 pub look_not_by_word :

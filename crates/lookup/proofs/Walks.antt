@@ -16,7 +16,7 @@ use Rattle.index.specs.Hash.{home_of}
 use Rattle.index.specs.Index.{place, entry, sought, home_at, index_from}
 use Rattle.index.proofs.Right.{Held, Right, place_lt}
 use Rattle.index.proofs.Indexes.{from_right}
-use Rattle.lookup.specs.Find.{row_is, ends_at, row_met, find_name, row_found, walk_name}
+use Rattle.lookup.specs.Find.{row_is, ends_at, row_met, find_name, walk_name}
 use Rattle.lookup.proofs.Found.{name_found, row_name}
 
 -- in a right index, for any test that only rows of one home pass: a search from there finds the first row that passes. Before its entry there are only
@@ -28,7 +28,7 @@ module _ (home : ℕ → ℕ) (n : ℕ) (l : List ℕ) (x : Right home n l) (h :
   passed_over : (e : ℕ) → 1 ≤ e → t (e - 1) ≡ false → ends e ≡ false
   passed_over e k f = rw (ne_eqb e 0 (λ q. omega arith), f)
 
-  seek_first : (f : Option ℕ) → first_of t 0 n ≡ f → row_met l h (sought l h ends) ≡ row_found f
+  seek_first : (f : Option ℕ) → first_of t 0 n ≡ f → row_met l h (sought l h ends) ≡ f
   seek_first (Some r) e =
       let a = first_at t n r e in
       let y : Held l h r = subst (λ h. Held l h r) (at_home r a.1) (x.held r a.0) in

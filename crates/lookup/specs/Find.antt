@@ -31,12 +31,8 @@ find_name names nums name =
     None
 
 -- by a walk of all rows, the first that holds the name. In tables that 16 does not refuse it is the same (`find_walks`, lookup/proofs/Walks.antt)
-abbrev pub row_found : Option ℕ → Option ℕ
-row_found None = None
-row_found (Some i) = Some i
-
 unfoldable pub walk_name : List ℕ → List ℕ → List ℕ → Option ℕ
-walk_name names nums name = row_found (first_of (row_is names nums name) 0 (name_count nums))
+walk_name names nums name = first_of (row_is names nums name) 0 (name_count nums)
 
 -- row j is the instance of an owner with a number
 unfoldable pub instance_is : List ℕ → ℕ → ℕ → ℕ → Bool

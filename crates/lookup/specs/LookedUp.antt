@@ -1,5 +1,5 @@
 -- What is looked up in the tables for an event line: the rows of its core, its target and its instance.
-use Rattle.std.specs.Prelude.{Bool, true, false, not, cond, List, ℕ, eqb, ltb, None, Some, Option}
+use Rattle.std.specs.Prelude.{Bool, true, false, not, cond, List, ℕ, eqb, ltb, None, Some, Option, is_none}
 use Rattle.rules.specs.Core.{no_core, core_class}
 use Rattle.rules.specs.Event.{Event}
 use Rattle.rules.specs.History.{has_instances, is_tracked}
@@ -46,10 +46,6 @@ new_name s k = rows_added (is_tracked k) s.target
 
 -- ---- a number above all that the rows have of a name
 
-abbrev pub is_nothing : Option ℕ → Bool
-is_nothing (Some i) = false
-is_nothing None = true
-
 abbrev pub above_in : List ℕ → Option ℕ → ℕ → Bool
 above_in nums None n = true
-above_in nums (Some i) n = cond (ltb i name_rows) (is_nothing (find_from nums i n)) true
+above_in nums (Some i) n = cond (ltb i name_rows) (is_none (find_from nums i n)) true

@@ -1,6 +1,6 @@
 -- While a process or runnable has no first number, each of its instances that were seen has a row: so a number is above all that the rows have of it exactly if it is above all
 -- that were seen of it.
-use Rattle.std.proofs.Common.{None, Some, Option}
+use Rattle.std.proofs.Common.{None, Some, Option, is_none}
 use mathlib.Core.Path.{◌≡◌, refl, sym, ap, subst, ◌∙◌}
 use mathlib.Core.Bool.{Bool, true, false, not, cond}
 use mathlib.Core.List.{List}
@@ -20,7 +20,7 @@ use Rattle.rules.proofs.Activations.{what_from, is_from_lem}
 use Rattle.rules.proofs.Entries.{entry_listed, none_given_back}
 use Rattle.tables.specs.Entry.{name_rows, instance_count}
 use Rattle.lookup.specs.Find.{last_below, reaches_in}
-use Rattle.lookup.specs.LookedUp.{is_nothing, above_in}
+use Rattle.lookup.specs.LookedUp.{above_in}
 use Rattle.lookup.proofs.Found.{last_at, last_none, from_found, reaches_means}
 use Rattle.judge.specs.Feed.{Tables}
 use Rattle.promises.specs.Places.{seek, row_of}
@@ -45,7 +45,7 @@ module _ (h : List Event) (a : Accepted h) (t : Tables) (s : Shown h t) (k : ℕ
     abbrev rows : ℕ → Bool
     rows = reaches_in t.nums (row_of h n) i
 
-    by_found : (r : Option ℕ) → last_below rows (instance_count t.nums) ≡ r → is_nothing r ≡ not seen
+    by_found : (r : Option ℕ) → last_below rows (instance_count t.nums) ≡ r → is_none r ≡ not seen
     by_found (Some j) p =
         let l = last_at rows (instance_count t.nums) j p in
         let c = (reaches_means t.nums (row_of h n) i j).holds l.1 in

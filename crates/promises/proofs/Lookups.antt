@@ -1,6 +1,6 @@
 -- What is looked up in tables that show a history: a name's row is its place in the list of the names, and an instance's row is one that shows it, so
 -- an event line finds in the tables what the history has. And the rows of names to which a line that is taken stores are those of the longer history.
-use Rattle.std.proofs.Common.{None, Some, Option}
+use Rattle.std.proofs.Common.{None, Some, Option, is_some}
 use mathlib.Core.Path.{◌≡◌, refl, sym, ap, subst, ◌∙◌}
 use mathlib.Core.Bool.{Bool, true, false, not, ◌&&◌, cond}
 use mathlib.Core.List.{List, ◌∷◌}
@@ -27,10 +27,10 @@ use Rattle.rules.proofs.Tracked.{target_is}
 use Rattle.rules.proofs.Seen.{own_number}
 use Rattle.steps.proofs.CoreClasses.{class_on}
 use Rattle.tables.specs.Entry.{instance_rows, name_rows, name_count, instance_count, name_at}
-use Rattle.lookup.specs.Find.{last_below, row_is, find_name, row_found, walk_name, instance_is, find_instance}
+use Rattle.lookup.specs.Find.{last_below, row_is, find_name, walk_name, instance_is, find_instance}
 use Rattle.lookup.proofs.Found.{last_at, last_none, instance_found, row_name, name_row, instance_means}
 use Rattle.lookup.proofs.Walks.{find_walks}
-use Rattle.lookup.specs.LookedUp.{look_if, instance_in, looked_up, rows_added, new_core, new_name, is_nothing}
+use Rattle.lookup.specs.LookedUp.{look_if, instance_in, looked_up, rows_added, new_core, new_name}
 use Rattle.store.specs.Store.{row_or, core_row, target_row}
 use Rattle.judge.specs.Feed.{Tables}
 use Rattle.promises.specs.Places.{place, seek, row_of}
@@ -60,10 +60,10 @@ module _ {A : Type 0} (f : ℕ → Bool) (g : A → Bool) (xs : List A)
       by_test true t = absurd (clash (f (place g xs)) (there t) (q (place g xs) (place_bound g xs t)))
       by_test false t = refl
 
-  first_sought : row_found (first_of f 0 (length xs)) ≡ seek g xs
-  first_sought = searched (row_found (first_of f 0 (length xs))) (by_found (first_of f 0 (length xs)) refl)
+  first_sought : first_of f 0 (length xs) ≡ seek g xs
+  first_sought = searched (first_of f 0 (length xs)) (by_found (first_of f 0 (length xs)) refl)
     where
-      by_found : (r : Option ℕ) → first_of f 0 (length xs) ≡ r → Searched (row_found r)
+      by_found : (r : Option ℕ) → first_of f 0 (length xs) ≡ r → Searched r
       by_found (Some i) q = let p = first_at f (length xs) i q in (p.0, p.1)
       by_found None q = first_none f (length xs) q
 
@@ -83,7 +83,7 @@ module _ (h : List Event) (a : Accepted h) (m : AllMet h) (t : Tables) (s : Show
   unfolding walk_name
   found_name n =
       find_walks t.names t.nums s.sized.names_sized s.sized.nums_sized (omega (arith, s.singles.names_counted, (all_fit h a).names_fit)) s.indexed n
-      ∙ ap (λ (k : ℕ). row_found (first_of (row_is t.names t.nums n) 0 k)) s.singles.names_counted
+      ∙ ap (λ (k : ℕ). first_of (row_is t.names t.nums n) 0 k) s.singles.names_counted
       ∙ first_sought (row_is t.names t.nums n) (same_bytes n) (names h) told there
     where
       told : (i : ℕ) → i < length (names h) → row_is t.names t.nums n i ≡ true → (any (same_bytes n) (names h) ≡ true) × (row_of h n ≡ i)
@@ -160,10 +160,10 @@ module _ (h : List Event) (a : Accepted h) (m : AllMet h) (t : Tables) (s : Show
   }
 
   -- there is a row exactly for an instance that has an entry
-  pub entry_told : (e : Event) → second_kind (look h e) e ≡ false → has_instances e.kind ≡ true → not (is_nothing (looked_up_in h t e).instance) ≡ has_entry h (instance_of e)
+  pub entry_told : (e : Event) → second_kind (look h e) e ≡ false → has_instances e.kind ≡ true → is_some (looked_up_in h t e).instance ≡ has_entry h (instance_of e)
   entry_told e k i = by_found (looked_up_in h t e).instance (looked_up_instance e k i)
     where
-      by_found : (r : Option ℕ) → InstanceFound h t.nums (instance_of e) r → not (is_nothing r) ≡ has_entry h (instance_of e)
+      by_found : (r : Option ℕ) → InstanceFound h t.nums (instance_of e) r → is_some r ≡ has_entry h (instance_of e)
       by_found (Some j) p = sym p.0
       by_found None p = sym p
 

@@ -9,8 +9,8 @@ returns-in_default c = rw c.in_default.is
 
 pub returns-then-rows-i : goal.returns-then-rows-i
 unfolding entry_of
-returns-then-rows-i c = rw (c.in-At.is, le-ltb _ _ c.if-rows-i.true)
+returns-then-rows-i c = rw (c.in-Some.is, le-ltb _ _ c.if-rows-i.true)
 
 pub returns : goal.returns
 unfolding entry_of
-returns c = rw (c.in-At.is, lt-ltb _ _ c.if-rows-i.false)
+returns c = rw (c.in-Some.is, lt-ltb _ _ c.if-rows-i.false)

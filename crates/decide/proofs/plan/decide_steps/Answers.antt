@@ -8,11 +8,11 @@ returns-in_default c = rw (← c.state_in.ensures, ← c.chart_step-m.ensures, c
 
 pub returns-then-never_activated : goal.returns-then-never_activated
 unfolding steps_plan
-returns-then-never_activated c = rw (← c.state_in.ensures, ← c.chart_step-m.ensures, c.in-To.is, ← c.never_activated.ensures, c.if-never_activated.true)
+returns-then-never_activated c = rw (← c.state_in.ensures, ← c.chart_step-m.ensures, c.in-Some.is, ← c.never_activated.ensures, c.if-never_activated.true)
 
 pub returns-then-not_next : goal.returns-then-not_next
 unfolding steps_plan
-returns-then-not_next c = rw (← c.state_in.ensures, ← c.chart_step-m.ensures, c.in-To.is, ← c.never_activated.ensures, c.if-never_activated.false, ← c.not_next.ensures, c.if-not_next.true)
+returns-then-not_next c = rw (← c.state_in.ensures, ← c.chart_step-m.ensures, c.in-Some.is, ← c.never_activated.ensures, c.if-never_activated.false, ← c.not_next.ensures, c.if-not_next.true)
 
 pub returns-then-core_broken : goal.returns-then-core_broken
 unfolding steps_plan
@@ -20,7 +20,7 @@ returns-then-core_broken c =
     rw (
       ← c.state_in.ensures,
       ← c.chart_step-m.ensures,
-      c.in-To.is,
+      c.in-Some.is,
       ← c.never_activated.ensures,
       c.if-never_activated.false,
       ← c.not_next.ensures,
@@ -35,7 +35,7 @@ returns-then-count_broken c =
     rw (
       ← c.state_in.ensures,
       ← c.chart_step-m.ensures,
-      c.in-To.is,
+      c.in-Some.is,
       ← c.never_activated.ensures,
       c.if-never_activated.false,
       ← c.not_next.ensures,
@@ -52,7 +52,7 @@ returns c =
     rw (
       ← c.state_in.ensures,
       ← c.chart_step-m.ensures,
-      c.in-To.is,
+      c.in-Some.is,
       ← c.never_activated.ensures,
       c.if-never_activated.false,
       ← c.not_next.ensures,

@@ -6,9 +6,9 @@ pub returns-then-not-with_instances : goal.returns-then-not-with_instances
 unfolding needs_one_in
 returns-then-not-with_instances c = rw (← c.with_instances.ensures, c.if-not-with_instances.true)
 
-pub returns-in-At : goal.returns-in-At
+pub returns-then-is_some : goal.returns-then-is_some
 unfolding needs_one_in
-returns-in-At c = rw (← c.with_instances.ensures, c.if-not-with_instances.false, c.in-At.is)
+returns-then-is_some c = rw (← c.with_instances.ensures, c.if-not-with_instances.false, ← c.is_some.ensures, c.if-is_some.true)
 
 pub returns-then-exceeds_limit : goal.returns-then-exceeds_limit
 unfolding needs_one_in
@@ -16,7 +16,8 @@ returns-then-exceeds_limit c =
     rw (
       ← c.with_instances.ensures,
       c.if-not-with_instances.false,
-      c.in_default.is,
+      ← c.is_some.ensures,
+      c.if-is_some.false,
       ← c.exceeds_limit.ensures,
       c.if-exceeds_limit.true,
     )
@@ -27,7 +28,8 @@ returns-then-not-reaches_first c =
     rw (
       ← c.with_instances.ensures,
       c.if-not-with_instances.false,
-      c.in_default.is,
+      ← c.is_some.ensures,
+      c.if-is_some.false,
       ← c.exceeds_limit.ensures,
       c.if-exceeds_limit.false,
       ← c.reaches_first.ensures,
@@ -40,7 +42,8 @@ returns c =
     rw (
       ← c.with_instances.ensures,
       c.if-not-with_instances.false,
-      c.in_default.is,
+      ← c.is_some.ensures,
+      c.if-is_some.false,
       ← c.exceeds_limit.ensures,
       c.if-exceeds_limit.false,
       ← c.reaches_first.ensures,

@@ -7,8 +7,8 @@ use Rattle.input.proofs.reads.one_read.Goals as goal
 pub returns-in_default : goal.returns-in_default
 returns-in_default g c = one_last c.in-Bytes.ensures.1 c.in-Bytes.ensures.0 (omega arith) (λ i. search rules) _ c.take_chunk.ensures c.in_default.is
 
-pub returns-in-More : goal.returns-in-More
-returns-in-More g c = (more_short _ _ _ _ c.take_chunk.ensures c.in-More.is, one_more c.in-Bytes.ensures.1 c.in-Bytes.ensures.0 (omega arith) (λ i. search rules) _ c.take_chunk.ensures c.in-More.is)
+pub returns-in-Some : goal.returns-in-Some
+returns-in-Some g c = (more_short _ _ _ _ c.take_chunk.ensures c.in-Some.is, one_more c.in-Bytes.ensures.1 c.in-Bytes.ensures.0 (omega arith) (λ i. search rules) _ c.take_chunk.ensures c.in-Some.is)
 
 pub returns-in-End : goal.returns-in-End
 returns-in-End g c = at_end_lem _ c.in-End.ensures c.take_last.ensures

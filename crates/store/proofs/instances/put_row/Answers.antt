@@ -4,9 +4,9 @@ use Rattle.tables.specs.Entry.{instance_rows}
 use Rattle.store.specs.Store.{put_row}
 use Rattle.store.proofs.instances.put_row.Goals as goal
 
-pub returns-in-At : goal.returns-in-At
+pub returns-in-Some : goal.returns-in-Some
 unfolding put_row
-returns-in-At c = rw c.in-At.is c.store_instance.ensures
+returns-in-Some c = rw c.in-Some.is c.store_instance.ensures
 
 pub returns-then-n-ge-INSTANCE_LIMIT : goal.returns-then-n-ge-INSTANCE_LIMIT
 unfolding put_row

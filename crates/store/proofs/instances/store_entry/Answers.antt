@@ -12,9 +12,9 @@ pub returns-then-needs_row : goal.returns-then-needs_row
 unfolding with_entry
 returns-then-needs_row c = rw (sym c.with_instances.ensures ∙ c.if-not-with_instances.false, sym c.needs_row.ensures ∙ c.if-needs_row.true) c.put_row.ensures
 
-pub returns-in-At : goal.returns-in-At
+pub returns-in-Some : goal.returns-in-Some
 unfolding with_entry without_row
-returns-in-At c = rw (sym c.with_instances.ensures ∙ c.if-not-with_instances.false, sym c.needs_row.ensures ∙ c.if-needs_row.false, c.in-At.is) c.give_back.ensures
+returns-in-Some c = rw (sym c.with_instances.ensures ∙ c.if-not-with_instances.false, sym c.needs_row.ensures ∙ c.if-needs_row.false, c.in-Some.is) c.give_back.ensures
 
 pub returns-in_default : goal.returns-in_default
 unfolding with_entry without_row

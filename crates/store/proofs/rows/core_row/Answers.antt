@@ -8,10 +8,10 @@ pub overflow_cast-result : goal.overflow_cast-result
 unfolding core_row
 overflow_cast-result c = omega (arith, c.type_inv.nums names_index)
 
-pub returns-in-At : goal.returns-in-At
+pub returns-in-Some : goal.returns-in-Some
 unfolding core_row
-returns-in-At c = rw c.in-At.is
+returns-in-Some c = rw c.in-Some.is
 
-pub returns-in-Nothing : goal.returns-in-Nothing
+pub returns-in-None : goal.returns-in-None
 unfolding core_row
-returns-in-Nothing c = rw c.in-Nothing.is
+returns-in-None c = rw c.in-None.is

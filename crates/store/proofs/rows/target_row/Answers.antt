@@ -2,10 +2,10 @@
 use Rattle.store.specs.Store.{target_row}
 use Rattle.store.proofs.rows.target_row.Goals as goal
 
-pub returns-in-At : goal.returns-in-At
+pub returns-in-Some : goal.returns-in-Some
 unfolding target_row
-returns-in-At c = rw c.in-At.is
+returns-in-Some c = rw c.in-Some.is
 
-pub returns-in-Nothing : goal.returns-in-Nothing
+pub returns-in-None : goal.returns-in-None
 unfolding target_row
-returns-in-Nothing c = rw (c.in-Nothing.is, c.new_core-core.ensures)
+returns-in-None c = rw (c.in-None.is, c.new_core-core.ensures)
