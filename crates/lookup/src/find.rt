@@ -57,12 +57,10 @@ fn sixteen(nums: &[u32], owner: u32, number: u32, at: usize) -> u32
 {
     let mut m: u32 = 0;
     let mut w: u32 = 1;
-    let mut k = 0;
-    while k < 16 {
+    for k in 0..16 {
         let j = at + k;
         m = m + weight(nums[INSTANCE + j], nums[OWNER + j], number, owner, w);
         w = w + w;
-        k += 1;
     }
     m
 }

@@ -16,10 +16,8 @@ fn eight_differ(row: &[u8], name: &[u8], at: usize) -> bool
         × (result ≡ false → drop (at + 8) row.now ≡ drop (at + 8) name.now → drop at row.now ≡ drop at name.now) }
 {
     let mut differ = false;
-    let mut k = 0;
-    while k < 8 {
+    for k in 0..8 {
         differ = differ | (row[at + k] != name[at + k]);
-        k += 1;
     }
     differ
 }

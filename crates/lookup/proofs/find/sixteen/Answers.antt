@@ -11,7 +11,7 @@ use Rattle.lookup.proofs.find.sixteen.Goals as goal
 
 pub loop-k-init : goal.loop-k-init
 unfolding marks_from
-loop-k-init c = (search rules, refl, refl)
+loop-k-init c = (refl, refl)
 
 -- the marks so far are a number of at most sixteen digits
 pub overflow_add-m : goal.overflow_add-m
@@ -20,7 +20,7 @@ overflow_add-m c =
     let k = c.loop-k.k in
     omega (
       arith,
-      row_marked a.nums.now a.owner a.number a.at k _ _ _ (search rules) c.loop-k.invariant.1 c.loop-k.invariant.2 c.weight-m.ensures,
+      row_marked a.nums.now a.owner a.number a.at k _ _ _ (search rules) c.loop-k.invariant.0 c.loop-k.invariant.1 c.weight-m.ensures,
       marks_lt (instance_is a.nums.now a.owner a.number) (k + 1) a.at,
       pow_mono {i = k + 1} {j = 16} (search rules),
     )
@@ -28,7 +28,6 @@ overflow_add-m c =
 pub loop-k-preserved : goal.loop-k-preserved
 loop-k-preserved c =
     let a = c.args in (
-      search rules,
-      row_marked a.nums.now a.owner a.number a.at c.loop-k.k _ _ _ (search rules) c.loop-k.invariant.1 c.loop-k.invariant.2 c.weight-m.ensures,
-      weight_next c.loop-k.k c.loop-k.w c.loop-k.invariant.2,
+      row_marked a.nums.now a.owner a.number a.at c.loop-k.k _ _ _ (search rules) c.loop-k.invariant.0 c.loop-k.invariant.1 c.weight-m.ensures,
+      weight_next c.loop-k.k c.loop-k.w c.loop-k.invariant.1,
     )

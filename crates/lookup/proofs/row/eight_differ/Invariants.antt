@@ -2,13 +2,10 @@
 -- from `at` on if they are from at + k on.
 use mathlib.Core.Path.{◌≡◌}
 use mathlib.Core.Bool.{true, false}
-use Prim.Native.Nat.{◌+◌, ◌-◌, ◌≤◌}
+use Prim.Native.Nat.{◌+◌}
 use lib.ListN.{drop}
 use Rattle.text.specs.Bytes.{same_bytes}
 use Rattle.lookup.proofs.row.eight_differ.Given as goal
 
 abbrev pub invariant-loop-k : goal.invariant-loop-k
-invariant-loop-k l = (l.k ≤ 8) × (l.differ ≡ true → same_bytes l.row l.name ≡ false) × (l.differ ≡ false → drop (l.at + l.k) l.row ≡ drop (l.at + l.k) l.name → drop l.at l.row ≡ drop l.at l.name)
-
-abbrev pub decreases-loop-k : goal.decreases-loop-k
-decreases-loop-k l = 8 - l.k
+invariant-loop-k l = (l.differ ≡ true → same_bytes l.row l.name ≡ false) × (l.differ ≡ false → drop (l.at + l.k) l.row ≡ drop (l.at + l.k) l.name → drop l.at l.row ≡ drop l.at l.name)
