@@ -5,24 +5,24 @@ use Rattle.ranges.proofs.Valid.{valid}
 use Rattle.sheet.specs.Sheet.{rows_to, rows_in}
 use Rattle.sheet.proofs.Rows.{length_in, row_out}
 use Rattle.sheet.proofs.Short.{row_short, rows_short}
-use Rattle.outcome.proofs.section.rows_length.Goals as goal
-use Rattle.outcome.proofs.section.rows_length.Goals.{then-in_section, else-in_section}
+use Rattle.outcome.proofs.tested.Tested.rows_length.Goals as goal
+use Rattle.outcome.proofs.tested.Tested.rows_length.Goals.{then-in_section, else-in_section}
 
-pub bounds-nums-7 : goal.bounds-nums-7
-bounds-nums-7 c = omega (arith, valid _ _ _ c.requires)
+pub bounds-self-7 : goal.bounds-self-7
+bounds-self-7 c = omega (arith, valid _ _ _ c.args.self.in_range)
 
-pub bounds-nums-i : goal.bounds-nums-i
-bounds-nums-i c = omega (arith, valid _ _ _ c.requires)
+pub bounds-self-i : goal.bounds-self-i
+bounds-self-i c = omega (arith, valid _ _ _ c.args.self.in_range)
 
 pub loop-i-init : goal.loop-i-init
 unfolding rows_to rows_text
 loop-i-init c =
-    let v = valid _ _ _ c.requires in
+    let v = valid _ _ _ c.args.self.in_range in
     (v.name_count_lem, refl)
 
 pub overflow_add-sum : goal.overflow_add-sum
 overflow_add-sum c =
-    let v = valid _ _ _ c.requires in
+    let v = valid _ _ _ c.args.self.in_range in
     let row = row_short v c.args.section c.loop-i.i c.loop-i-test.true in
     let rows = rows_short v c.args.section c.loop-i.i c.loop-i.auto.i-end in
     omega (arith, row, rows)
@@ -35,12 +35,12 @@ loop-i-preserved c =
       inv.0,
       elim c.if-in_section.branch [
         | then-in_section w ↦ w.sum-is ∙ rw (inv.1, w.row_length-sum.ensures) (sym (length_in _ _ _ _ _ (e ∙ w.if-in_section.true)))
-        | else-in_section w ↦ rw (row_out a.section a.names.now a.nums.now a.ticks.now c.loop-i.i (e ∙ w.if-in_section.false)) (w.sum-is ∙ inv.1)
+        | else-in_section w ↦ rw (row_out a.section a.self.names.now a.self.nums.now a.self.ticks.now c.loop-i.i (e ∙ w.if-in_section.false)) (w.sum-is ∙ inv.1)
       ],
     )
 
 pub returns : goal.returns
 unfolding rows_in
 returns c =
-    let e : c.loop-i.i ≡ name_count c.args.nums.now = omega arith in
+    let e : c.loop-i.i ≡ name_count c.args.self.nums.now = omega arith in
     c.loop-i.invariant.1 ∙ rw e

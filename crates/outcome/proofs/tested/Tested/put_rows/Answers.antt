@@ -5,25 +5,25 @@ use Rattle.tables.specs.Entry.{name_count}
 use Rattle.ranges.proofs.Valid.{valid}
 use Rattle.sheet.specs.Sheet.{rows_to, rows_in}
 use Rattle.sheet.proofs.Rows.{row_out, line_room, line_put}
-use Rattle.outcome.proofs.section.put_rows.Goals as goal
-use Rattle.outcome.proofs.section.put_rows.Goals.{then-in_section, else-in_section}
+use Rattle.outcome.proofs.tested.Tested.put_rows.Goals as goal
+use Rattle.outcome.proofs.tested.Tested.put_rows.Goals.{then-in_section, else-in_section}
 
-pub bounds-nums-7 : goal.bounds-nums-7
-bounds-nums-7 c = omega (arith, valid _ _ _ c.requires.0)
+pub bounds-self-7 : goal.bounds-self-7
+bounds-self-7 c = omega (arith, valid _ _ _ c.args.self.in_range)
 
-pub bounds-nums-i : goal.bounds-nums-i
-bounds-nums-i c = omega (arith, valid _ _ _ c.requires.0)
+pub bounds-self-i : goal.bounds-self-i
+bounds-self-i c = omega (arith, valid _ _ _ c.args.self.in_range)
 
 pub loop-i-init : goal.loop-i-init
 unfolding rows_to rows_text
 loop-i-init c =
-    let v = valid _ _ _ c.requires.0 in
+    let v = valid _ _ _ c.args.self.in_range in
     (v.name_count_lem, sym (put_none _ _ (omega arith)))
 
 pub put_row-next-requires : goal.put_row-next-requires
 put_row-next-requires c =
     let e = sym c.in_section.ensures ∙ c.if-in_section.true in
-    (c.requires.0, (c.loop-i-test.true, line_room _ _ _ _ _ _ _ e c.loop-i-test.true c.requires.1 c.loop-i.invariant.1))
+    ((c.loop-i-test.true, line_room _ _ _ _ _ _ _ e c.loop-i-test.true c.requires c.loop-i.invariant.1))
 
 pub loop-i-preserved : goal.loop-i-preserved
 loop-i-preserved c =
@@ -33,13 +33,13 @@ loop-i-preserved c =
       inv.0,
       elim c.if-in_section.branch [
         | then-in_section w ↦
-            rw (w.next-is, w.out-is) (line_put _ _ _ _ _ _ _ (e ∙ w.if-in_section.true) c.loop-i-test.true c.requires.1 inv.1 w.put_row-next.ensures)
-        | else-in_section w ↦ rw (w.next-is, w.out-is, row_out a.section a.names.now a.nums.now a.ticks.now c.loop-i.i (e ∙ w.if-in_section.false)) inv.1
+            rw (w.next-is, w.out-is) (line_put _ _ _ _ _ _ _ (e ∙ w.if-in_section.true) c.loop-i-test.true c.requires inv.1 w.put_row-next.ensures)
+        | else-in_section w ↦ rw (w.next-is, w.out-is, row_out a.section a.self.names.now a.self.nums.now a.self.ticks.now c.loop-i.i (e ∙ w.if-in_section.false)) inv.1
       ],
     )
 
 pub returns : goal.returns
 unfolding rows_in
 returns c =
-    let e : c.loop-i.i ≡ name_count c.args.nums.now = omega arith in
+    let e : c.loop-i.i ≡ name_count c.args.self.nums.now = omega arith in
     c.loop-i.invariant.1 ∙ rw e
