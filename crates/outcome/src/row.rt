@@ -53,6 +53,7 @@ fn put_figures(
     }
 }
 
+#[tactic(auto, using(ranges::proofs::Valid::valid))]
 impl<'a> Tested<'a> {
     // How many bytes the line of the row i takes with its end.
     pub(crate) fn row_length(self, section: Section, i: usize) -> usize

@@ -21,6 +21,7 @@ fn in_section(section: Section, kind: u32) -> bool
     }
 }
 
+#[tactic(auto, using(ranges::proofs::Valid::valid))]
 impl<'a> Tested<'a> {
     // How many names stand in a section.
     fn rows_count(self, section: Section) -> usize

@@ -9,29 +9,6 @@ use Rattle.sheet.specs.Sheet.{row_in}
 use Rattle.sheet.proofs.Rooms.{row_room}
 use Rattle.outcome.proofs.tested.Tested.put_row.Goals as goal
 
--- where the name lies
-pub overflow_mul-start : goal.overflow_mul-start
-overflow_mul-start c = omega (arith, valid _ _ _ c.args.self.in_range)
-
-pub overflow_add-end : goal.overflow_add-end
-overflow_add-end c = omega (arith, valid _ _ _ c.args.self.in_range)
-
-pub offset_bounds-self-i : goal.offset_bounds-self-i
-offset_bounds-self-i c = omega (arith, valid _ _ _ c.args.self.in_range)
-
-pub bounds-self-i : goal.bounds-self-i
-bounds-self-i c = omega (arith, valid _ _ _ c.args.self.in_range)
-
-pub overflow_add-end-2 : goal.overflow_add-end-2
-overflow_add-end-2 c =
-    let v = valid _ _ _ c.args.self.in_range in
-    omega (arith, v, v.name_row c.args.i c.requires.0)
-
-pub slice_bounds-put_bytes-end : goal.slice_bounds-put_bytes-end
-slice_bounds-put_bytes-end c =
-    let v = valid _ _ _ c.args.self.in_range in
-    omega (arith, v, v.name_row c.args.i c.requires.0)
-
 pub put_figures-two-requires : goal.put_figures-two-requires
 put_figures-two-requires c =
     let a = c.args in

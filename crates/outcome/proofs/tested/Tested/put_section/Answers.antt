@@ -13,7 +13,7 @@ pub put_rows-requires : goal.put_rows-requires
 put_rows-requires c =
     let count = rw c.rows_count-count.ensures at c.put_number-two.ensures in
     let room = next_room (next_room (section_room _ _ _ _ c.requires) c.put_title-one.ensures) count in
-    (first_room (next_room room c.put_bytes-three.ensures))
+    first_room (next_room room c.put_bytes-three.ensures)
 
 pub returns : goal.returns
 unfolding section_text

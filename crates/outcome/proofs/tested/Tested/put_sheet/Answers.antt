@@ -7,10 +7,10 @@ use Rattle.sheet.proofs.Written.{sheet_room, sheet_put}
 use Rattle.outcome.proofs.tested.Tested.put_sheet.Goals as goal
 
 pub put_section-next-requires : goal.put_section-next-requires
-put_section-next-requires c = (first_room (sheet_room _ _ _ _ c.requires))
+put_section-next-requires c = first_room (sheet_room _ _ _ _ c.requires)
 
 pub put_section-requires : goal.put_section-requires
-put_section-requires c = (first_room (next_room (sheet_room _ _ _ _ c.requires) c.put_section-next.ensures))
+put_section-requires c = first_room (next_room (sheet_room _ _ _ _ c.requires) c.put_section-next.ensures)
 
 pub returns : goal.returns
 returns c =

@@ -1,21 +1,9 @@
 -- `outcome::tested::Tested::row_length` meets its contract: the name, the figures and the end. No sum wraps, since a line is short.
-use Rattle.std.proofs.Common.{arith, rules}
+use Rattle.std.proofs.Common.{arith}
 use Rattle.bill.proofs.Texts.{length_row}
 use Rattle.ranges.proofs.Valid.{valid}
 use Rattle.sheet.proofs.Short.{name_sized, row_short}
 use Rattle.outcome.proofs.tested.Tested.row_length.Goals as goal
-
-pub overflow_add-name : goal.overflow_add-name
-overflow_add-name c = omega (arith, valid _ _ _ c.args.self.in_range)
-
-pub offset_bounds-self-i : goal.offset_bounds-self-i
-offset_bounds-self-i c = omega (arith, valid _ _ _ c.args.self.in_range)
-
-pub bounds-self-i : goal.bounds-self-i
-bounds-self-i c = omega (arith, valid _ _ _ c.args.self.in_range)
-
-pub figures_length-requires : goal.figures_length-requires
-figures_length-requires c = let v = valid _ _ _ c.args.self.in_range in search rules
 
 pub overflow_add-result : goal.overflow_add-result
 overflow_add-result c =
