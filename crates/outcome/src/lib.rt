@@ -7,4 +7,5 @@ pub mod figure;
 pub mod now;
 pub mod row;
 pub mod section;
+mod tested;
 pub mod whole;

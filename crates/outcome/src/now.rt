@@ -2,13 +2,12 @@
 ghost use Rattle.std.specs.Prelude.{◌≡◌, ◌≤◌, length};
 ghost use Rattle.text.specs.Put.{written};
 ghost use Rattle.bill.specs.Text.{sheet_text};
-ghost use Rattle.ranges.specs.Range.{table_answer};
 ghost use Rattle.sheet.specs.Sheet.{sheet_in};
 ghost use Rattle.judge.specs.Feed.{tables};
 ghost use Rattle.outcome.specs.Outcome.{asked, refused_by, outcome_in};
 
 use crate::at_end::verdict_in;
-use crate::section::{put_section, section_length};
+use crate::tested::Tested;
 use bill::section::Section;
 use bill::verdict::Verdict;
 use ranges::range::table_answer;
@@ -23,25 +22,25 @@ pub struct Outcome {
 // No sheet is longer: `sheet_fits`.
 pub const SHEET_MOST: usize = 65600;
 
-// How many bytes the sheet takes.
-fn sheet_length(names: &[u8], nums: &[u32], ticks: &[u64]) -> usize
-    requires { table_answer names.now nums.now ticks.now ≡ 0 }
-    ensures { result ≡ length (sheet_text (sheet_in names.now nums.now ticks.now)) }
-{
-    let cores = section_length(names, nums, ticks, Section::Cores);
-    let processes = section_length(names, nums, ticks, Section::Processes);
-    cores + processes
-}
+impl<'a> Tested<'a> {
+    // How many bytes the sheet takes.
+    fn sheet_length(self) -> usize
+        ensures { result ≡ length (sheet_text (sheet_in self.entry.names.now self.entry.nums.now self.entry.ticks.now)) }
+    {
+        let cores = self.section_length(Section::Cores);
+        let processes = self.section_length(Section::Processes);
+        cores + processes
+    }
 
-// Writes the sheet at the front of the output; the rest of it stays as it is.
-fn put_sheet(names: &[u8], nums: &[u32], ticks: &[u64], out: &mut [u8])
-    requires { (table_answer names.now nums.now ticks.now ≡ 0)
-        × (length (sheet_text (sheet_in names.now nums.now ticks.now)) ≤ length out.old) }
-    ensures { out.new
-        ≡ written out.old 0 (sheet_text (sheet_in names.now nums.now ticks.now)) }
-{
-    let next = put_section(names, nums, ticks, Section::Cores, out, 0);
-    put_section(names, nums, ticks, Section::Processes, out, next);
+    // Writes the sheet at the front of the output; the rest of it stays as it is.
+    fn put_sheet(self, out: &mut [u8])
+        requires { length (sheet_text (sheet_in self.names.now self.nums.now self.ticks.now)) ≤ length out.old }
+        ensures { out.new
+            ≡ written out.old 0 (sheet_text (sheet_in self.entry.names.now self.entry.nums.now self.entry.ticks.now)) }
+    {
+        let next = self.put_section(Section::Cores, out, 0);
+        self.put_section(Section::Processes, out, next);
+    }
 }
 
 // What is answered where the tables or the output are refused.
@@ -65,11 +64,12 @@ pub fn outcome_now(names: &[u8], nums: &[u32], ticks: &[u64], out: &mut [u8]) ->
     if t != 0 {
         return refused(t);
     }
-    let length = sheet_length(names, nums, ticks);
+    let tables = Tested { names, nums, ticks };
+    let length = tables.sheet_length();
     if out.len() < length {
         return refused(15);
     }
-    put_sheet(names, nums, ticks, out);
+    tables.put_sheet(out);
     let verdict = verdict_in(nums, ticks);
     Outcome { verdict, length }
 }

@@ -3,10 +3,10 @@ ghost use Rattle.std.specs.Prelude.{◌≡◌, ◌+◌, ◌<◌, ◌≤◌, leng
 ghost use Rattle.text.specs.Put.{put, after};
 ghost use Rattle.bill.specs.Text.{figures_text, row_text};
 ghost use Rattle.tables.specs.Entry.{name_count, nums_size, ticks_size, name_rows};
-ghost use Rattle.ranges.specs.Range.{table_answer};
 ghost use Rattle.sheet.specs.Sheet.{figures_in, row_in};
 
 use crate::figure::{charge, held_ticks, idle_ticks};
+use crate::tested::Tested;
 use bill::figure::put_figure;
 use bill::section::Section;
 use tables::entry::*;
@@ -53,39 +53,28 @@ fn put_figures(
     }
 }
 
-// How many bytes the line of the row i takes with its end.
-pub(crate) fn row_length(
-    names: &[u8],
-    nums: &[u32],
-    ticks: &[u64],
-    section: Section,
-    i: usize,
-) -> usize
-    requires { (table_answer names.now nums.now ticks.now ≡ 0) × (i < name_count nums.now) }
-    ensures { result ≡ length (row_text (row_in section names.now nums.now ticks.now i)) }
-{
-    let name = nums[LENGTH + i] as usize;
-    name + figures_length(nums, ticks, section, i) + 1
-}
+#[tactic(auto, using(ranges::proofs::Valid::valid))]
+impl<'a> Tested<'a> {
+    // How many bytes the line of the row i takes with its end.
+    pub(crate) fn row_length(self, section: Section, i: usize) -> usize
+        requires { i < name_count self.nums.now }
+        ensures { result ≡ length (row_text (row_in section self.entry.names.now self.entry.nums.now self.entry.ticks.now i)) }
+    {
+        let name = self.nums[LENGTH + i] as usize;
+        name + figures_length(self.nums, self.ticks, section, i) + 1
+    }
 
-// Writes the line of the row i with its end.
-pub(crate) fn put_row(
-    names: &[u8],
-    nums: &[u32],
-    ticks: &[u64],
-    section: Section,
-    i: usize,
-    out: &mut [u8],
-    at: usize,
-) -> usize
-    requires { (table_answer names.now nums.now ticks.now ≡ 0)
-        × ((i < name_count nums.now) × (at + length (row_text (row_in section names.now nums.now ticks.now i)) ≤ length out.old)) }
-    ensures { after result out.new
-        ≡ put out.old at (row_text (row_in section names.now nums.now ticks.now i)) }
-{
-    let start = NAME_ROOM * i;
-    let end = start + nums[LENGTH + i] as usize;
-    let one = put_bytes(&names[start..end], out, at);
-    let two = put_figures(nums, ticks, section, i, out, one);
-    put_bytes(b"\n", out, two)
+    // Writes the line of the row i with its end.
+    pub(crate) fn put_row(self, section: Section, i: usize, out: &mut [u8], at: usize) -> usize
+        requires { (i < name_count self.nums.now)
+            × (at + length (row_text (row_in section self.names.now self.nums.now self.ticks.now i)) ≤ length out.old) }
+        ensures { after result out.new
+            ≡ put out.old at (row_text (row_in section self.entry.names.now self.entry.nums.now self.entry.ticks.now i)) }
+    {
+        let start = NAME_ROOM * i;
+        let end = start + self.nums[LENGTH + i] as usize;
+        let one = put_bytes(&self.names[start..end], out, at);
+        let two = put_figures(self.nums, self.ticks, section, i, out, one);
+        put_bytes(b"\n", out, two)
+    }
 }

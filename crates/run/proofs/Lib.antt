@@ -1,5 +1,4 @@
 -- The laws of reading and printing.
-pub mod Shifts
 pub mod Turns
 pub mod Carried
 pub mod Buffered

@@ -2,12 +2,15 @@
 -- leaves.
 use Rattle.std.proofs.Common.{None, Some}
 use mathlib.Core.Path.{◌≡◌, sym, ap, ◌∙◌}
+use mathlib.Core.Logic.{⊎_elim}
 use mathlib.Core.List.{List}
 use Prim.Native.Nat.{ℕ, zero, suc, ◌+◌, ◌-◌, ◌≤◌, ◌<◌}
 use native.Mathlib.Omega.{arith}
 use lib.ListN.{length, take, drop, length-drop}
 use lib.Seq.{take_all, take-length, take-add, length-take-le, drop_at}
 use borrow.Author.Tests.{eq-eqb, ne_eqb, lt-ltb, le-ltb}
+use Rattle.std.specs.Prelude.{min}
+use Rattle.std.proofs.lemmas.Bool.{cases_lt}
 use Rattle.text.specs.Put.{written}
 use Rattle.walk.specs.Lines.{whole_lines, rest_of, used_up}
 use Rattle.walk.proofs.Chunks.{size, rest_drop}
@@ -30,6 +33,9 @@ front_all l n e h q = record { within = omega arith; front = rw (q, take-length 
 
 pub front_some : (l : List ℕ) (n e : ℕ) → n ≤ length l → e ≡ n → Front l n e
 front_some l n e h q = record { within = omega arith; front = rw q }
+
+pub front_min : (l : List ℕ) (n e : ℕ) → e ≡ min n (length l) → Front l n e
+front_min l n e q = ⊎_elim (λ h. front_all l n e h (omega arith)) (λ h. front_some l n e h (omega arith)) (cases_lt (length l) n)
 
 -- ---- the last line
 

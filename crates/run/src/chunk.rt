@@ -15,11 +15,7 @@ fn shift(buf: &mut [u8], at: usize, n: usize)
     requires { at + n ≤ length buf.old }
     ensures { buf.new ≡ written buf.old 0 (take n (drop at buf.old)) }
 {
-    let mut i = 0;
-    while i < n {
-        buf[i] = buf[at + i];
-        i += 1;
-    }
+    buf.copy_within(at..at + n, 0);
 }
 
 // What is left of a chunk: it goes to the front, and where no line can be so long it is fed as one, which is refused.
@@ -73,12 +69,9 @@ pub fn take_last(names: &mut [u8], nums: &mut [u32], ticks: &mut [u64], buf: &[u
     ensures { tables names.new nums.new ticks.new
         ≡ last_taken (tables names.old nums.old ticks.old) buf.now n }
 {
-    let mut end = n;
-    if buf.len() < n {
-        end = buf.len();
-    }
     if n == 0 {
         return;
     }
+    let end = n.min(buf.len());
     feed(names, nums, ticks, &buf[..end]);
 }

@@ -24,10 +24,7 @@ fn sheet_printed(o: Outcome, sheet: &[u8]) -> usize
     if o.verdict.number != 0 {
         return 0;
     }
-    if o.length < sheet.len() {
-        return o.length;
-    }
-    sheet.len()
+    o.length.min(sheet.len())
 }
 
 // The text of an outcome, whose sheet stands at the front of the bytes lent, at the front of the output.

@@ -1,8 +1,0 @@
--- `outcome::section::rows_count` meets its contract. The invariant: the count is that of the first i rows.
-use Rattle.std.proofs.Common.{◌≡◌, ◌≤◌, length}
-use Rattle.tables.specs.Entry.{name_rows}
-use Rattle.sheet.specs.Sheet.{rows_to}
-use Rattle.outcome.proofs.section.rows_count.Given as goal
-
-abbrev pub invariant-loop-i : goal.invariant-loop-i
-invariant-loop-i l = (l.n ≤ name_rows) × (l.count ≡ length (rows_to l.section l.names l.nums l.ticks l.i))
