@@ -1,7 +1,7 @@
 -- One read behind what was carried over, and its turn: what the code comes to is what reading comes to.
 use mathlib.Core.Path.{◌≡◌, sym, ap, ◌∙◌}
 use mathlib.Core.List.{List, [], ◌∷◌, ◌++◌}
-use Prim.Native.Nat.{ℕ, ◌+◌, ◌-◌, ◌≤◌, ◌<◌}
+use Prim.Native.Nat.{ℕ, ◌+◌, ◌≤◌, ◌<◌}
 use native.Mathlib.Omega.{arith}
 use lib.ListN.{length, take, drop, get_or, length-drop}
 use lib.Seq.{take-add, get_or-take, get_or-drop, length-take-le}
@@ -12,8 +12,8 @@ use Rattle.run.proofs.Buffered.{goes_on, turn_step, turn_end}
 use Rattle.input.specs.Reads.{buffer_size, Filled, ARead, OneMore}
 
 -- the end of input
-pub at_end_lem : {have : ℕ} {b c : List ℕ} (t : Tables) {v : Tables} → Filled 0 have b c → v ≡ last_taken t c have → v ≡ at_input_end (going t (take have b))
-at_end_lem {have} {b} {c} t f w = rw (← f.kept) (w ∙ turn_end t c have (omega (arith, f.room)))
+pub at_end_lem : {n have : ℕ} {b c : List ℕ} (t : Tables) {v : Tables} → Filled n have b c → v ≡ last_taken t c have → v ≡ at_input_end (going t (take have b))
+at_end_lem {have = have} {b = b} {c = c} t f w = rw (← f.kept) (w ∙ turn_end t c have (omega (arith, f.room)))
 
 module _ {n have : ℕ} {b c : List ℕ} (f : Filled n have b c) (some : 0 < n) (small : length c ≤ buffer_size) (bytes : (i : ℕ) → get_or c i 0 < 256) where
   abbrev read : List ℕ
