@@ -1,7 +1,9 @@
 -- A list of reads that grows at its end by one read a turn: where reading ends or fails, it is the list that the contract asks for.
 use mathlib.Core.Path.{◌≡◌, refl, sym, ap, ◌∙◌}
 use mathlib.Core.Bool.{Bool, true, false, cond}
+use mathlib.Core.Logic.{inl, inr}
 use mathlib.Core.List.{List, [], ◌∷◌, ◌++◌}
+use Rattle.std.specs.Prelude.{Option, Some, None}
 use Prim.Native.Nat.{ℕ, zero, suc, ◌+◌, ◌≤◌}
 use native.Mathlib.Omega.{arith}
 use lib.Dec.{ltb}
@@ -11,10 +13,7 @@ use Rattle.rules.specs.Lists.{if_zero}
 use Rattle.judge.specs.Feed.{Tables, fed_chunk}
 use Rattle.run.specs.Chunk.{carried_most, Progress, going, stopped, read_on, at_input_end}
 use Rattle.promises.specs.Fed.{joined}
-use Rattle.input.specs.declared.reads.Step.{Step}
-use Rattle.input.specs.declared.reads.Step.TheVariants.{More, Stop}
-use Rattle.input.specs.declared.reads.Input.TheVariants.{Read}
-use Rattle.input.specs.Reads.{ARead, OneMore, Stepped, AllReads, ReadSoFar, Came, input_refusal, Taken}
+use Rattle.input.specs.Reads.{ARead, OneMore, EndsWith, Turned, AllReads, ReadSoFar, Came}
 
 -- ---- a list of reads that grows at its end
 
@@ -44,15 +43,6 @@ reads_more : {have : ℕ} (rs : List (List ℕ)) (r : List ℕ) → AllReads rs 
 reads_more [] r s a = let m = a.room in (record { some_bytes = a.some_bytes; room = omega arith; bytes = a.bytes }, tt)
 reads_more (q ∷ rs) r s a = (s.0, reads_more rs r s.1 a)
 
--- ---- what a turn came to, by the answer
-
-module _ (have : ℕ) (t : Tables) (b : List ℕ) (u : Tables) (c : List ℕ) {r : Step} {k : ℕ} where
-  as_more : {left : ℕ} → r ≡ More k left → Stepped r have t b u c → (left ≤ carried_most) × OneMore k have t b (going u (take left c))
-  as_more e w = rw e at w
-
-  as_stop : r ≡ Stop k → Stepped r have t b u c → OneMore k have t b (stopped u)
-  as_stop e w = rw e at w
-
 -- ---- the reads so far, of n bytes, with the first `have` bytes of the buffer carried over
 
 pub none_yet : (t : Tables) → ReadSoFar 0 t t []
@@ -74,18 +64,17 @@ module _ {n : ℕ} {t u : Tables} (have : ℕ) (b : List ℕ) (s : ReadSoFar n t
     more_come : read_on t [] more ≡ p
     more_come = read_append s.reads (m.read ∷ []) t [] s.goes_on ∙ m.comes_to
 
-  pub came_more : {r : Step} {k left : ℕ} → r ≡ More k left → Stepped r have u b v c → (left ≤ carried_most) × ReadSoFar (n + k) t v (take left c)
-  came_more e w =
-      let m = as_more have u b v c e w in
-      (m.0, record { reads = more m.1; each = more_each m.1; counted = more_counted m.1; goes_on = more_come m.1 })
+  ends : (k : ℕ) → EndsWith k have u b v → Came (n + k) t v
+  ends k (inl m) = record { reads = more m; each = more_each m; counted = more_counted m; left = ap at_input_end (sym (more_come m)) }
+  ends k (inr (none, e)) =
+      record { reads = s.reads; each = s.each; counted = omega (arith, s.counted); left = e ∙ ap at_input_end (sym s.goes_on) }
 
-  pub came_enough : {r : Step} {k : ℕ} → r ≡ Stop k → Stepped r have u b v c → Came (n + k) t v
-  came_enough e w =
-      let m = as_stop have u b v c e w in
-      record { reads = more m; each = more_each m; counted = more_counted m; left = ap at_input_end (sym (more_come m)) }
+  -- by how many are carried over after the turn
+  module _ (r : Option ℕ) (k : ℕ) (w : Turned r k have u b v c) where
+    pub came_more : {left : ℕ} → r ≡ Some left → (left ≤ carried_most) × ReadSoFar (n + k) t v (take left c)
+    came_more {left} e =
+        let m : (left ≤ carried_most) × OneMore k have u b (going v (take left c)) = rw e at w in
+        (m.0, record { reads = more m.1; each = more_each m.1; counted = more_counted m.1; goes_on = more_come m.1 })
 
--- ---- the answer
-
-module _ {t : Tables} {b : List ℕ} {u : Tables} {c : List ℕ} where
-  pub taken_read : {n : ℕ} → input_refusal t b ≡ 0 → Came n t u → Taken (Read n) t b u c
-  taken_read e w = record { number = sym e; leaves = w }
+    pub came_enough : r ≡ None → Came (n + k) t v
+    came_enough e = ends k (rw e at w)

@@ -2,7 +2,7 @@
 use Rattle.std.proofs.Common.{None, Some}
 use mathlib.Core.Path.{◌≡◌, sym, ap, ◌∙◌}
 use mathlib.Core.List.{List, [], ◌∷◌, ◌++◌}
-use Prim.Native.Nat.{ℕ, ◌+◌, ◌-◌, ◌≤◌, ◌<◌}
+use Prim.Native.Nat.{ℕ, ◌+◌, ◌≤◌, ◌<◌}
 use native.Mathlib.Omega.{arith}
 use lib.ListN.{length, take, drop, get_or, length-drop}
 use lib.Seq.{take-add, get_or-take, get_or-drop, length-take-le}
@@ -12,8 +12,8 @@ use Rattle.run.proofs.Buffered.{goes_on, turn_step, turn_end}
 use Rattle.input.specs.Reads.{buffer_size, Filled, ARead, OneMore}
 
 -- the end of input
-pub at_end_lem : {have : ℕ} {b c : List ℕ} (t : Tables) {v : Tables} → Filled 0 have b c → v ≡ last_taken t c have → v ≡ at_input_end (going t (take have b))
-at_end_lem {have} {b} {c} t f w = rw (← f.kept) (w ∙ turn_end t c have (omega (arith, f.room)))
+pub at_end_lem : {n have : ℕ} {b c : List ℕ} (t : Tables) {v : Tables} → Filled n have b c → v ≡ last_taken t c have → v ≡ at_input_end (going t (take have b))
+at_end_lem {have = have} {b = b} {c = c} t f w = rw (← f.kept) (w ∙ turn_end t c have (omega (arith, f.room)))
 
 module _ {n have : ℕ} {b c : List ℕ} (f : Filled n have b c) (some : 0 < n) (small : length c ≤ buffer_size) (bytes : (i : ℕ) → get_or c i 0 < 256) where
   abbrev read : List ℕ
@@ -41,3 +41,8 @@ module _ {n have : ℕ} {b c : List ℕ} (f : Filled n have b c) (some : 0 < n) 
 
     pub one_last : x.turn ≡ None → OneMore n have t b (stopped x.left)
     one_last q = record { read = read; each = a_read; counted = length_read; comes_to = sym (rw q at turn_read) }
+
+    -- by how many bytes are carried over
+    pub one_turn : {o : Option ℕ} {u : Tables} {d : List ℕ} → turned_as o u d ≡ x → TurnedTo o n have t b u d
+    one_turn {Some left} {u} {d} q = (more_short _ _ _ _ (q ∙ w) refl, subst (λ (y : Turned). OneMore n have t b (going y.left (take left y.buffer))) (sym q) (one_more (ap (λ (y : Turned). y.turn) (sym q))))
+    one_turn {None} {u} {d} q = inl (subst (λ (y : Turned). OneMore n have t b (stopped y.left)) (sym q) (one_last (ap (λ (y : Turned). y.turn) (sym q))))

@@ -1,6 +1,7 @@
 -- The text of what came in reads is at the front of the output, and it always fits.
 use mathlib.Core.Path.{◌≡◌, sym, ap, subst, ◌∙◌}
 use mathlib.Core.List.{List}
+use Rattle.std.specs.Prelude.{Some, Result, Ok, Err}
 use Prim.Native.Nat.{ℕ, ◌≤◌}
 use native.Mathlib.Omega.{arith}
 use lib.ListN.{length}
@@ -18,11 +19,10 @@ use Rattle.run.specs.Report.{Reported, reported, text_printed, report_written, t
 use Rattle.promises.specs.Fed.{joined}
 use Rattle.promises.proofs.Reading.{written_right}
 use Rattle.promises.proofs.Printed.{text_fits}
-use Rattle.input.specs.declared.reads.Input.{Input}
-use Rattle.input.specs.declared.reads.Input.TheVariants.{Read, Failed, Refused}
-use Rattle.input.specs.Reads.{buffer_size, Came, BrokeOff, Taken}
-use Rattle.input.specs.declared.whole.Answer.{Answer}
-use Rattle.input.specs.declared.whole.Answer.TheVariants.{Text, Unread, Refused as NotTaken}
+use Rattle.input.specs.declared.reads.ReadError.{ReadError}
+use Rattle.input.specs.declared.reads.ReadError.TheVariants.{Failed, WrongSize, OutOfRange}
+use Rattle.input.specs.Reads.{buffer_size, Came, error_number, Taken}
+use Rattle.input.specs.declared.whole.Text.{Text}
 use Rattle.input.specs.Whole.{Lent, lent, lent_refusal, text_of, Told, Answered, IsText}
 use Rattle.input.proofs.Sizes.{fresh_taken, RightSizes, right_sizes}
 
@@ -37,21 +37,21 @@ fresh_start {names} {nums} {ticks} s e = ap left e ∙ rw ((sizes_mean names num
 
 -- ---- what came of reading from there, by its answer
 
-module _ {t : Tables} (b : List ℕ) (u : Tables) (c : List ℕ) (start : t ≡ fresh_tables) {i : Input} (w : Taken i t b u c) where
+module _ {t : Tables} (b : List ℕ) (u : Tables) (c : List ℕ) (start : t ≡ fresh_tables) {i : Result ℕ ReadError} (w : Taken i t b u c) where
   from_fresh : Taken i fresh_tables b u c
   from_fresh = subst (λ (x : Tables). Taken i x b u c) start w
 
-  pub all_came : {n : ℕ} → i ≡ Read n → Came n fresh_tables u
+  pub all_came : {n : ℕ} → i ≡ Ok n → Came n fresh_tables u
   all_came e = rw e at from_fresh.leaves
 
-  pub some_came : i ≡ Failed → BrokeOff fresh_tables u
-  some_came e = rw e at from_fresh.leaves
-
-  -- never: fresh tables are in range, and the buffer has its size
-  pub none_refused : {n : ℕ} → length b ≡ buffer_size → i ≡ Refused n → ⊥
-  none_refused {n} h e =
-      let number : n ≡ 0 = (rw e at from_fresh.number) ∙ fresh_taken b h in
-      omega (arith, (rw e at from_fresh.leaves).0)
+  -- a read failed: fresh tables are in range, and the buffer has its size, so that nothing is refused
+  pub not_read : {e : ReadError} {l m : Lent} → length b ≡ buffer_size → lent_refusal l ≡ 0 → m.tables ≡ u → m.output ≡ l.output → i ≡ Err e → Answered (Err e) l m
+  not_read {e} {l} {m} sized right same out q = by_error e (subst (λ (x : Result ℕ ReadError). Taken x fresh_tables b u c) q from_fresh)
+    where
+      by_error : (e : ReadError) → Taken (Err e) fresh_tables b u c → Answered (Err e) l m
+      by_error Failed v = record { number = right; leaves = (rw same v.leaves, out) }
+      by_error WrongSize v = absurd (omega (arith, v.number, fresh_taken b sized))
+      by_error OutOfRange v = absurd (omega (arith, v.number, fresh_taken b sized))
 
 -- ---- the text
 
@@ -87,12 +87,8 @@ module _ {bytes : ℕ} {names nums ticks : List ℕ} (came : Came bytes fresh_ta
 
 -- ---- the answer
 
-module _ {l m : Lent} (right : lent_refusal l ≡ 0) where
-  pub answered_text : {n bytes : ℕ} → Told n bytes l m → Answered (Text n bytes) l m
-  answered_text w = record { number = sym right; leaves = w }
-
-  pub answered_unread : BrokeOff fresh_tables m.tables → m.output ≡ l.output → Answered Unread l m
-  answered_unread w q = record { number = right; leaves = (w, q) }
+pub answered_text : {l m : Lent} {n bytes : ℕ} → lent_refusal l ≡ 0 → Told n bytes l m → Answered (Ok (record { length = n; bytes = bytes })) l m
+answered_text right w = record { number = sym right; leaves = w }
 
 -- ---- what may be written
 
@@ -108,11 +104,15 @@ told_text {l = l} room w =
     }
 
 -- by the answer, where what was lent has the right sizes
-module _ (l m : Lent) (sizes : RightSizes l) {a : Answer} (w : Answered a l m) where
-  pub text_told : {n bytes : ℕ} → a ≡ Text n bytes → IsText n m.output
-  text_told e = told_text sizes.1.1 (rw e at w.leaves)
+module _ (l m : Lent) (sizes : RightSizes l) {a : Result Text ReadError} (w : Answered a l m) where
+  pub text_told : {t : Text} → a ≡ Ok t → IsText t.length m.output
+  text_told {t} e = told_text {n = t.length} {bytes = t.bytes} sizes.1.1 (rw e at w.leaves)
 
-  pub sizes_taken : {n : ℕ} → a ≡ NotTaken n → ⊥
-  sizes_taken {n} e =
-      let number : n ≡ 0 = (rw e at w.number) ∙ right_sizes l sizes in
-      omega (arith, (rw e at w.leaves).0)
+  -- only a read can have failed
+  pub sizes_taken : {e : ReadError} {n : ℕ} → error_number e ≡ Some n → a ≡ Err e → ⊥
+  sizes_taken {e} {n} p q = by_error e p (subst (λ (x : Result Text ReadError). Answered x l m) q w)
+    where
+      by_error : (e : ReadError) → error_number e ≡ Some n → Answered (Err e) l m → ⊥
+      by_error Failed p v = cc
+      by_error WrongSize p v = omega (arith, v.number, right_sizes l sizes)
+      by_error OutOfRange p v = omega (arith, v.number, right_sizes l sizes)

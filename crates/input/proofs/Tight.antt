@@ -4,6 +4,7 @@ use mathlib.Core.Path.{◌≡◌, refl, sym, ap, subst, ◌∙◌}
 use mathlib.Core.Bool.{Bool, true, false, cond}
 use mathlib.Core.Logic.{⊎_elim}
 use mathlib.Core.List.{List, [], ◌∷◌, ◌++◌}
+use Rattle.std.specs.Prelude.{Some, Result, Ok, Err}
 use Prim.Native.Nat.{ℕ, ◌<◌}
 use native.Mathlib.Omega.{arith}
 use lib.Dec.{eqb}
@@ -28,11 +29,10 @@ use Rattle.rules.proofs.First.{zero_takes_all}
 use Rattle.promises.proofs.Judged.{after_lines, shows_taken}
 use Rattle.promises.proofs.Printed.{printed}
 use Rattle.promises.proofs.Reading.{all_read, printed_right, stopped_right}
-use Rattle.input.specs.declared.reads.Input.{Input}
-use Rattle.input.specs.declared.reads.Input.TheVariants.{Read, Failed, Refused}
-use Rattle.input.specs.Reads.{Came, BrokeOff, input_refusal, Taken}
-use Rattle.input.specs.declared.whole.Answer.{Answer}
-use Rattle.input.specs.declared.whole.Answer.TheVariants.{Text, Unread, Refused as NotTaken}
+use Rattle.input.specs.declared.reads.ReadError.{ReadError}
+use Rattle.input.specs.declared.reads.ReadError.TheVariants.{Failed, WrongSize, OutOfRange}
+use Rattle.input.specs.Reads.{Came, BrokeOff, error_number, input_refusal, Taken}
+use Rattle.input.specs.declared.whole.Text.{Text}
 use Rattle.input.specs.Whole.{Lent, lent_refusal, text_of, Told, Answered}
 use Rattle.input.proofs.Sizes.{only_15}
 
@@ -49,16 +49,25 @@ broke_unique {t} {u} {v} x y e =
     let p : going u x.rest ≡ going v y.rest = sym x.before.goes_on ∙ ap (λ (rs : List (List ℕ)). read_on t [] rs) e ∙ y.before.goes_on in
     cc
 
+-- the error of a refusal
+pub error_of : ℕ → ReadError
+error_of n = cond (eqb n 15) WrongSize OutOfRange
+
 -- where something is refused, no reads are asked for: that number, and nothing changed
-pub refused_unique : (r : Input) (t : Tables) (b : List ℕ) (u : Tables) (c : List ℕ) → Taken r t b u c → 0 < input_refusal t b →
-    (r ≡ Refused (input_refusal t b)) × ((u ≡ t) × (c ≡ b))
-refused_unique (Read n) t b u c w h = absurd (omega (arith, w.number))
-refused_unique Failed t b u c w h = absurd (omega (arith, w.number))
-refused_unique (Refused n) t b u c w h = (ap Refused w.number, w.leaves.1)
+pub refused_unique : (r : Result ℕ ReadError) (t : Tables) (b : List ℕ) (u : Tables) (c : List ℕ) → Taken r t b u c → 0 < input_refusal t b →
+    (r ≡ Err (error_of (input_refusal t b))) × ((u ≡ t) × (c ≡ b))
+unfolding error_of
+refused_unique (Ok n) t b u c w h = absurd (omega (arith, w.number))
+refused_unique (Err Failed) t b u c w h = absurd (omega (arith, w.number))
+refused_unique (Err WrongSize) t b u c w h = (rw (← w.number), w.leaves)
+refused_unique (Err OutOfRange) t b u c w h = (rw (← w.number), w.leaves)
 
 -- and only there: a function that refuses everything is shut out
-pub refused_only : {n : ℕ} (t : Tables) (b : List ℕ) (u : Tables) (c : List ℕ) → Taken (Refused n) t b u c → 0 < input_refusal t b
-refused_only t b u c w = omega (arith, w.number, w.leaves.0)
+pub refused_only : {n : ℕ} (e : ReadError) (t : Tables) (b : List ℕ) (u : Tables) (c : List ℕ) → error_number e ≡ Some n → Taken (Err e) t b u c →
+    0 < input_refusal t b
+refused_only Failed t b u c p w = absurd cc
+refused_only WrongSize t b u c p w = omega (arith, w.number)
+refused_only OutOfRange t b u c p w = omega (arith, w.number)
 
 -- a trace of some bytes has a line
 one_line : (s : List ℕ) → length (last_line s) ≡ 0 → length s ≡ 0
@@ -99,13 +108,16 @@ told_unique {l = l} v w e =
     )
 
 -- the sizes are wrong: 15, and nothing changed
-pub wrong_sizes_unique : (r : Answer) (l m : Lent) → Answered r l m → 0 < lent_refusal l → (r ≡ NotTaken 15) × (m ≡ l)
-wrong_sizes_unique (Text n bytes) l m w h = absurd (omega (arith, w.number))
-wrong_sizes_unique Unread l m w h = absurd (omega (arith, w.number))
-wrong_sizes_unique (NotTaken n) l m w h = (ap NotTaken (w.number ∙ only_15 l h), w.leaves.1)
+pub wrong_sizes_unique : (r : Result Text ReadError) (l m : Lent) → Answered r l m → 0 < lent_refusal l → (r ≡ Err WrongSize) × (m ≡ l)
+wrong_sizes_unique (Ok t) l m w h = absurd (omega (arith, w.number))
+wrong_sizes_unique (Err Failed) l m w h = absurd (omega (arith, w.number))
+wrong_sizes_unique (Err WrongSize) l m w h = (refl, w.leaves)
+wrong_sizes_unique (Err OutOfRange) l m w h = absurd (omega (arith, w.number, only_15 l h))
 
-pub wrong_sizes_only : {n : ℕ} (l m : Lent) → Answered (NotTaken n) l m → 0 < lent_refusal l
-wrong_sizes_only l m w = omega (arith, w.number, w.leaves.0)
+pub wrong_sizes_only : {n : ℕ} (e : ReadError) (l m : Lent) → error_number e ≡ Some n → Answered (Err e) l m → 0 < lent_refusal l
+wrong_sizes_only Failed l m p w = absurd cc
+wrong_sizes_only WrongSize l m p w = omega (arith, w.number)
+wrong_sizes_only OutOfRange l m p w = omega (arith, w.number)
 
 -- a fresh start after reading is shut out wherever bytes came
 pub told_not_fresh : {n bytes : ℕ} {l m : Lent} → Told n bytes l m → m.tables ≡ fresh_tables → bytes ≡ 0

@@ -4,8 +4,8 @@
 
 ghost use Rattle.input.specs.Whole.{IsText};
 
-use input::reads::BUFFER_SIZE;
-use input::whole::{Answer, text_of_input};
+use input::reads::{BUFFER_SIZE, ReadError};
+use input::whole::text_of_input;
 use run::report::TEXT_MOST;
 use std::io::{Stderr, Stdout};
 use tables::entry::{NAMES_SIZE, NUMS_SIZE, TICKS_SIZE};
@@ -31,13 +31,13 @@ fn main(rt: HostRuntime) {
     let mut out = [0u8; TEXT_MOST];
     let mut stdin = rt.stdin();
     let stderr = rt.stderr();
-    let answer = text_of_input(
+    let text = text_of_input(
         &mut stdin, &mut names, &mut nums, &mut ticks, &mut buf, &mut out,
     );
-    match answer {
-        Answer::Text(n, _) => print(rt.stdout(), stderr, &out, n),
-        Answer::Unread => complain(stderr, b"pickaxle: cannot read standard input\n"),
+    match text {
+        Ok(text) => print(rt.stdout(), stderr, &out, text.length),
+        Err(ReadError::Failed) => complain(stderr, b"pickaxle: cannot read standard input\n"),
         // what is lent has the right sizes
-        Answer::Refused(_) => unreachable!(),
+        Err(ReadError::WrongSize | ReadError::OutOfRange) => unreachable!(),
     }
 }
