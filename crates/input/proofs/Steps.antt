@@ -1,5 +1,5 @@
 -- One read behind what was carried over, and its turn: what the code comes to is what reading comes to.
-use Rattle.std.proofs.Common.{None, Some}
+use Rattle.std.proofs.Common.{None, Some, Option, inl}
 use mathlib.Core.Path.{◌≡◌, sym, ap, ◌∙◌}
 use mathlib.Core.List.{List, [], ◌∷◌, ◌++◌}
 use Prim.Native.Nat.{ℕ, ◌+◌, ◌≤◌, ◌<◌}
@@ -9,7 +9,8 @@ use lib.Seq.{take-add, get_or-take, get_or-drop, length-take-le}
 use Rattle.judge.specs.Feed.{Tables}
 use Rattle.run.specs.Chunk.{Turned, chunk_taken, last_taken, going, stopped, read_on, at_input_end}
 use Rattle.run.proofs.Buffered.{goes_on, turn_step, turn_end}
-use Rattle.input.specs.Reads.{buffer_size, Filled, ARead, OneMore}
+use Rattle.run.proofs.Carried.{more_short}
+use Rattle.input.specs.Reads.{buffer_size, Filled, ARead, OneMore, Turned as TurnedTo}
 
 -- the end of input
 pub at_end_lem : {n have : ℕ} {b c : List ℕ} (t : Tables) {v : Tables} → Filled n have b c → v ≡ last_taken t c have → v ≡ at_input_end (going t (take have b))
@@ -35,14 +36,14 @@ module _ {n have : ℕ} {b c : List ℕ} (f : Filled n have b c) (some : 0 < n) 
         ap (λ (y : Turned). goes_on y []) w
         ∙ turn_step t c (have + n) (take have b) read [] (take-add have n c ∙ ap (λ (l : List ℕ). l ++ read) f.kept)
 
-    pub one_more : {left : ℕ} → x.turn ≡ Some left → OneMore n have t b (going x.left (take left x.buffer))
+    one_more : {left : ℕ} → x.turn ≡ Some left → OneMore n have t b (going x.left (take left x.buffer))
     unfolding read_on
     one_more q = record { read = read; each = a_read; counted = length_read; comes_to = sym (rw q at turn_read) }
 
-    pub one_last : x.turn ≡ None → OneMore n have t b (stopped x.left)
+    one_last : x.turn ≡ None → OneMore n have t b (stopped x.left)
     one_last q = record { read = read; each = a_read; counted = length_read; comes_to = sym (rw q at turn_read) }
 
     -- by how many bytes are carried over
-    pub one_turn : {o : Option ℕ} {u : Tables} {d : List ℕ} → turned_as o u d ≡ x → TurnedTo o n have t b u d
-    one_turn {Some left} {u} {d} q = (more_short _ _ _ _ (q ∙ w) refl, subst (λ (y : Turned). OneMore n have t b (going y.left (take left y.buffer))) (sym q) (one_more (ap (λ (y : Turned). y.turn) (sym q))))
-    one_turn {None} {u} {d} q = inl (subst (λ (y : Turned). OneMore n have t b (stopped y.left)) (sym q) (one_last (ap (λ (y : Turned). y.turn) (sym q))))
+    pub one_turn : (o : Option ℕ) → x.turn ≡ o → TurnedTo o n have t b x.left x.buffer
+    one_turn (Some left) q = (more_short t c (have + n) left w q, one_more q)
+    one_turn None q = inl (one_last q)
