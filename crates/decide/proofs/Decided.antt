@@ -1,4 +1,5 @@
 -- What a plan says: its number is the rules' answer at what the tables say, or 15 for a table of a wrong size; and what a line that is taken carries.
+use Rattle.std.proofs.Common.{Err, Ok}
 use mathlib.Core.Path.{◌≡◌, refl, sym, ap, ◌∙◌}
 use mathlib.Core.Bool.{Bool, true, false, cond}
 use mathlib.Core.List.{List}
@@ -14,9 +15,8 @@ use Rattle.tables.specs.Sized.{Sized, is_sized}
 use Rattle.tables.proofs.Sizes.{sizes_mean}
 use Rattle.lookup.specs.declared.look.LookedUp.{LookedUp}
 use Rattle.lookup.specs.LookedUp.{looked_up}
-use Rattle.decide.specs.declared.plan.Plan.TheVariants.{Refuse, Take}
 use Rattle.decide.specs.Known.{known_by}
-use Rattle.decide.specs.Decide.{plan_answer, enters, plan_by, plan_of, decided}
+use Rattle.decide.specs.Decide.{Plan, plan_answer, enters, plan_by, plan_of, decided}
 
 -- ---- tables of the right sizes
 
@@ -46,7 +46,7 @@ module _ (names nums ticks : List ℕ) (e : Event) where
   unfolding plan_answer plan_of plan_by
   plan_answer_lem = by_answer (looked_up names nums e) (enters nums (looked_up names nums e) e) ruled
     where
-      by_answer : (s : LookedUp) (t a : ℕ) → plan_answer (if_zero a (Take s t) (Refuse a)) ≡ a
+      by_answer : (s : LookedUp) (t a : ℕ) → plan_answer (if_zero a (Ok (s, t)) (Err a)) ≡ a
       by_answer s t zero = refl
       by_answer s t (suc a) = refl
 
@@ -54,7 +54,7 @@ module _ (names nums ticks : List ℕ) (e : Event) where
   unfolding plan_answer decided
   decided_answer = by_size (is_sized (length names) (length nums) (length ticks))
     where
-      by_size : (b : Bool) → plan_answer (cond b (plan_of names nums ticks e) (Refuse 15)) ≡ cond b ruled 15
+      by_size : (b : Bool) → plan_answer (cond b (plan_of names nums ticks e) (Err 15)) ≡ cond b ruled 15
       by_size true = plan_answer_lem
       by_size false = refl
 
@@ -64,13 +64,14 @@ module _ (names nums ticks : List ℕ) (e : Event) where
   plan_refuses = rw plan_answer_lem (answer_ranged (known_by nums ticks (looked_up names nums e) e) e)
 
   -- and a line that is taken carries what was looked up and the state entered
-  pub plan_takes : (s : LookedUp) (t : ℕ) → plan_of names nums ticks e ≡ Take s t → (s ≡ looked_up names nums e) × (t ≡ enters nums s e)
+  pub plan_takes : (s : LookedUp) (t : ℕ) → plan_of names nums ticks e ≡ Ok (s, t) → (s ≡ looked_up names nums e) × (t ≡ enters nums s e)
   unfolding plan_of plan_by
   plan_takes s t q = by_answer (looked_up names nums e) ruled q
     where
-      by_answer : (x : LookedUp) (a : ℕ) → if_zero a (Take x (enters nums x e)) (Refuse a) ≡ Take s t → (s ≡ x) × (t ≡ enters nums s e)
+      by_answer : (x : LookedUp) (a : ℕ) → ◌≡◌ {A = Plan} (if_zero {A = Plan} a (Ok (x, enters nums x e)) (Err a)) (Ok (s, t)) → (s ≡ x) × (t ≡ enters nums s e)
       by_answer x zero p =
-          let same : x ≡ s = cc in
-          let state : enters nums x e ≡ t = cc in
+          let both : ◌≡◌ {A = LookedUp × ℕ} (x, enters nums x e) (s, t) = cc in
+          let same : x ≡ s = ap (λ (w : LookedUp × ℕ). w.0) both in
+          let state : enters nums x e ≡ t = ap (λ (w : LookedUp × ℕ). w.1) both in
           (sym same, sym state ∙ ap (λ (y : LookedUp). enters nums y e) same)
       by_answer x (suc a) p = let z : ◌≡◌ {A = ℕ} 0 1 = cc in absurd (omega arith)

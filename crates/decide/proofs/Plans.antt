@@ -1,5 +1,5 @@
 -- What the code decides test after test is what the rules answer at what the tables say.
-use Rattle.std.proofs.Common.{None, Some, Option}
+use Rattle.std.proofs.Common.{None, Some, Option, Err, Ok}
 use mathlib.Core.Path.{◌≡◌, refl, sym, ap, ◌∙◌}
 use mathlib.Core.Bool.{Bool, true, false, not, ◌&&◌, ◌||◌, cond}
 use mathlib.Core.List.{List}
@@ -47,10 +47,8 @@ use Rattle.steps.proofs.CoreClasses.{class_on, class_takes}
 use Rattle.tables.specs.Entry.{idle_core, held_by, started_entry, last_time}
 use Rattle.lookup.specs.declared.look.LookedUp.{LookedUp}
 use Rattle.lookup.specs.LookedUp.{looked_up, above_in}
-use Rattle.decide.specs.declared.plan.Plan.{Plan}
-use Rattle.decide.specs.declared.plan.Plan.TheVariants.{Refuse, Take}
 use Rattle.decide.specs.Known.{kind_in, standing_in, number_in, numbered_in, first_number_in, state_in, another, is_holder, core_in, known_by}
-use Rattle.decide.specs.Decide.{enters, plan_by, plan_of}
+use Rattle.decide.specs.Decide.{Plan, enters, plan_by, plan_of}
 use Rattle.decide.specs.PlanCode.{
   time_falls_in,
   kind_clash,
@@ -214,14 +212,14 @@ module _ (nums ticks : List ℕ) (s : LookedUp) (e : Event) where
 
 module _ (s : LookedUp) (t : ℕ) where
   abbrev plan_for : ℕ → Plan
-  plan_for n = if_zero n (Take s t) (Refuse n)
+  plan_for n = if_zero n (Ok (s, t)) (Err n)
 
   -- a test in front of a plan is its number in front of the answer
-  tested : (b : Bool) (n a : ℕ) (p : Plan) → p ≡ plan_for a → cond b (Refuse (suc n)) p ≡ plan_for (cond b (suc n) a)
+  tested : (b : Bool) (n a : ℕ) (p : Plan) → p ≡ plan_for a → cond b (Err (suc n)) p ≡ plan_for (cond b (suc n) a)
   tested true n a p q = refl
   tested false n a p q = q
 
-  tested_two : (b d : Bool) (n a : ℕ) (p : Plan) → p ≡ plan_for a → cond b (Refuse (suc n)) (cond d (Refuse (suc n)) p) ≡ plan_for (cond (b || d) (suc n) a)
+  tested_two : (b d : Bool) (n a : ℕ) (p : Plan) → p ≡ plan_for a → cond b (Err (suc n)) (cond d (Err (suc n)) p) ≡ plan_for (cond (b || d) (suc n) a)
   tested_two true d n a p q = refl
   tested_two false d n a p q = tested d n a p q
 

@@ -8,8 +8,7 @@ use Rattle.text.proofs.Tight.{unique, ShutsOut}
 use Rattle.rules.specs.Words.{task, start}
 use Rattle.rules.specs.Event.{Event}
 use Rattle.tables.specs.Sized.{is_sized}
-use Rattle.decide.specs.declared.plan.Plan.{Plan}
-use Rattle.decide.specs.Decide.{plan_answer, plan_of, decided}
+use Rattle.decide.specs.Decide.{Plan, plan_answer, plan_of, decided}
 use Rattle.decide.proofs.Decided.{plan_refuses}
 
 pub decide_unique : (names nums ticks : List ℕ) (e : Event) (x y : Plan) → x ≡ decided names nums ticks e → y ≡ decided names nums ticks e → x ≡ y

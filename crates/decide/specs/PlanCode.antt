@@ -1,6 +1,6 @@
 -- For the code alone: how it tests each refusal in the tables, and what it decides test after test. What is to be believed is `plan_by` (Decide), by the rules'
 -- own answer at what is known; the theorems `tests_plan_lem` and `tests_decide` (proofs/Plans) say that the two are the same.
-use Rattle.std.specs.Prelude.{Bool, not, ◌&&◌, ◌||◌, cond, List, [], ◌∷◌, ℕ, ◌+◌, eqb, leb, ltb, None, Some, Option, is_none}
+use Rattle.std.specs.Prelude.{Bool, not, ◌&&◌, ◌||◌, cond, List, [], ◌∷◌, ℕ, ◌+◌, eqb, leb, ltb, None, Some, Option, is_none, Err, Ok}
 use Rattle.text.specs.Bytes.{same_bytes}
 use Rattle.text.specs.Sizes.{name_limit, core_limit}
 use Rattle.rules.specs.Words.{core, semaphore, increment, decrement, lock_used, full, overfull, unlock_full, used}
@@ -15,9 +15,8 @@ use Rattle.steps.specs.Rows.{move_by}
 use Rattle.tables.specs.Entry.{started_entry, last_time, name_count, core_count, instance_count, idle_core}
 use Rattle.lookup.specs.declared.look.LookedUp.{LookedUp}
 use Rattle.lookup.specs.LookedUp.{new_core, new_name, above_in}
-use Rattle.decide.specs.declared.plan.Plan.{Plan}
-use Rattle.decide.specs.declared.plan.Plan.TheVariants.{Refuse, Take}
 use Rattle.decide.specs.Known.{kind_in, standing_in, number_in, numbered_in, first_number_in, state_in, is_holder}
+use Rattle.decide.specs.Decide.{Plan}
 
 -- ---- each refusal
 
@@ -82,17 +81,17 @@ count_broken_in nums s k a n =
 -- ---- test after test
 
 abbrev pub move_plan : Option ℕ → List ℕ → LookedUp → ℕ → ℕ → ℕ → ℕ → Plan
-move_plan None nums s k a n c = Refuse 11
+move_plan None nums s k a n c = Err 11
 move_plan (Some t) nums s k a n c =
-    cond (never_activated_in nums s k a n) (Refuse 11)
-    (cond (not_next_in nums s k a n) (Refuse 12) (cond (core_broken_in nums s k n) (Refuse 13) (cond (count_broken_in nums s k a c) (Refuse 14) (Take s t))))
+    cond (never_activated_in nums s k a n) (Err 11)
+    (cond (not_next_in nums s k a n) (Err 12) (cond (core_broken_in nums s k n) (Err 13) (cond (count_broken_in nums s k a c) (Err 14) (Ok (s, t)))))
 
 unfoldable pub steps_plan : List ℕ → LookedUp → ℕ → ℕ → ℕ → ℕ → Plan
 steps_plan nums s k a n c = move_plan (move_by (chart_of k) a (state_in nums s k)) nums s k a n c
 
 unfoldable pub tests_plan : List ℕ → List ℕ → LookedUp → Event → Plan
 tests_plan nums ticks s e =
-    cond (time_falls_in nums ticks e.time) (Refuse 8)
-    (cond (source_clash_in nums s e.source e.target) (Refuse 9)
-    (cond (target_clash_in nums s e.kind) (Refuse 9)
-    (cond (no_room_in nums s e.kind e.word e.target_instance) (Refuse 10) (steps_plan nums s e.kind e.word e.target_instance e.count))))
+    cond (time_falls_in nums ticks e.time) (Err 8)
+    (cond (source_clash_in nums s e.source e.target) (Err 9)
+    (cond (target_clash_in nums s e.kind) (Err 9)
+    (cond (no_room_in nums s e.kind e.word e.target_instance) (Err 10) (steps_plan nums s e.kind e.word e.target_instance e.count))))

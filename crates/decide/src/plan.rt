@@ -1,5 +1,6 @@
 // What becomes of an event line, from the tables as they are: the lowest of 8 to 14 that applies, or that it is taken. Nothing is stored here.
 ghost use Rattle.std.specs.Prelude.{◌≡◌, length};
+ghost use Rattle.text.specs.Refusal.{numbered};
 ghost use Rattle.rules.specs.Lines.{event_from};
 ghost use Rattle.tables.specs.Entry.{nums_size, ticks_size};
 ghost use Rattle.decide.specs.Decide.{plan_of, decided};
@@ -16,14 +17,8 @@ use steps::chart::chart_step;
 use steps::lines::kind_number;
 use tables::entry::*;
 use tables::size::sized;
+use text::refusal::Refusal;
 use words::code::action_code;
-
-// What becomes of an event line: it is refused, or taken with what was looked up and the state that its semaphore or instance enters.
-#[derive(Clone, Copy)]
-pub enum Plan {
-    Refuse(u32),
-    Take(LookedUp, u32),
-}
 
 // 8: whether the time is less than that of the event line before.
 fn time_falls(nums: &[u32], ticks: &[u64], time: u64) -> bool
@@ -36,28 +31,29 @@ fn time_falls(nums: &[u32], ticks: &[u64], time: u64) -> bool
     time < ticks[LAST]
 }
 
-// What becomes of an event line by its chart, its number, its core and its count.
-fn decide_steps(nums: &[u32], s: LookedUp, kind: u32, word: u32, number: u32, count: u32) -> Plan
+// What becomes of an event line by its chart, its number, its core and its count: it is taken with what was looked up for it, and with the state that its semaphore or instance
+// enters.
+fn decide_steps(nums: &[u32], s: LookedUp, kind: u32, word: u32, number: u32, count: u32) -> Result<(LookedUp, u32), Refusal>
     requires { length nums.now ≡ nums_size }
-    ensures { result ≡ steps_plan nums.now s kind word number count }
+    ensures { numbered result ≡ steps_plan nums.now s kind word number count }
 {
     let m = chart_step(kind, word, state_in(nums, s, kind));
     let Some(state) = m else {
-        return Plan::Refuse(11);
+        return Err(Refusal::Chart);
     };
     if never_activated(nums, s, kind, word, number) {
-        return Plan::Refuse(11);
+        return Err(Refusal::Chart);
     }
     if not_next(nums, s, kind, word, number) {
-        return Plan::Refuse(12);
+        return Err(Refusal::Instance);
     }
     if core_broken(nums, s, kind, number) {
-        return Plan::Refuse(13);
+        return Err(Refusal::Core);
     }
     if count_broken(nums, s, kind, word, count) {
-        return Plan::Refuse(14);
+        return Err(Refusal::Count);
     }
-    Plan::Take(s, state)
+    Ok((s, state))
 }
 
 // What becomes of an event line by tables of the right sizes: the lowest of 8 to 14 that applies, or that it is taken.
@@ -69,9 +65,9 @@ fn decide_in(
     count: u32,
     source: &[u8],
     target: &[u8],
-) -> Plan
+) -> Result<(LookedUp, u32), Refusal>
     requires { (length nums.now ≡ nums_size) × (length ticks.now ≡ ticks_size) }
-    ensures { result ≡ plan_of names.now nums.now ticks.now
+    ensures { numbered result ≡ plan_of names.now nums.now ticks.now
         (event_from e source.now target.now count) }
 {
     let e_kind = e.kind;
@@ -80,16 +76,16 @@ fn decide_in(
     let word = action_code(action);
     let s = look(names, nums, kind, word, e.target_instance, source, target);
     if time_falls(nums, ticks, e.time) {
-        return Plan::Refuse(8);
+        return Err(Refusal::Time);
     }
     if source_clash(nums, s, source, target) {
-        return Plan::Refuse(9);
+        return Err(Refusal::Kind);
     }
     if target_clash(nums, s, kind) {
-        return Plan::Refuse(9);
+        return Err(Refusal::Kind);
     }
     if no_room(nums, s, kind, word, e.target_instance) {
-        return Plan::Refuse(10);
+        return Err(Refusal::Room);
     }
     decide_steps(nums, s, kind, word, e.target_instance, count)
 }
@@ -103,12 +99,12 @@ pub fn decide(
     count: u32,
     source: &[u8],
     target: &[u8],
-) -> Plan
-    ensures { result ≡ decided names.now nums.now ticks.now
+) -> Result<(LookedUp, u32), Refusal>
+    ensures { numbered result ≡ decided names.now nums.now ticks.now
         (event_from e source.now target.now count) }
 {
     if !sized(names.len(), nums.len(), ticks.len()) {
-        return Plan::Refuse(15);
+        return Err(Refusal::Size);
     }
     decide_in(names, nums, ticks, e, count, source, target)
 }

@@ -13,8 +13,6 @@ use Rattle.tables.specs.Sized.{Sized}
 use Rattle.tables.specs.Fresh.{Cleared, cleared_of}
 use Rattle.tables.proofs.Sizes.{sizes_mean}
 use Rattle.judge.specs.Feed.{Tables, tables, fresh_tables}
-use Rattle.run.specs.declared.report.Printed.{Printed}
-use Rattle.run.specs.declared.report.Printed.TheVariants.{Done, NotPrinted}
 use Rattle.run.specs.Report.{Reported, reported, text_printed, report_written, text_most}
 use Rattle.promises.specs.Fed.{joined}
 use Rattle.promises.proofs.Reading.{written_right}
@@ -56,11 +54,11 @@ module _ {t : Tables} (b : List ℕ) (u : Tables) (c : List ℕ) (start : t ≡ 
 -- ---- the text
 
 module _ {bytes : ℕ} {names nums ticks : List ℕ} (came : Came bytes fresh_tables (tables names nums ticks)) (out : List ℕ) (room : text_most ≤ length out)
-    {r : Printed} {m : List ℕ} (e : reported r m ≡ report_written names nums ticks out) where
+    {r : Result ℕ ℕ} {m : List ℕ} (e : reported r m ≡ report_written names nums ticks out) where
   abbrev text : List ℕ
   text = text_of came.reads
 
-  all_written : reported r m ≡ reported (Done (length text)) (written out 0 text)
+  all_written : reported r m ≡ reported (Ok (length text)) (written out 0 text)
   unfolding text_printed
   all_written =
       let fits : length text ≤ length out = omega (arith, text_fits (lines_of (joined came.reads))) in
@@ -69,9 +67,9 @@ module _ {bytes : ℕ} {names nums ticks : List ℕ} (came : Came bytes fresh_ta
       ∙ written_right came.reads out
       ∙ rw (le-leb (length text) (length out) fits)
 
-  pub told : {n : ℕ} {l : Lent} {b : List ℕ} → l.output ≡ out → r ≡ Done n → Told n bytes l (lent names nums ticks b m)
+  pub told : {n : ℕ} {l : Lent} {b : List ℕ} → l.output ≡ out → r ≡ Ok n → Told n bytes l (lent names nums ticks b m)
   told {n} q p =
-      let same : Done n ≡ Done (length text) = sym p ∙ ap (λ (x : Reported). x.answer) all_written in
+      let same : Ok n ≡ Ok (length text) = sym p ∙ ap (λ (x : Reported). x.answer) all_written in
       record {
         came = came;
         size = cc;
@@ -79,9 +77,9 @@ module _ {bytes : ℕ} {names nums ticks : List ℕ} (came : Came bytes fresh_ta
       }
 
   -- never "too short"
-  pub always_fits : {n : ℕ} → r ≡ NotPrinted n → ⊥
+  pub always_fits : {n : ℕ} → r ≡ Err n → ⊥
   always_fits {n} q =
-      let p : NotPrinted n ≡ Done (length text) = sym q ∙ ap (λ (x : Reported). x.answer) all_written in
+      let p : Err n ≡ Ok (length text) = sym q ∙ ap (λ (x : Reported). x.answer) all_written in
       let z : ◌≡◌ {A = ℕ} 0 1 = cc in
       omega arith
 

@@ -1,5 +1,5 @@
 -- One line against the tables: each return of the code is what the definitions say. So too where the tables are tested first, for a line and a chunk.
-use Rattle.std.proofs.Common.{◌≡◌, ℕ, List, sym, ◌∙◌, eq-eqb, ne_eqb, None, Some, Option}
+use Rattle.std.proofs.Common.{◌≡◌, ℕ, List, sym, ◌∙◌, eq-eqb, ne_eqb, None, Some, Option, Err, Ok}
 use Rattle.walk.specs.Lines.{whole_lines, used_up}
 use Rattle.fields.specs.Part.{field_of, part_from}
 use Rattle.line.specs.declared.event.Event.{Event as ReadEvent}
@@ -15,9 +15,7 @@ use Rattle.tables.specs.Sized.{Sized}
 use Rattle.ranges.specs.Range.{table_answer}
 use Rattle.ranges.proofs.Valid.{valid}
 use Rattle.lookup.specs.declared.look.LookedUp.{LookedUp}
-use Rattle.decide.specs.declared.plan.Plan.{Plan}
-use Rattle.decide.specs.declared.plan.Plan.TheVariants.{Refuse, Take}
-use Rattle.decide.specs.Decide.{decided}
+use Rattle.decide.specs.Decide.{Plan, decided}
 use Rattle.decide.proofs.Decided.{decided_sized}
 use Rattle.store.specs.Store.{stored}
 use Rattle.store.proofs.Stores.{stored_sized}
@@ -27,12 +25,12 @@ use Rattle.judge.specs.Feed.{judged_lines, chunked, fed_next, fed_chunk}
 -- ---- an event line
 
 module _ (t : Tables) where
-  pub refused_carried : {p : Plan} {r n : ℕ} {m : List ℕ} (e : Event) → p ≡ Refuse n → r ≡ n → m ≡ remembered t.nums n
+  pub refused_carried : {p : Plan} {r n : ℕ} {m : List ℕ} (e : Event) → p ≡ Err n → r ≡ n → m ≡ remembered t.nums n
       → after r t.names m t.ticks ≡ carried p t e
   refused_carried e p r m = rw (p, r, m)
 
   pub taken_carried : {p : Plan} {s : LookedUp} {state : ℕ} {u : Tables} (e : Event) → Sized t.names t.nums t.ticks
-      → p ≡ Take s state → u ≡ stored t s state e → after 0 u.names u.nums u.ticks ≡ carried p t e
+      → p ≡ Ok (s, state) → u ≡ stored t s state e → after 0 u.names u.nums u.ticks ≡ carried p t e
   taken_carried {s = s} {state} e z p q = rw (p, q, stored_sized t s state e z)
 
   pub carried_judged : {p : Plan} {source target : List ℕ} (l : List ℕ) (e : ReadEvent) (count : ℕ) → Sized t.names t.nums t.ticks

@@ -1,5 +1,5 @@
 -- Every line keeps the sizes of the three tables, and so do many lines and a fresh start.
-use Rattle.std.proofs.Common.{◌≡◌, ℕ, zero, suc, Bool, true, false, cond, eqb, List, [], ◌∷◌, length, set, refl, ◌∙◌, length-set}
+use Rattle.std.proofs.Common.{◌≡◌, ℕ, zero, suc, Bool, true, false, cond, eqb, List, [], ◌∷◌, length, set, refl, ◌∙◌, length-set, Err, Ok}
 use Rattle.fields.specs.Part.{field_of}
 use Rattle.line.specs.declared.event.Event.{Event as ReadEvent}
 use Rattle.line.specs.declared.reading.Reading.{Reading}
@@ -12,9 +12,7 @@ use Rattle.steps.specs.PlaceCode.{answer_by_reading}
 use Rattle.tables.specs.Entry.{scale_index, creator_index, date_index, verdict_number}
 use Rattle.tables.specs.Sized.{Sized}
 use Rattle.ranges.proofs.FreshTables.{fresh_valid}
-use Rattle.decide.specs.declared.plan.Plan.{Plan}
-use Rattle.decide.specs.declared.plan.Plan.TheVariants.{Refuse, Take}
-use Rattle.decide.specs.Decide.{plan_of}
+use Rattle.decide.specs.Decide.{Plan, plan_of}
 use Rattle.store.proofs.Stores.{length_taken_names, length_taken_nums, length_taken_ticks}
 use Rattle.judge.specs.Feed.{Tables, tables, After, after, place_in, remembered, counted, carried, judged_event, judged_reading, judged_in_place, judged_line}
 use Rattle.judge.specs.Feed.{judged_lines, fresh_tables}
@@ -48,8 +46,8 @@ only_nums : (t : Tables) (m : List ℕ) → length m ≡ length t.nums → Alike
 only_nums t m e = record { names_kept = refl; nums_kept = e; ticks_kept = refl }
 
 carried_alike : (p : Plan) (t : Tables) (e : Event) → Alike t (carried p t e).left
-carried_alike (Refuse n) t e = only_nums t (remembered t.nums n) (length_remembered t.nums n)
-carried_alike (Take s state) t e =
+carried_alike (Err n) t e = only_nums t (remembered t.nums n) (length_remembered t.nums n)
+carried_alike (Ok (s, state)) t e =
     record {
       names_kept = length_taken_names t.names t.nums s e.kind e.source e.target;
       nums_kept = length_taken_nums t.nums s state e;

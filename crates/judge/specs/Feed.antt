@@ -1,5 +1,5 @@
 -- One line against the tables, and many lines.
-use Rattle.std.specs.Prelude.{ℕ, ◌+◌, ◌%◌, ◌^◌, Bool, true, false, cond, not, List, [], ◌∷◌, length, replicate, ◌==◌, slice_set, None, Some, Option}
+use Rattle.std.specs.Prelude.{ℕ, ◌+◌, ◌%◌, ◌^◌, Bool, true, false, cond, not, List, [], ◌∷◌, length, replicate, ◌==◌, slice_set, None, Some, Option, Err, Ok}
 use Rattle.walk.specs.Lines.{whole_lines, used_up}
 use Rattle.fields.specs.Part.{field_of, part_from}
 use Rattle.line.specs.declared.event.Event.{Event as ReadEvent}
@@ -15,9 +15,7 @@ use Rattle.steps.specs.PlaceCode.{answer_by_reading}
 pub use Rattle.tables.specs.Entry.{Tables, tables}
 use Rattle.tables.specs.Entry.{verdict_index, verdict_line_index, lines_index, scale_index, creator_index, date_index, names_size, nums_size, ticks_size, verdict_number, line_count, scale_entry, creator_entry, date_entry, started_entry}
 use Rattle.ranges.specs.Range.{table_answer}
-use Rattle.decide.specs.declared.plan.Plan.{Plan}
-use Rattle.decide.specs.declared.plan.Plan.TheVariants.{Refuse, Take}
-use Rattle.decide.specs.Decide.{plan_of}
+use Rattle.decide.specs.Decide.{Plan, plan_of}
 use Rattle.store.specs.Store.{taken_tables}
 use Rattle.judge.specs.declared.feed.Fed.{Fed}
 
@@ -50,8 +48,8 @@ counted nums = slice_set nums lines_index ((line_count nums + 1) % 2 ^ 32)
 
 -- an event line decided and stored
 abbrev pub carried : Plan → Tables → Event → After
-carried (Refuse n) t e = after n t.names (remembered t.nums n) t.ticks
-carried (Take s state) t e = record { answer = 0; left = taken_tables t s state e }
+carried (Err n) t e = after n t.names (remembered t.nums n) t.ticks
+carried (Ok (s, state)) t e = record { answer = 0; left = taken_tables t s state e }
 
 unfoldable pub judged_event : Tables → List ℕ → ReadEvent → ℕ → After
 judged_event t l e count =

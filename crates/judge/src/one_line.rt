@@ -7,7 +7,7 @@ ghost use Rattle.tables.specs.Sized.{Sized};
 ghost use Rattle.judge.specs.Feed.{tables, after, place_in, remembered, counted, judged_event, judged_reading, judged_line};
 
 use bill::scale::scale_number;
-use decide::plan::{Plan, decide};
+use decide::plan::decide;
 use fields::part::Commas;
 use line::event::Event;
 use line::reading::{Reading, Split};
@@ -79,10 +79,10 @@ fn event_in(
     let after_fourth = c.c4 + 1;
     let source = &l[after_first..c2];
     let target = &l[after_fourth..c5];
-    let p = decide(names, nums, ticks, e, count, source, target);
-    match p {
-        Plan::Refuse(n) => remember(nums, n),
-        Plan::Take(s, state) => {
+    let plan = decide(names, nums, ticks, e, count, source, target);
+    match plan {
+        Err(refusal) => remember(nums, refusal.number()),
+        Ok((s, state)) => {
             take(names, nums, ticks, s, state, e, count, source, target);
             0
         }
@@ -131,9 +131,8 @@ pub(crate) fn line_in(
     }
     let c = s.commas;
     let r = s.reading;
-    let n = answer_in_place(place_in(nums), r);
-    if n != 0 {
-        return remember(nums, n);
+    if let Err(refusal) = answer_in_place(place_in(nums), r) {
+        return remember(nums, refusal.number());
     }
     read_in(names, nums, ticks, l, c, r)
 }

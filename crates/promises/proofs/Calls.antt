@@ -38,7 +38,6 @@ use Rattle.outcome.specs.declared.now.Outcome.{Outcome}
 use Rattle.outcome.specs.AtEnd.{verdict_in}
 use Rattle.outcome.specs.Outcome.{Asked, asked, refused_by, filled, outcome_in, trace_outcome}
 use Rattle.outcome.proofs.AtEnd.{told_most}
-use Rattle.run.specs.declared.report.Printed.TheVariants.{Done, NotPrinted}
 use Rattle.run.specs.Report.{Reported, reported, printed_answer, text_printed, outcome_printed, report_written}
 use Rattle.promises.specs.Answers.{read_answers, decide_answers, fresh_answers, feed_answers, trace_answers, print_answers, report_answers, write_nothing}
 use Rattle.promises.proofs.Judged.{after_lines, never_16}
@@ -233,7 +232,7 @@ module _ (text out : List ℕ) where
   unfolding text_printed printed_answer
   text_prints answers z f = by_room (leb (length text) (length out))
     where
-      by_room : (b : Bool) → Printing (cond b (reported (Done (length text)) (written out 0 text)) (reported (NotPrinted 15) out)) out answers
+      by_room : (b : Bool) → Printing (cond b (reported (Ok (length text)) (written out 0 text)) (reported (Err 15) out)) out answers
       by_room true = record { gives = z; spares = λ h. absurd (h refl) }
       by_room false = record { gives = f; spares = λ h. refl }
 
@@ -245,6 +244,6 @@ pub reports : (names nums ticks out : List ℕ) → Printing (report_written nam
 unfolding report_written printed_answer
 reports names nums ticks out =
     let text = report_text (verdict_in nums ticks) (sheet_text (sheet_in names nums ticks)) in
-    own names nums ticks (λ n. Printing (if_zero n (text_printed text out) (reported (NotPrinted n) out)) out report_answers)
+    own names nums ticks (λ n. Printing (if_zero n (text_printed text out) (reported (Err n) out)) out report_answers)
     (λ e. text_prints text out report_answers refl refl)
     (record { gives = refl; spares = λ h. refl }) (record { gives = refl; spares = λ h. refl })

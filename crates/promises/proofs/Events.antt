@@ -1,4 +1,5 @@
 -- An event line against tables that show a history: it is decided as the history says, and the tables after one that is taken show it too.
+use Rattle.std.proofs.Common.{Err, Ok}
 use mathlib.Core.Path.{◌≡◌, refl, sym}
 use mathlib.Core.List.{List, [], ◌∷◌}
 use Prim.Native.Nat.{ℕ, zero, suc}
@@ -18,9 +19,7 @@ use Rattle.rules.proofs.Meets.{Met, line_meets}
 use Rattle.rules.proofs.Traces.{Kept}
 use Rattle.lookup.specs.declared.look.LookedUp.{LookedUp}
 use Rattle.lookup.specs.LookedUp.{looked_up}
-use Rattle.decide.specs.declared.plan.Plan.{Plan}
-use Rattle.decide.specs.declared.plan.Plan.TheVariants.{Refuse, Take}
-use Rattle.decide.specs.Decide.{enters, plan_by, plan_of}
+use Rattle.decide.specs.Decide.{Plan, enters, plan_by, plan_of}
 use Rattle.store.specs.Store.{taken_tables}
 use Rattle.judge.specs.Feed.{Tables, carried, judged_event}
 use Rattle.promises.specs.Shown.{Shown, Shows}
@@ -89,7 +88,7 @@ module _ (h : List Event) (a : Accepted h) (met : AllMet h) (t : Tables) (s : Sh
 
   -- from the rows that were looked up
   planned : (v : LookedUp) → Plan
-  planned v = if_zero (answer h event) (Take v (enters t.nums v event)) (Refuse (answer h event))
+  planned v = if_zero (answer h event) (Ok (v, enters t.nums v event)) (Err (answer h event))
 
   plan_shown : Met event → plan_of t.names t.nums t.ticks event ≡ planned (looked_up t.names t.nums event)
   unfolding plan_of plan_by planned
@@ -101,7 +100,7 @@ module _ (h : List Event) (a : Accepted h) (met : AllMet h) (t : Tables) (s : Sh
     where
       by_answer : (n : ℕ) → answer h event ≡ n →
           let v = looked_up t.names t.nums event in
-          EventOutcome h t event (carried (if_zero n (Take v (enters t.nums v event)) (Refuse n)) t event)
+          EventOutcome h t event (carried (if_zero n (Ok (v, enters t.nums v event)) (Err n)) t event)
       by_answer zero q =
           rw (looked_up_shown h a met t s event)
           (record {

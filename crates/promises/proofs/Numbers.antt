@@ -1,5 +1,6 @@
 -- The numbers that the judge gives, over any tables of the right sizes: a line's own refusal is one of 1 to 7, an event's one of 8 to 14, and the answer to
 -- a line is the verdict that is remembered after it.
+use Rattle.std.proofs.Common.{Err, Ok}
 use mathlib.Core.Path.{◌≡◌, refl, ◌∙◌}
 use mathlib.Core.Bool.{Bool, true, false, cond}
 use mathlib.Core.List.{List, [], ◌∷◌}
@@ -20,9 +21,7 @@ use Rattle.rules.specs.Lines.{event_from}
 use Rattle.steps.proofs.ByReading.{by_reading_right}
 use Rattle.steps.specs.PlaceCode.{answer_by_reading}
 use Rattle.tables.specs.Entry.{nums_size, verdict_index, lines_index, scale_index, creator_index, date_index, started_index, verdict_number}
-use Rattle.decide.specs.declared.plan.Plan.{Plan}
-use Rattle.decide.specs.declared.plan.Plan.TheVariants.{Refuse, Take}
-use Rattle.decide.specs.Decide.{plan_answer, plan_of}
+use Rattle.decide.specs.Decide.{Plan, plan_answer, plan_of}
 use Rattle.decide.proofs.Decided.{plan_refuses}
 use Rattle.judge.specs.Feed.{Tables, After, after, place_in, remembered, counted, carried, judged_event, judged_reading, judged_in_place, judged_line, judged_lines}
 use Rattle.judge.proofs.Sizes.{judged_line_alike}
@@ -63,8 +62,8 @@ module _ (t : Tables) (z : length t.nums ≡ nums_size) where
 
     carried_numbered : (p : Plan) → plan_answer p ≤ last_refusal → (e : Event) → AnswerKept (carried p t e)
     unfolding plan_answer
-    carried_numbered (Refuse n) m e = refusal_numbered n m
-    carried_numbered (Take s state) m e =
+    carried_numbered (Err n) m e = refusal_numbered n m
+    carried_numbered (Ok (s, state)) m e =
         record { most = omega arith; kept = verdict_number_kept t.nums z s state e ∙ v }
 
     read_numbered : (r : Reading) (l : List ℕ) → AnswerKept (judged_reading r t l)

@@ -1,5 +1,6 @@
 -- Over any tables. 3: a refused line changes no entry but the two of the remembered verdict, and every further line gets that verdict again and changes
 -- nothing, one by one and many at once. 4: 15 and 16 change nothing. 6: no second answer and no second table satisfies the contracts.
+use Rattle.std.proofs.Common.{Err, Ok}
 use mathlib.Core.Path.{◌≡◌, refl, sym, ap, ◌∙◌}
 use mathlib.Core.Bool.{Bool, true, false, cond}
 use mathlib.Core.List.{List, [], ◌∷◌, ◌++◌}
@@ -19,9 +20,7 @@ use Rattle.rules.specs.Lists.{if_zero}
 use Rattle.steps.specs.PlaceCode.{answer_by_reading}
 use Rattle.tables.specs.Entry.{nums_size, lines_index, verdict_number}
 use Rattle.ranges.specs.Range.{table_answer}
-use Rattle.decide.specs.declared.plan.Plan.{Plan}
-use Rattle.decide.specs.declared.plan.Plan.TheVariants.{Refuse, Take}
-use Rattle.decide.specs.Decide.{plan_of}
+use Rattle.decide.specs.Decide.{Plan, plan_of}
 use Rattle.judge.specs.Feed.{Tables, tables, After, after, place_in, remembered, carried, judged_event, judged_reading, judged_in_place}
 use Rattle.judge.specs.Feed.{judged_line, judged_lines, fed_line, AfterChunk, fed_chunk}
 use Rattle.judge.proofs.Sizes.{judged_line_alike}
@@ -52,8 +51,8 @@ Spares t x = (x.answer ≡ 0 → ⊥) → OnlyVerdict t x.left
 
 module _ (t : Tables) where
   carried_spares : (p : Plan) (e : Event) → Spares t (carried p t e)
-  carried_spares (Refuse n) e n' = verdict_stored t n
-  carried_spares (Take s state) e n' = absurd (n' refl)
+  carried_spares (Err n) e n' = verdict_stored t n
+  carried_spares (Ok (s, state)) e n' = absurd (n' refl)
 
   read_spares : (r : Reading) (l : List ℕ) → Spares t (judged_reading r t l)
   unfolding judged_event

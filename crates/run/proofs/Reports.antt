@@ -1,5 +1,6 @@
 -- Laws of what is printed: the text of an outcome is the verdict's line and as much of the sheet as is printed; and the outcome that the tables tell is printed as their text,
 -- since a sheet always fits into the memory that it is filled into.
+use Rattle.std.proofs.Common.{Err, Ok}
 use mathlib.Core.Path.{◌≡◌, sym, ap, ◌∙◌}
 use mathlib.Core.Bool.{cond}
 use mathlib.Core.Logic.{◌⊎◌, inl, inr, ⊎_elim}
@@ -24,7 +25,6 @@ use Rattle.outcome.specs.declared.now.Outcome.{Outcome}
 use Rattle.outcome.specs.AtEnd.{verdict_in}
 use Rattle.outcome.specs.Outcome.{Asked, asked, refused_by, outcome_in}
 use Rattle.outcome.proofs.AtEnd.{told_most}
-use Rattle.run.specs.declared.report.Printed.TheVariants.{Done, NotPrinted}
 use Rattle.run.specs.Report.{reported, text_printed, outcome_printed, report_written}
 
 -- ---- as much of the sheet as is printed
@@ -46,12 +46,12 @@ module _ (o : Outcome) (sheet : List ℕ) where
     text_length : length text ≡ n + m
     text_length = omega (arith, line, ap length both, length-append (verdict_text o.verdict) (take m sheet), length-take-le m sheet fits)
 
-    pub outcome_full : length out < n + m → reported (NotPrinted 15) out ≡ outcome_printed o sheet out
+    pub outcome_full : length out < n + m → reported (Err 15) out ≡ outcome_printed o sheet out
     unfolding outcome_printed text_printed
     outcome_full h = rw (lt-leb (length text) (length out) (omega (arith, text_length)))
 
     pub outcome_done : {i j : ℕ} {k l : List ℕ} → n + m ≤ length out
-        → after i k ≡ put out 0 (verdict_text o.verdict) → after j l ≡ put k i (take m sheet) → reported (Done j) l ≡ outcome_printed o sheet out
+        → after i k ≡ put out 0 (verdict_text o.verdict) → after j l ≡ put k i (take m sheet) → reported (Ok j) l ≡ outcome_printed o sheet out
     unfolding outcome_printed text_printed
     outcome_done {i} {j} {k} {l} h p q =
         let all : after j l ≡ put out 0 text = rw both (put_two out 0 (verdict_text o.verdict) (take m sheet) p q (omega (arith, ap length both, text_length))) in
@@ -87,12 +87,12 @@ module _ (names nums ticks : List ℕ) where
     unfolding outcome_in
     refused h = ap (λ (x : Asked). x.outcome.verdict.number) (e ∙ if_some own _ (asked (refused_by own) blank) (λ z. omega arith))
 
-    pub report_refused : (out : List ℕ) → 15 ≤ o.verdict.number → reported (NotPrinted o.verdict.number) out ≡ report_written names nums ticks out
+    pub report_refused : (out : List ℕ) → 15 ≤ o.verdict.number → reported (Err o.verdict.number) out ≡ report_written names nums ticks out
     unfolding report_written
     report_refused out h =
         ⊎_elim
         (λ z. absurd (omega (arith, told_most names nums ticks z, ap (λ (x : Outcome). x.verdict.number) (told z).0)))
-        (λ l. rw (refused l) (sym (if_some own _ (reported (NotPrinted own) out) (λ z. omega arith)))) own_least
+        (λ l. rw (refused l) (sym (if_some own _ (reported (Err own) out) (λ z. omega arith)))) own_least
 
     pub report_told : (out : List ℕ) → o.verdict.number < 15 → outcome_printed o m out ≡ report_written names nums ticks out
     unfolding outcome_printed report_written

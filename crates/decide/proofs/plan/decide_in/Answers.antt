@@ -6,8 +6,7 @@ use Rattle.rules.specs.Event.{Event}
 use Rattle.rules.specs.Lines.{kind_number, event_from}
 use Rattle.lookup.specs.declared.look.LookedUp.{LookedUp}
 use Rattle.lookup.specs.LookedUp.{looked_up_for, looked_up}
-use Rattle.decide.specs.declared.plan.Plan.{Plan}
-use Rattle.decide.specs.Decide.{plan_of}
+use Rattle.decide.specs.Decide.{Plan, plan_of}
 use Rattle.decide.specs.PlanCode.{tests_plan}
 use Rattle.decide.proofs.Plans.{tests_decide}
 use Rattle.decide.proofs.plan.decide_in.Goals as goal

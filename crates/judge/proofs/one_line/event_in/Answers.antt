@@ -1,9 +1,11 @@
 -- `judge::one_line::event_in` meets its contract: the plan is the definition's, and either arm carries it out.
-use Rattle.std.proofs.Common.{◌≡◌, ℕ, ◌+◌, ◌-◌, List, take, drop, sym, ◌∙◌, add-one, arith}
+use Rattle.std.proofs.Common.{◌≡◌, ℕ, ◌+◌, ◌-◌, List, take, drop, sym, ap, ◌∙◌, add-one, arith}
 use Rattle.fields.specs.declared.part.Commas.{Commas}
 use Rattle.fields.specs.Part.{commas_of, field_of, part_from}
 use Rattle.fields.proofs.Parts.{field_place}
 use Rattle.line.proofs.Said.{event_order}
+use Rattle.text.specs.Refusal.{numbered}
+use Rattle.judge.specs.Feed.{remembered}
 use Rattle.judge.proofs.Feeds.{refused_carried, taken_carried, carried_judged}
 use Rattle.judge.proofs.one_line.event_in.Goals as goal
 
@@ -41,12 +43,14 @@ slice_bounds-target-start c = omega (arith, event_order _ _ _ _ c.requires.1.0 c
 pub slice_bounds-target-end : goal.slice_bounds-target-end
 slice_bounds-target-end c = omega (arith, event_order _ _ _ _ c.requires.1.0 c.requires.1.1)
 
-pub returns-in-Refuse : goal.returns-in-Refuse
-returns-in-Refuse c =
+pub returns-in-Err : goal.returns-in-Err
+returns-in-Err c =
     let f = fields c.args.l.now c.args.c c.requires.1.0 in
-    refused_carried _ _ c.in-Refuse.is c.remember.ensures.0 c.remember.ensures.1 ∙ carried_judged _ _ _ _ c.requires.0 f.0 f.1 c.decide-p.ensures
+    let n = c.number.ensures in
+    refused_carried _ _ (ap numbered c.in-Err.is) (c.remember.ensures.0 ∙ n) (c.remember.ensures.1 ∙ ap (remembered c.args.nums.now) n)
+    ∙ carried_judged _ _ _ _ c.requires.0 f.0 f.1 c.decide-plan.ensures
 
-pub returns-in-Take : goal.returns-in-Take
-returns-in-Take c =
+pub returns-in-Ok : goal.returns-in-Ok
+returns-in-Ok c =
     let f = fields c.args.l.now c.args.c c.requires.1.0 in
-    taken_carried _ _ c.requires.0 c.in-Take.is c.take.ensures ∙ carried_judged _ _ _ _ c.requires.0 f.0 f.1 c.decide-p.ensures
+    taken_carried _ _ c.requires.0 (ap numbered c.in-Ok.is) c.take.ensures ∙ carried_judged _ _ _ _ c.requires.0 f.0 f.1 c.decide-plan.ensures
