@@ -4,7 +4,7 @@ ghost use Rattle.text.specs.Put.{put, after};
 ghost use Rattle.bill.specs.Text.{rows_text};
 ghost use Rattle.adding.specs.AddCode.{Paired, sums_of, room_of};
 
-use crate::merge::{Merged, put_sums};
+use crate::merge::{Merged, Side, put_sums};
 use crate::sheet::Sheet;
 use bill::section::Section;
 
@@ -26,14 +26,15 @@ pub(crate) fn put_section_rows(
     ensures { (result.count ≡ length (sums_of section a.now x.now b.now y.now))
         × (after result.next out.new ≡ put out.old 0 (rows_text (sums_of section a.now x.now b.now y.now))) }
 {
-    put_sums(
-        section,
-        a,
-        x.places(section),
-        x.form.span,
-        b,
-        y.places(section),
-        y.form.span,
-        out,
-    )
+    let left = Side {
+        text: a,
+        places: x.places(section),
+        span: x.form.span,
+    };
+    let right = Side {
+        text: b,
+        places: y.places(section),
+        span: y.form.span,
+    };
+    put_sums(section, &left, &right, out)
 }
