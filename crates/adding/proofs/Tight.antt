@@ -46,6 +46,21 @@ answer_is (Err r) out = ap Err (why_is r)
 pub told_once : (r q : Result ℕ Why) (m n : List ℕ) → told_as r m ≡ told_as q n → r ≡ q
 told_once r q m n e = sym (answer_is r m) ∙ ap (λ (x : Summed). answer_by x.answer) e ∙ answer_is q n
 
+-- ---- the number of a refusal
+
+pub number_unique : (r : Why) (x y : ℕ) → x ≡ number_of r → y ≡ number_of r → x ≡ y
+number_unique = unique number_of
+
+-- the output's behind the others
+pub number_not_in_line : ShutsOut number_of (λ r. cond (eqb (number_of r) 15) 26 (number_of r))
+number_not_in_line = shut_out (λ n. eqb n 15) Output refl refl
+
+-- one for all
+pub number_not_one : ShutsOut number_of (λ r. 21)
+number_not_one = shut_out (λ n. eqb n 22) Scales refl refl
+
+-- ---- what is put
+
 abbrev adds : List ℕ × List ℕ × List ℕ → Summed
 adds (a, b, out) = add_into a b out
 
