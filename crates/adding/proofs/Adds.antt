@@ -2,11 +2,13 @@
 use mathlib.Core.Path.{◌≡◌, refl, sym, ap, ◌∙◌}
 use mathlib.Core.Bool.{true, false}
 use mathlib.Core.List.{List}
-use Prim.Native.Nat.{ℕ, zero, suc, ◌+◌, ◌≤◌, ◌<◌}
+use Prim.Native.Nat.{ℕ, ◌+◌, ◌-◌, ◌≤◌, ◌<◌}
 use native.Mathlib.Omega.{arith}
 use lib.Dec.{eqb}
-use lib.ListN.{length}
+use lib.ListN.{length, take}
 use Rattle.text.specs.Sizes.{max_time}
+use Rattle.text.specs.Put.{after, put}
+use Rattle.text.proofs.Writes.{put_front}
 use Rattle.bill.specs.declared.section.Section.{Section}
 use Rattle.bill.specs.declared.section.Section.TheVariants.{Cores, Processes}
 use Rattle.bill.specs.Rows.{Row}
@@ -19,9 +21,12 @@ use Rattle.shifts.proofs.Fine.{Fine, few_names, sound_is}
 use Rattle.shifts.proofs.SortedRows.{add_sorted}
 use Rattle.shifts.proofs.Sizes.{core_rows_most, process_rows_most}
 use Rattle.shifts.proofs.AddedRows.{count_add}
-use Rattle.adding.specs.declared.add.Sum.TheVariants.{Refused}
+use Rattle.std.specs.declared.result.Result.TheVariants.{Err}
+use Rattle.adding.specs.declared.refusal.Refusal.{Refusal as Why}
+use Rattle.adding.specs.declared.refusal.Refusal.TheVariants.{Output, Malformed, Scales, Names, TooMany, TooLong}
 use Rattle.adding.specs.declared.sheet.Sheet.{Sheet}
-use Rattle.adding.specs.Adding.{summed, into_output, add_into}
+use Rattle.adding.specs.declared.whole.Made.{Made}
+use Rattle.adding.specs.Adding.{number_of, summed, into_output, add_into}
 use Rattle.adding.specs.MergeCode.{sum_rows, Merging}
 use Rattle.adding.specs.SheetCode.{places_of, Booked}
 use Rattle.adding.specs.AddCode.{counted_text, made_text, own_refusal, Paired, sums_of, room_of}
@@ -33,11 +38,11 @@ merged : (section : Section) (cs ds : List Row) {rs qs : List Row} {x y a b : �
 merged section cs ds e g h k m n = rw (e, g, h, k) (add_sorted _ _ _ _ m n)
 
 -- the text from its parts is that of the bill
-made_is : (b : Bill) {scale span k m : ℕ} {u v : List ℕ} → scale ≡ b.scale → span ≡ b.sheet.span
-    → k ≡ length b.sheet.cores → u ≡ rows_text b.sheet.cores → m ≡ length b.sheet.processes → v ≡ rows_text b.sheet.processes
-    → made_text scale span k u m v ≡ bill_text b
+made_is : (b : Bill) (d : Made) → d.scale ≡ b.scale → d.span ≡ b.sheet.span
+    → d.cores ≡ length b.sheet.cores → d.core_lines.now ≡ rows_text b.sheet.cores → d.processes ≡ length b.sheet.processes → d.process_lines.now ≡ rows_text b.sheet.processes
+    → made_text d ≡ bill_text b
 unfolding made_text counted_text bill_text sheet_text section_text
-made_is b e1 e2 e3 e4 e5 e6 = rw (e1, e2, e3, e4, e5, e6)
+made_is b d e1 e2 e3 e4 e5 e6 = rw (e1, e2, e3, e4, e5, e6)
 
 -- 24 and 25, where neither 22 nor 23 holds
 own_by : (a b : Bill) {k m n : ℕ} → k ≡ length (sum a b).sheet.cores → m ≡ length (sum a b).sheet.processes → n ≡ (sum a b).sheet.span
@@ -46,9 +51,20 @@ unfolding own_refusal refusal too_many sum
 own_by a b e1 e2 e3 e4 e5 = rw (e1, e2, e3, e4, e5)
 
 -- a refusal is answered, and nothing written
-refused_as : (n : ℕ) (b : Bill) (out : List ℕ) → (n ≡ 0 → ⊥) → summed (Refused n) out ≡ into_output (total_by n b) out
-refused_as zero b out h = absurd (h refl)
-refused_as (suc n) b out h = refl
+refused_as : (r : Why) (b : Bill) (out : List ℕ) → summed (Err (number_of r)) out ≡ into_output (total_by (number_of r) b) out
+refused_as Output b out = refl
+refused_as Malformed b out = refl
+refused_as Scales b out = refl
+refused_as Names b out = refl
+refused_as TooMany b out = refl
+refused_as TooLong b out = refl
+
+-- what was put at the front of an output that has room
+pub in_front : {m : List ℕ} {k : ℕ} (l t : List ℕ) → after k m ≡ put l 0 t → length t ≤ length l → (take k m ≡ t) × (k ≤ length m)
+in_front {k = k} l t p h =
+    let w = put_front l t p h in
+    let z : k - 0 ≡ k = omega arith in
+    (rw z at w.0, omega (arith, w.1))
 
 module _ {s : List ℕ} {x : Sheet} {t : List ℕ} {y : Sheet} (p : Paired s x t y) where
   abbrev first : Bill
@@ -136,17 +152,17 @@ module _ {s : List ℕ} {x : Sheet} {t : List ℕ} {y : Sheet} (p : Paired s x t
     own_is : own_refusal k m (x.form.span + y.form.span) ≡ refusal first second
     own_is = own_by first second k_is m_is spans p.one_scale p.no_clash
 
-    pub sum_refused : {n : ℕ} (out : List ℕ) → n ≡ own_refusal k m (x.form.span + y.form.span) → (n ≡ 0 → ⊥) → summed (Refused n) out ≡ add_into s t out
+    pub sum_refused : (r : Why) (out : List ℕ) → number_of r ≡ own_refusal k m (x.form.span + y.form.span) → summed (Err (number_of r)) out ≡ add_into s t out
     unfolding add_into
-    sum_refused {n} out e h =
-        refused_as n (sum first second) out h ∙ ap (λ r. into_output (total_by r (sum first second)) out) (e ∙ own_is) ∙ ap (λ r. into_output r out) (sym (comes_to p.both))
+    sum_refused r out e =
+        refused_as r (sum first second) out ∙ ap (λ r. into_output (total_by r (sum first second)) out) (e ∙ own_is) ∙ ap (λ r. into_output r out) (sym (comes_to p.both))
 
-    pub sum_made : {u v : List ℕ} (out : List ℕ) → own_refusal k m (x.form.span + y.form.span) ≡ 0
-        → u ≡ rows_text (sums_of Cores s x t y) → v ≡ rows_text (sums_of Processes s x t y)
-        → into_output (Text (made_text x.form.scale (x.form.span + y.form.span) k u m v)) out ≡ add_into s t out
+    pub sum_made : (d : Made) (out : List ℕ) → own_refusal k m (x.form.span + y.form.span) ≡ 0 → d.scale ≡ x.form.scale → d.span ≡ x.form.span + y.form.span
+        → d.cores ≡ k → d.core_lines.now ≡ rows_text (sums_of Cores s x t y) → d.processes ≡ m → d.process_lines.now ≡ rows_text (sums_of Processes s x t y)
+        → into_output (Text (made_text d)) out ≡ add_into s t out
     unfolding add_into
-    sum_made out z e1 e2 =
+    sum_made d out z e1 e2 e3 e4 e5 e6 =
         ap (λ r. into_output (Text r) out)
-        (made_is (sum first second) scale_is spans k_is (e1 ∙ ap rows_text (sums_merged Cores)) m_is (e2 ∙ ap rows_text (sums_merged Processes)))
+        (made_is (sum first second) d (e1 ∙ scale_is) (e2 ∙ spans) (e3 ∙ k_is) (e4 ∙ ap rows_text (sums_merged Cores)) (e5 ∙ m_is) (e6 ∙ ap rows_text (sums_merged Processes)))
         ∙ ap (λ r. into_output (total_by r (sum first second)) out) (sym z ∙ own_is)
         ∙ ap (λ r. into_output r out) (sym (comes_to p.both))

@@ -12,7 +12,7 @@ use Rattle.text.specs.Lists.{any}
 use Rattle.bill.specs.Reading.{Bill}
 use Rattle.shifts.specs.Sound.{too_many, sound_sheet}
 use Rattle.shifts.specs.Sum.{sum, clash, refusal, Total, Text, Refusal, total_by, add_sound, add_texts}
-use Rattle.adding.specs.declared.add.Sum.TheVariants.{Added, Refused}
+use Rattle.std.specs.declared.result.Result.TheVariants.{Ok, Err}
 use Rattle.adding.specs.Adding.{Summed, summed, sum_answer, into_output, add_into, add_answers}
 
 abbrev is_one : ℕ → Bool
@@ -57,7 +57,7 @@ into : (x : Total) (out : List ℕ) → Numbered x → Spared (into_output x out
 unfolding sum_answer
 into (Text t) out e = go (leb (length t) (length out))
   where
-    go : (b : Bool) → Spared (cond b (summed (Added (length t)) (written out 0 t)) (summed (Refused 15) out)) out
+    go : (b : Bool) → Spared (cond b (summed (Ok (length t)) (written out 0 t)) (summed (Err 15) out)) out
     go true = (refl, λ h. absurd (h refl))
     go false = (refl, λ h. refl)
 into (Refusal n) out e = (e, λ h. refl)

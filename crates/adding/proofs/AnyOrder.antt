@@ -21,7 +21,7 @@ use Rattle.shifts.proofs.Turned.{texts_turned}
 use Rattle.shifts.proofs.Groupings.{texts_grouped}
 use Rattle.shifts.proofs.AnyOrder.{any_way}
 use Rattle.shifts.proofs.Empty.{empty_after}
-use Rattle.adding.specs.declared.add.Sum.TheVariants.{Added}
+use Rattle.std.specs.declared.result.Result.TheVariants.{Ok}
 use Rattle.adding.specs.Adding.{summed, into_output, add_into, told, add_told, Calls, NoCall, Call, grouping_of, calls_tell, HaveRoom}
 
 -- ---- two sheets, either way round
@@ -66,9 +66,9 @@ calls_any_way x y h k p = rw (calls_told x h, calls_told y k) (any_way (grouping
 -- ---- a sorted sheet and the empty one
 
 module _ (t out : List ℕ) (b : Bill) (s : sound_sheet t ≡ Some b) (o : is_sorted b ≡ true) (fits : length t ≤ length out) where
-  pub call_empty_after : add_into t (bill_text (empty_bill b.scale)) out ≡ summed (Added (length t)) (written out 0 t)
+  pub call_empty_after : add_into t (bill_text (empty_bill b.scale)) out ≡ summed (Ok (length t)) (written out 0 t)
   unfolding add_into
   call_empty_after = rw (empty_after t b s o, le-leb (length t) (length out) fits)
 
-  pub call_empty_before : add_into (bill_text (empty_bill b.scale)) t out ≡ summed (Added (length t)) (written out 0 t)
+  pub call_empty_before : add_into (bill_text (empty_bill b.scale)) t out ≡ summed (Ok (length t)) (written out 0 t)
   call_empty_before = call_turned (bill_text (empty_bill b.scale)) t out ∙ call_empty_after

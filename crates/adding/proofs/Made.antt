@@ -14,7 +14,8 @@ use Rattle.bill.specs.Text.{title}
 use Rattle.bill.specs.Verdict.{accepted_text}
 use Rattle.bill.proofs.Scales.{scale_short}
 use Rattle.bill.proofs.VerdictLine.{length_accepted}
-use Rattle.adding.specs.AddCode.{counted_text, made_text, counted_length, made_length}
+use Rattle.adding.specs.declared.whole.Made.{Made}
+use Rattle.adding.specs.AddCode.{counted_text, counted_length, made_text}
 
 pub title_short : (s : Section) → length (title s) ≤ 10
 title_short Cores = omega arith
@@ -55,27 +56,25 @@ next_room l at a b p h =
     let e = ap (λ (x : Put). x.next) f in
     omega (arith, put_length l at a p)
 
-module _ (scale span cores : ℕ) (first : List ℕ) (processes : ℕ) (second : List ℕ) where
-  abbrev made : List ℕ
-  made = made_text scale span cores first processes second
-
-  pub length_made : length made ≡ made_length scale span cores (length first) processes (length second)
-  unfolding made_text made_length
+module _ (d : Made) where
+  pub length_made : length (made_text d) ≡ length (accepted_text d.scale d.span) + counted_length (title Cores) d.cores (length d.core_lines.now)
+      + counted_length (title Processes) d.processes (length d.process_lines.now)
+  unfolding made_text
   length_made = simp (length-append, length_counted) (omega arith)
 
-  module _ (l : List ℕ) {m1 : List ℕ} {n1 : ℕ} (p : after n1 m1 ≡ put l 0 (accepted_text scale span)) (h : length made ≤ length l) where
+  module _ (l : List ℕ) {m1 : List ℕ} {n1 : ℕ} (p : after n1 m1 ≡ put l 0 (accepted_text d.scale d.span)) (h : length (made_text d) ≤ length l) where
     abbrev cores_text : List ℕ
-    cores_text = counted_text (title Cores) cores first
+    cores_text = counted_text (title Cores) d.cores d.core_lines.now
 
     abbrev processes_text : List ℕ
-    processes_text = counted_text (title Processes) processes second
+    processes_text = counted_text (title Processes) d.processes d.process_lines.now
 
-    fits : 0 + length (accepted_text scale span ++ (cores_text ++ processes_text)) ≤ length l
+    fits : 0 + length (accepted_text d.scale d.span ++ (cores_text ++ processes_text)) ≤ length l
     unfolding made_text
     fits = omega (arith, h)
 
     both_room : n1 + length (cores_text ++ processes_text) ≤ length m1
-    both_room = next_room l 0 (accepted_text scale span) (cores_text ++ processes_text) p fits
+    both_room = next_room l 0 (accepted_text d.scale d.span) (cores_text ++ processes_text) p fits
 
     pub first_room : n1 + length cores_text ≤ length m1
     first_room = omega (arith, both_room, length-append cores_text processes_text)
@@ -84,9 +83,9 @@ module _ (scale span cores : ℕ) (first : List ℕ) (processes : ℕ) (second :
       pub second_room : n2 + length processes_text ≤ length m2
       second_room = next_room m1 n1 cores_text processes_text q both_room
 
-      pub put_made : {m3 : List ℕ} {n3 : ℕ} → after n3 m3 ≡ put m2 n2 processes_text → m3 ≡ written l 0 made
+      pub put_made : {m3 : List ℕ} {n3 : ℕ} → after n3 m3 ≡ put m2 n2 processes_text → m3 ≡ written l 0 (made_text d)
       unfolding made_text
-      put_made r = put_all l (accepted_text scale span) cores_text processes_text p q r fits
+      put_made r = put_all l (accepted_text d.scale d.span) cores_text processes_text p q r fits
 
 -- the verdict's line of a sum is short
 pub head_short : (scale span : ℕ) → span < 18446744073709551616 → length (accepted_text scale span) ≤ 52

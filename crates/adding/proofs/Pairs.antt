@@ -1,9 +1,8 @@
 -- Two sheets that were read: 22 and 23, and that the sum or its refusal is what their bills come to.
-use mathlib.Core.Path.{◌≡◌, refl, sym, ap, ap₂, ◌∙◌}
+use mathlib.Core.Path.{◌≡◌, sym, ap, ap₂, ◌∙◌}
 use mathlib.Core.Bool.{Bool, true, false, ◌||◌}
 use mathlib.Core.List.{List, map, map-map}
-use Prim.Native.Nat.{ℕ, zero, suc}
-use native.Mathlib.Omega.{arith}
+use Prim.Native.Nat.{ℕ}
 use lib.Dec.{eqb}
 use borrow.Author.Tests.{eq-eqb, ne_eqb}
 use Rattle.bill.specs.declared.section.Section.TheVariants.{Cores, Processes}
@@ -14,13 +13,11 @@ use Rattle.sorting.proofs.Keys.{map_sorted}
 use Rattle.sorting.proofs.Meets.{meets_sorted}
 use Rattle.shifts.specs.Sound.{names}
 use Rattle.shifts.specs.Sum.{by_name, sum, clash, refusal, Refusal, total_by, add_texts}
-use Rattle.adding.specs.declared.add.Sum.TheVariants.{Refused}
 use Rattle.adding.specs.declared.sheet.Sheet.{Sheet}
-use Rattle.adding.specs.Adding.{summed, into_output, add_into}
 use Rattle.paper.specs.Lines.{row_at, name_at}
 use Rattle.adding.specs.MergeCode.{rows_at}
 use Rattle.adding.specs.SheetCode.{places_of}
-use Rattle.adding.specs.AddCode.{BothRead, cores_met, Paired, Judged}
+use Rattle.adding.specs.AddCode.{BothRead, cores_met, Paired}
 
 -- the names of rows by their places are those of the section, in order
 in_order : (text places : List ℕ) (rs : List Row) → rows_at text places ≡ sorted_by by_name rs → map (name_at text) places ≡ sorted (names rs)
@@ -77,15 +74,3 @@ module _ {s : List ℕ} {x : Sheet} {t : List ℕ} {y : Sheet} (p : BothRead s x
 
     pub paired : cores_met s x t y ≡ false → cores_met t y s x ≡ false → Paired s x t y
     paired h k = record { both = p; one_scale = one_scale; no_clash = clash_is ∙ rw (h, k) }
-
--- ---- what was judged of a pair
-
-module _ (s : List ℕ) (x : Sheet) (t : List ℕ) (y : Sheet) where
-  pub judged_refused : (n : ℕ) (out : List ℕ) → Judged s x t y n → (n ≡ 0 → ⊥) → summed (Refused n) out ≡ add_into s t out
-  unfolding add_into
-  judged_refused zero out j h = absurd (h refl)
-  judged_refused (suc n) out j h = ap (λ r. into_output r out) (sym j)
-
-  pub judged_paired : (n : ℕ) → Judged s x t y n → n ≡ 0 → Paired s x t y
-  judged_paired zero j e = j
-  judged_paired (suc n) j e = absurd (omega arith)

@@ -1,9 +1,11 @@
 -- How tight the contract of adding is: no second answer, and wrong answers that it shuts out.
-use mathlib.Core.Path.{◌≡◌, refl}
-use mathlib.Core.Bool.{Bool, true, false, not}
+use mathlib.Core.Path.{◌≡◌, refl, sym, ap, ◌∙◌}
+use mathlib.Core.Bool.{Bool, true, false, not, cond}
 use mathlib.Core.List.{List, []}
 use Prim.Native.Nat.{ℕ}
 use lib.Dec.{eqb}
+use Rattle.std.specs.declared.result.Result.{Result}
+use Rattle.std.specs.declared.result.Result.TheVariants.{Ok, Err}
 use lib.ListN.{get_or, replicate}
 use Rattle.text.specs.Bytes.{same_bytes, starts_with}
 use Rattle.text.specs.Pieces.{pieces}
@@ -14,10 +16,50 @@ use Rattle.shifts.specs.Sound.{sound_sheet}
 use Rattle.shifts.specs.Sum.{add_texts}
 use Rattle.shifts.specs.Many.{is_sound}
 use Rattle.shifts.proofs.Nothing.{nothing, nothing_sound, nothing_added}
-use Rattle.adding.specs.Adding.{Summed, summed, sum_answer, add_into}
+use Rattle.adding.specs.declared.refusal.Refusal.{Refusal as Why}
+use Rattle.adding.specs.declared.refusal.Refusal.TheVariants.{Output, Malformed, Scales, Names, TooMany, TooLong}
+use Rattle.adding.specs.Adding.{number_of, Summed, summed, told_as, sum_answer, add_into}
 
 pub add_unique : (a b out : List ℕ) (x y : Summed) → x ≡ add_into a b out → y ≡ add_into a b out → x ≡ y
 add_unique a b = unique (add_into a b)
+
+-- and of the code no second answer, since no two refusals have one number
+abbrev why_by : ℕ → Why
+why_by n = cond (eqb n 15) Output (cond (eqb n 21) Malformed (cond (eqb n 22) Scales (cond (eqb n 23) Names (cond (eqb n 24) TooMany TooLong))))
+
+why_is : (r : Why) → why_by (number_of r) ≡ r
+why_is Output = refl
+why_is Malformed = refl
+why_is Scales = refl
+why_is Names = refl
+why_is TooMany = refl
+why_is TooLong = refl
+
+abbrev answer_by : Result ℕ ℕ → Result ℕ Why
+answer_by (Ok n) = Ok n
+answer_by (Err n) = Err (why_by n)
+
+answer_is : (r : Result ℕ Why) (out : List ℕ) → answer_by (told_as r out).answer ≡ r
+answer_is (Ok n) out = refl
+answer_is (Err r) out = ap Err (why_is r)
+
+pub told_once : (r q : Result ℕ Why) (m n : List ℕ) → told_as r m ≡ told_as q n → r ≡ q
+told_once r q m n e = sym (answer_is r m) ∙ ap (λ (x : Summed). answer_by x.answer) e ∙ answer_is q n
+
+-- ---- the number of a refusal
+
+pub number_unique : (r : Why) (x y : ℕ) → x ≡ number_of r → y ≡ number_of r → x ≡ y
+number_unique = unique number_of
+
+-- the output's behind the others
+pub number_not_in_line : ShutsOut number_of (λ r. cond (eqb (number_of r) 15) 26 (number_of r))
+number_not_in_line = shut_out (λ n. eqb n 15) Output refl refl
+
+-- one for all
+pub number_not_one : ShutsOut number_of (λ r. 21)
+number_not_one = shut_out (λ n. eqb n 22) Scales refl refl
+
+-- ---- what is put
 
 abbrev adds : List ℕ × List ℕ × List ℕ → Summed
 adds (a, b, out) = add_into a b out

@@ -1,5 +1,7 @@
 -- FOR THE CODE ALONE: two sheets that were read, and the text of their sum from its parts.
-use Rattle.std.specs.Prelude.{◌≡◌, Bool, true, false, ◌||◌, cond, List, ◌∷◌, ◌++◌, map, ℕ, zero, suc, ◌+◌, eqb, ltb, length}
+use Rattle.std.specs.Prelude.{◌≡◌, Bool, true, false, ◌||◌, cond, List, ◌∷◌, ◌++◌, map, ℕ, ◌+◌, ◌≤◌, eqb, ltb, length}
+use Rattle.std.specs.declared.result.Result.{Result}
+use Rattle.std.specs.declared.result.Result.TheVariants.{Ok, Err}
 use Rattle.text.specs.Number.{digits_of}
 use Rattle.text.specs.Sizes.{max_time, name_limit, core_limit}
 use Rattle.bill.specs.declared.section.Section.{Section}
@@ -10,7 +12,11 @@ use Rattle.bill.specs.Verdict.{accepted_text}
 use Rattle.sorting.specs.Sets.{meets}
 use Rattle.shifts.specs.Sum.{clash, Refusal, add_texts}
 use Rattle.paper.specs.Lines.{name_at}
+use Rattle.bill.specs.declared.verdict.Verdict.{Verdict}
 use Rattle.adding.specs.declared.sheet.Sheet.{Sheet}
+use Rattle.adding.specs.declared.whole.Made.{Made}
+use Rattle.adding.specs.declared.refusal.Refusal.{Refusal as Why}
+use Rattle.adding.specs.Adding.{number_of}
 use Rattle.adding.specs.MergeCode.{rows_at, sum_rows}
 use Rattle.adding.specs.SheetCode.{places_of, Booked}
 
@@ -18,21 +24,31 @@ use Rattle.adding.specs.SheetCode.{places_of, Booked}
 unfoldable pub counted_text : List ℕ → ℕ → List ℕ → List ℕ
 counted_text head n rows = head ++ digits_of n ++ 10 ∷ rows
 
-unfoldable pub made_text : ℕ → ℕ → ℕ → List ℕ → ℕ → List ℕ → List ℕ
-made_text scale span cores core_rows processes process_rows =
-    accepted_text scale span ++ (counted_text (title Cores) cores core_rows ++ counted_text (title Processes) processes process_rows)
-
--- its length, by those of its rows
+-- its length, by that of its rows
 abbrev pub counted_length : List ℕ → ℕ → ℕ → ℕ
 counted_length head n rows = length head + length (digits_of n) + 1 + rows
 
-unfoldable pub made_length : ℕ → ℕ → ℕ → ℕ → ℕ → ℕ → ℕ
-made_length scale span cores core_rows processes process_rows =
-    length (accepted_text scale span) + counted_length (title Cores) cores core_rows + counted_length (title Processes) processes process_rows
+-- the whole text
+abbrev pub head_of : ℕ → ℕ → Verdict
+head_of scale span = record { number = 0; line = 0; scale = scale; span = span }
+
+unfoldable pub made_text : Made → List ℕ
+made_text m =
+    accepted_text m.scale m.span
+    ++ (counted_text (title Cores) m.cores m.core_lines.now ++ counted_text (title Processes) m.processes m.process_lines.now)
+
+-- so that its length fits
+pub record Short (m : Made) : Type 0 where
+  pub cores : length m.core_lines.now ≤ 65536
+  pub processes : length m.process_lines.now ≤ 65536
 
 -- 24 or 25, or 0
 unfoldable pub own_refusal : ℕ → ℕ → ℕ → ℕ
 own_refusal cores processes span = cond (ltb core_limit cores || ltb name_limit (cores + processes)) 24 (cond (ltb max_time span) 25 0)
+
+abbrev pub refused_by : Result (Unit {0}) Why → ℕ
+refused_by (Ok u) = 0
+refused_by (Err r) = number_of r
 
 -- two sheets that were read
 pub record BothRead (s : List ℕ) (x : Sheet) (t : List ℕ) (y : Sheet) : Type 0 where
@@ -50,9 +66,9 @@ pub record Paired (s : List ℕ) (x : Sheet) (t : List ℕ) (y : Sheet) : Type 0
   pub no_clash : clash both.first.bill both.second.bill ≡ false
 
 -- .. or the one that does
-abbrev pub Judged : List ℕ → Sheet → List ℕ → Sheet → ℕ → Type 0
-Judged s x t y zero = Paired s x t y
-Judged s x t y (suc n) = add_texts s t ≡ Refusal (suc n)
+abbrev pub Judged : List ℕ → Sheet → List ℕ → Sheet → Result (Unit {0}) Why → Type 0
+Judged s x t y (Ok u) = Paired s x t y
+Judged s x t y (Err r) = add_texts s t ≡ Refusal (number_of r)
 
 -- the rows of a section of their sum
 abbrev pub sums_of : Section → List ℕ → Sheet → List ℕ → Sheet → List Row

@@ -1,37 +1,57 @@
 -- Two texts added into a lent output. 02, No. 2: "These are 21 to 25 in this order; last of all, an output too short is 15. A refused sum writes nothing."
 use Rattle.std.specs.Prelude.{cond, List, [], ◌∷◌, ℕ, ◌≤◌, leb, length, take}
+use Rattle.std.specs.declared.result.Result.{Result}
+use Rattle.std.specs.declared.result.Result.TheVariants.{Ok, Err}
 use Rattle.text.specs.Put.{written}
 use Rattle.shifts.specs.Sum.{Total, Text, Refusal, add_texts}
 use Rattle.shifts.specs.Sizes.{sheet_most}
 use Rattle.shifts.specs.Many.{alone}
 use Rattle.shifts.specs.Grouping.{Grouping, Sheet, Sum as SumOfTwo}
-use Rattle.adding.specs.declared.add.Sum.{Sum}
-use Rattle.adding.specs.declared.add.Sum.TheVariants.{Added, Refused}
+use Rattle.adding.specs.declared.refusal.Refusal.{Refusal as Why}
+use Rattle.adding.specs.declared.refusal.Refusal.TheVariants.{Output, Malformed, Scales, Names, TooMany, TooLong}
 
--- the number of 02's list, or of 01's table, that the answer is
-unfoldable pub sum_answer : Sum → ℕ
-sum_answer (Added n) = 0
-sum_answer (Refused n) = n
+-- the number of 02's list, or of 01's table, that a refusal is
+abbrev pub number_of : Why → ℕ
+number_of Output = 15
+number_of Malformed = 21
+number_of Scales = 22
+number_of Names = 23
+number_of TooMany = 24
+number_of TooLong = 25
 
+-- how many bytes the sum takes, or the number that refuses it; and the output then
 pub record Summed : Type 0 where
-  pub answer : Sum
+  pub answer : Result ℕ ℕ
   pub output : List ℕ
 
-abbrev pub summed : Sum → List ℕ → Summed
+abbrev pub summed : Result ℕ ℕ → List ℕ → Summed
 summed r out = record { answer = r; output = out }
+
+-- the same by what the code answers
+abbrev pub by_number : Result ℕ Why → Result ℕ ℕ
+by_number (Ok n) = Ok n
+by_number (Err r) = Err (number_of r)
+
+abbrev pub told_as : Result ℕ Why → List ℕ → Summed
+told_as r out = summed (by_number r) out
+
+-- the answer as a number, 0 where there is a sum
+unfoldable pub sum_answer : Result ℕ ℕ → ℕ
+sum_answer (Ok n) = 0
+sum_answer (Err n) = n
 
 -- the sum's text at the front of the output, the rest unchanged
 abbrev pub into_output : Total → List ℕ → Summed
-into_output (Text t) out = cond (leb (length t) (length out)) (summed (Added (length t)) (written out 0 t)) (summed (Refused 15) out)
-into_output (Refusal n) out = summed (Refused n) out
+into_output (Text t) out = cond (leb (length t) (length out)) (summed (Ok (length t)) (written out 0 t)) (summed (Err 15) out)
+into_output (Refusal n) out = summed (Err n) out
 
 unfoldable pub add_into : List ℕ → List ℕ → List ℕ → Summed
 add_into a b out = into_output (add_texts a b) out
 
 -- what the caller has then: the sum's bytes at the front of the output, or a refusal
-abbrev pub told_by : Sum → List ℕ → Total
-told_by (Added n) out = Text (take n out)
-told_by (Refused n) out = Refusal n
+abbrev pub told_by : Result ℕ ℕ → List ℕ → Total
+told_by (Ok n) out = Text (take n out)
+told_by (Err n) out = Refusal n
 
 abbrev pub told : Summed → Total
 told x = told_by x.answer x.output

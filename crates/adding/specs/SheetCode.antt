@@ -3,8 +3,7 @@ use Rattle.std.specs.Prelude.{◌≡◌, Bool, true, false, ◌||◌, List, map,
 use Rattle.text.specs.Sizes.{name_limit, core_limit}
 use Rattle.bill.specs.declared.section.Section.{Section}
 use Rattle.bill.specs.declared.section.Section.TheVariants.{Cores, Processes}
-use Rattle.bill.specs.Rows.{Row}
-use Rattle.bill.specs.Reading.{Bill}
+use Rattle.bill.specs.Reading.{Bill, rows_in}
 use Rattle.sorting.specs.Sets.{meets, twice, sorted_by}
 use Rattle.shifts.specs.Sound.{sound_sheet}
 use Rattle.shifts.specs.Sum.{by_name}
@@ -48,12 +47,7 @@ pub record RowsRight (text cs ps : List ℕ) (span : ℕ) (cores processes : Lis
 
 -- ---- the whole
 
--- the rows of a section
-abbrev pub rows_in : Section → Bill → List Row
-rows_in Cores b = b.sheet.cores
-rows_in Processes b = b.sheet.processes
-
--- the places of its rows, as a part from 0 on is told
+-- the places of a section's rows, as a part from 0 on is told
 abbrev pub places_of : Section → Sheet → List ℕ
 places_of Cores x = take (x.form.cores - 0) x.cores
 places_of Processes x = take (x.form.processes - 0) x.processes

@@ -1,114 +1,94 @@
 // Two sheets added.
 ghost use Rattle.std.specs.Prelude.{◌≡◌, ◌≤◌};
-ghost use Rattle.adding.specs.Adding.{summed, add_into};
-ghost use Rattle.adding.specs.AddCode.{own_refusal, BothRead, Paired, cores_met, Judged};
+ghost use Rattle.adding.specs.Adding.{told_as, add_into};
+ghost use Rattle.adding.specs.AddCode.{refused_by, own_refusal, BothRead, Paired, cores_met, Judged};
 
 use crate::apart::meet;
-use crate::sections::{CORE_ROWS_MOST, PROCESS_ROWS_MOST, put_cores, put_processes};
+use crate::refusal::Refusal;
+use crate::sections::{CORE_ROWS_MOST, PROCESS_ROWS_MOST, put_section_rows};
 use crate::sheet::{CORES_MOST, NAMES_MOST, Sheet, read_sheet};
-use crate::whole::put_bill;
+use crate::whole::Made;
+use bill::section::Section;
 use text::size::MAX_TIME;
 
-// How many bytes of the output the sum takes; or a refusal, 21 to 25 or 15, and then nothing was written.
-#[derive(Clone, Copy)]
-pub enum Sum {
-    Added(usize),
-    Refused(u32),
-}
-
-// 24 or 25 of a sum with so many cores and processes and this span, or 0.
-fn own_refusal(cores: usize, processes: usize, span: u64) -> u32
+// 24 or 25 of a sum with so many cores and processes and this span.
+fn own_refusal(cores: usize, processes: usize, span: u64) -> Result<(), Refusal>
     requires { (cores ≤ 512) × (processes ≤ 512) }
-    ensures { result ≡ own_refusal cores processes span }
+    ensures { refused_by result ≡ own_refusal cores processes span }
 {
     if (CORES_MOST < cores) | (NAMES_MOST < cores + processes) {
-        return 24;
+        return Err(Refusal::TooMany);
     }
     if MAX_TIME < span {
-        return 25;
+        return Err(Refusal::TooLong);
     }
-    0
+    Ok(())
 }
 
 // The sum of two sheets in one scale, where no name is a core in one and a process in the other.
-fn add_rows(a: &[u8], x: Sheet, b: &[u8], y: Sheet, out: &mut [u8]) -> Sum
-    requires { Paired a.now x b.now y }
-    ensures { summed result out.new ≡ add_into a.now b.now out.old }
+fn add_rows(a: &[u8], x: &Sheet, b: &[u8], y: &Sheet, out: &mut [u8]) -> Result<usize, Refusal>
+    requires { Paired a.now x.now b.now y.now }
+    ensures { told_as result out.new ≡ add_into a.now b.now out.old }
 {
-    let mut corelines = [0u8; CORE_ROWS_MOST];
-    let cores = put_cores(a, x, b, y, &mut corelines);
-    let mut processlines = [0u8; PROCESS_ROWS_MOST];
-    let processes = put_processes(a, x, b, y, &mut processlines);
+    let mut core_lines = [0u8; CORE_ROWS_MOST];
+    let cores = put_section_rows(Section::Cores, a, x, b, y, &mut core_lines);
+    let mut process_lines = [0u8; PROCESS_ROWS_MOST];
+    let processes = put_section_rows(Section::Processes, a, x, b, y, &mut process_lines);
     let span = x.form.span + y.form.span;
-    let n = own_refusal(cores.count, processes.count, span);
-    if n != 0 {
-        return Sum::Refused(n);
-    }
-    let k = cores.next;
-    let m = processes.next;
-    put_bill(
-        x.form.scale,
+    own_refusal(cores.count, processes.count, span)?;
+    let made = Made {
+        scale: x.form.scale,
         span,
-        cores.count,
-        &corelines[0..k],
-        processes.count,
-        &processlines[0..m],
-        out,
-    )
+        cores: cores.count,
+        core_lines: &core_lines[..cores.next],
+        processes: processes.count,
+        process_lines: &process_lines[..processes.next],
+    };
+    made.put_whole(out)
 }
 
 // Whether a core of the first sheet is a process of the second.
-fn cores_met(a: &[u8], x: Sheet, b: &[u8], y: Sheet) -> bool
-    requires { BothRead a.now x b.now y }
-    ensures { result ≡ cores_met a.now x b.now y }
+fn cores_met(a: &[u8], x: &Sheet, b: &[u8], y: &Sheet) -> bool
+    requires { BothRead a.now x.now b.now y.now }
+    ensures { result ≡ cores_met a.now x.now b.now y.now }
 {
-    let k = x.form.cores;
-    let m = y.form.processes;
-    let cores = x.cores;
-    let processes = y.processes;
-    meet(a, &cores[0..k], b, &processes[0..m])
+    meet(a, x.places(Section::Cores), b, y.places(Section::Processes))
 }
 
-// 22 or 23 of two sheets that may be added, or 0.
-fn pair_refusal(a: &[u8], x: Sheet, b: &[u8], y: Sheet) -> u32
-    requires { BothRead a.now x b.now y }
-    ensures { Judged a.now x b.now y result }
+// 22 or 23 of two sheets that may be added.
+fn pair_refusal(a: &[u8], x: &Sheet, b: &[u8], y: &Sheet) -> Result<(), Refusal>
+    requires { BothRead a.now x.now b.now y.now }
+    ensures { Judged a.now x.now b.now y.now result }
 {
     if x.form.scale != y.form.scale {
-        return 22;
+        return Err(Refusal::Scales);
     }
-    if cores_met(a, x, b, y) {
-        return 23;
+    if cores_met(a, x, b, y) || cores_met(b, y, a, x) {
+        return Err(Refusal::Names);
     }
-    if cores_met(b, y, a, x) {
-        return 23;
-    }
-    0
+    Ok(())
 }
 
 // The sum of two sheets that may be added.
-fn add_read(a: &[u8], x: Sheet, b: &[u8], y: Sheet, out: &mut [u8]) -> Sum
-    requires { BothRead a.now x b.now y }
-    ensures { summed result out.new ≡ add_into a.now b.now out.old }
+fn add_read(a: &[u8], x: &Sheet, b: &[u8], y: &Sheet, out: &mut [u8]) -> Result<usize, Refusal>
+    requires { BothRead a.now x.now b.now y.now }
+    ensures { told_as result out.new ≡ add_into a.now b.now out.old }
 {
-    let n = pair_refusal(a, x, b, y);
-    if n != 0 {
-        return Sum::Refused(n);
-    }
+    pair_refusal(a, x, b, y)?;
     add_rows(a, x, b, y, out)
 }
 
-// Puts the sum of the two texts at the front of out; the rest of it stays as it is.
-pub fn add(a: &[u8], b: &[u8], out: &mut [u8]) -> Sum
-    ensures { summed result out.new ≡ add_into a.now b.now out.old }
+// Puts the sum of the two texts at the front of out, and tells how many bytes it takes; the rest of out stays as it is, and all of it where the sum is refused.
+pub fn add(a: &[u8], b: &[u8], out: &mut [u8]) -> Result<usize, Refusal>
+    ensures { told_as result out.new ≡ add_into a.now b.now out.old }
 {
     let x = read_sheet(a);
     if !x.form.ok {
-        return Sum::Refused(21);
+        return Err(Refusal::Malformed);
     }
     let y = read_sheet(b);
     if !y.form.ok {
-        return Sum::Refused(21);
+        return Err(Refusal::Malformed);
     }
-    add_read(a, x, b, y, out)
+    add_read(a, &x, b, &y, out)
 }

@@ -7,6 +7,7 @@ pub mod form;
 pub mod merge;
 pub mod places;
 pub mod put;
+pub mod refusal;
 pub mod rows;
 pub mod sections;
 pub mod sheet;

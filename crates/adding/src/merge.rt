@@ -19,80 +19,80 @@ pub(crate) struct Merged {
     pub next: usize,
 }
 
+// A section of one sheet: its text, the places of the rows in the order of their names, and the sheet's span.
+#[derive(Clone, Copy)]
+pub(crate) struct Side<'a> {
+    pub text: &'a [u8],
+    pub places: &'a [u32],
+    pub span: u64,
+}
+
 // Whose name comes next, from row i of the first section and row j of the second on; one that has no row left comes no more.
-fn next_of(s: &[u8], left: &[u32], i: usize, t: &[u8], right: &[u32], j: usize) -> Ordering
-    ensures { result ≡ next_of (drop i (map (name_at s.now) left.now)) (drop j (map (name_at t.now) right.now)) }
+fn next_of(left: &Side, i: usize, right: &Side, j: usize) -> Ordering
+    ensures { result ≡ next_of (drop i (map (name_at left.now.text.now) left.now.places.now)) (drop j (map (name_at right.now.text.now) right.now.places.now)) }
 {
-    if left.len() <= i {
+    if left.places.len() <= i {
         return Ordering::Greater;
     }
-    if right.len() <= j {
+    if right.places.len() <= j {
         return Ordering::Less;
     }
-    compare(name_at(s, left[i]), name_at(t, right[j]))
+    compare(
+        name_at(left.text, left.places[i]),
+        name_at(right.text, right.places[j]),
+    )
 }
 
 // Puts the row of the sum that comes next.
 fn put_next(
     section: Section,
-    s: &[u8],
-    left: &[u32],
-    x: u64,
-    t: &[u8],
-    right: &[u32],
-    y: u64,
+    left: &Side,
     i: usize,
+    right: &Side,
     j: usize,
     o: Ordering,
     out: &mut [u8],
     at: usize,
 ) -> usize
-    requires { Next section s.now left.now x t.now right.now y i j o (length out.old) at }
+    requires { Next section left.now.text.now left.now.places.now left.now.span right.now.text.now right.now.places.now right.now.span i j o (length out.old) at }
     ensures { after result out.new ≡ put out.old at
-        (row_text (next_row o (shown section (none_for x)) (shown section (none_for y)) (drop i (rows_at s.now left.now)) (drop j (rows_at t.now right.now)))) }
+        (row_text (next_row o (shown section (none_for left.now.span)) (shown section (none_for right.now.span)) (drop i (rows_at left.now.text.now left.now.places.now)) (drop j (rows_at right.now.text.now right.now.places.now)))) }
 {
+    let s = left.text;
+    let t = right.text;
     match o {
         Ordering::Less => {
-            let p = left[i];
-            let f = sum_of(figures_at(s, p), none_for(y));
+            let p = left.places[i];
+            let f = sum_of(figures_at(s, p), none_for(right.span));
             put_row(section, name_at(s, p), f, out, at)
         }
         Ordering::Equal => {
-            let p = left[i];
-            let f = sum_of(figures_at(s, p), figures_at(t, right[j]));
+            let p = left.places[i];
+            let f = sum_of(figures_at(s, p), figures_at(t, right.places[j]));
             put_row(section, name_at(s, p), f, out, at)
         }
         Ordering::Greater => {
-            let q = right[j];
-            let f = sum_of(none_for(x), figures_at(t, q));
+            let q = right.places[j];
+            let f = sum_of(none_for(left.span), figures_at(t, q));
             put_row(section, name_at(t, q), f, out, at)
         }
     }
 }
 
-// Puts the rows of the sum of two sections, from sheets of the spans x and y, at the front of out.
-pub(crate) fn put_sums(
-    section: Section,
-    s: &[u8],
-    left: &[u32],
-    x: u64,
-    t: &[u8],
-    right: &[u32],
-    y: u64,
-    out: &mut [u8],
-) -> Merged
-    requires { Merging section s.now left.now x t.now right.now y (length out.old) }
-    ensures { (result.count ≡ length (sum_rows section (rows_at s.now left.now) x (rows_at t.now right.now) y))
+// Puts the rows of the sum of two sections at the front of out.
+pub(crate) fn put_sums(section: Section, left: &Side, right: &Side, out: &mut [u8]) -> Merged
+    requires { Merging section left.now.text.now left.now.places.now left.now.span right.now.text.now right.now.places.now right.now.span (length out.old) }
+    ensures { (result.count ≡ length (sum_rows section (rows_at left.now.text.now left.now.places.now) left.now.span (rows_at right.now.text.now right.now.places.now) right.now.span))
         × (after result.next out.new ≡ put out.old 0
-        (rows_text (sum_rows section (rows_at s.now left.now) x (rows_at t.now right.now) y))) }
+        (rows_text (sum_rows section (rows_at left.now.text.now left.now.places.now) left.now.span (rows_at right.now.text.now right.now.places.now) right.now.span))) }
 {
     let mut i = 0;
     let mut j = 0;
     let mut count = 0;
     let mut at = 0;
-    while i + j < left.len() + right.len() {
-        let o = next_of(s, left, i, t, right, j);
-        at = put_next(section, s, left, x, t, right, y, i, j, o, out, at);
+    while i + j < left.places.len() + right.places.len() {
+        let o = next_of(left, i, right, j);
+        at = put_next(section, left, i, right, j, o, out, at);
         count += 1;
         i += usize::from(o.is_le());
         j += usize::from(o.is_ge());

@@ -2,13 +2,14 @@
 ghost use Rattle.std.specs.Prelude.{◌≡◌, ◌≤◌, length};
 ghost use Rattle.text.specs.Sizes.{name_limit, core_limit};
 ghost use Rattle.adding.specs.FormCode.{core_places, process_places, Sized};
-ghost use Rattle.adding.specs.SheetCode.{NamesOnce, RowsRight, ReadAs, Read};
+ghost use Rattle.adding.specs.SheetCode.{places_of, NamesOnce, RowsRight, ReadAs, Read};
 
 use crate::apart::meet;
 use crate::form::{Form, no_form, read_form};
 use crate::places::LINES_MOST;
 use crate::rows::sums_right;
 use crate::sort::sort;
+use bill::section::Section;
 use text::size::{CORE_LIMIT, NAME_LIMIT};
 
 // No sheet that may be added is longer: `sound_longest`.
@@ -25,6 +26,19 @@ pub(crate) struct Sheet {
     pub form: Form,
     pub cores: [u32; CORES_MOST],
     pub processes: [u32; NAMES_MOST],
+}
+
+impl Sheet {
+    // The places of a section's rows, in the order of their names.
+    pub(crate) fn places(&self, section: Section) -> &[u32]
+        requires { (self.now.form.cores ≤ core_limit) × (self.now.form.processes ≤ name_limit) }
+        ensures { result.now ≡ places_of section self.now }
+    {
+        match section {
+            Section::Cores => &self.cores[0..self.form.cores],
+            Section::Processes => &self.processes[0..self.form.processes],
+        }
+    }
 }
 
 // Puts the rows of both sections in order, and answers whether no name stands twice.

@@ -39,6 +39,7 @@ pub(crate) fn sort(text: &[u8], places: &[u32], sorted: &mut [u32]) -> bool
         × Sorting text.now places.now sorted.new result }
 {
     let n = places.len();
+    // not `iter().rev().enumerate()`, of which it is not proved that its count fits
     for i in (0..n).rev() {
         if !insert(text, sorted, n - 1 - i, places[i]) {
             return false;

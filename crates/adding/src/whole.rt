@@ -3,10 +3,10 @@ ghost use Rattle.std.specs.Prelude.{◌≡◌, ◌+◌, ◌≤◌, length};
 ghost use Rattle.text.specs.Put.{written, put, after};
 ghost use Rattle.bill.specs.Text.{title};
 ghost use Rattle.shifts.specs.Sum.{Text};
-ghost use Rattle.adding.specs.Adding.{summed, into_output};
-ghost use Rattle.adding.specs.AddCode.{counted_text, counted_length, made_text, made_length};
+ghost use Rattle.adding.specs.Adding.{told_as, into_output};
+ghost use Rattle.adding.specs.AddCode.{counted_text, counted_length, head_of, Short, made_text};
 
-use crate::add::Sum;
+use crate::refusal::Refusal;
 use bill::section::{Section, put_title, title_length};
 use bill::verdict::{Verdict, put_verdict, verdict_length};
 use text::put::{digit_count, put_bytes, put_number};
@@ -30,78 +30,66 @@ fn put_section(section: Section, count: usize, rows: &[u8], out: &mut [u8], at: 
     put_bytes(rows, out, three)
 }
 
-// How many bytes the whole text takes.
-fn made_length(
-    scale: u32,
-    span: u64,
-    cores: usize,
-    corebytes: usize,
-    processes: usize,
-    processbytes: usize,
-) -> usize
-    requires { (corebytes ≤ 65536) × (processbytes ≤ 65536) }
-    ensures { result ≡ made_length scale span cores corebytes processes processbytes }
-{
-    let v = Verdict {
-        number: 0,
-        line: 0,
-        scale,
-        span,
-    };
-    let first = section_length(Section::Cores, cores, corebytes);
-    let second = section_length(Section::Processes, processes, processbytes);
-    verdict_length(v) + first + second
+// A bill with the lines of its rows as they stand.
+#[derive(Clone, Copy)]
+pub(crate) struct Made<'a> {
+    pub scale: u32,
+    pub span: u64,
+    pub cores: usize,
+    pub core_lines: &'a [u8],
+    pub processes: usize,
+    pub process_lines: &'a [u8],
 }
 
-// Puts the whole text.
-fn put_made(
-    scale: u32,
-    span: u64,
-    cores: usize,
-    corelines: &[u8],
-    processes: usize,
-    processlines: &[u8],
-    out: &mut [u8],
-)
-    requires { length (made_text scale span cores corelines.now processes processlines.now) ≤ length out.old }
-    ensures { out.new ≡ written out.old 0 (made_text scale span cores corelines.now processes processlines.now) }
-{
-    let v = Verdict {
-        number: 0,
-        line: 0,
-        scale,
-        span,
-    };
-    let one = put_verdict(v, out, 0);
-    let two = put_section(Section::Cores, cores, corelines, out, one);
-    put_section(Section::Processes, processes, processlines, out, two);
-}
-
-// Puts the whole text, where it fits.
-pub(crate) fn put_bill(
-    scale: u32,
-    span: u64,
-    cores: usize,
-    corelines: &[u8],
-    processes: usize,
-    processlines: &[u8],
-    out: &mut [u8],
-) -> Sum
-    requires { (length corelines.now ≤ 65536) × (length processlines.now ≤ 65536) }
-    ensures { summed result out.new
-        ≡ into_output (Text (made_text scale span cores corelines.now processes processlines.now)) out.old }
-{
-    let length = made_length(
-        scale,
-        span,
-        cores,
-        corelines.len(),
-        processes,
-        processlines.len(),
-    );
-    if out.len() < length {
-        return Sum::Refused(15);
+impl Made<'_> {
+    // The verdict's line.
+    fn head(&self) -> Verdict
+        ensures { result ≡ head_of self.now.scale self.now.span }
+    {
+        Verdict {
+            number: 0,
+            line: 0,
+            scale: self.scale,
+            span: self.span,
+        }
     }
-    put_made(scale, span, cores, corelines, processes, processlines, out);
-    Sum::Added(length)
+
+    // How many bytes the whole text takes.
+    fn length(&self) -> usize
+        requires { Short self.now }
+        ensures { result ≡ length (made_text self.now) }
+    {
+        let first = section_length(Section::Cores, self.cores, self.core_lines.len());
+        let second = section_length(Section::Processes, self.processes, self.process_lines.len());
+        verdict_length(self.head()) + first + second
+    }
+
+    // Puts the whole text.
+    fn put(&self, out: &mut [u8])
+        requires { length (made_text self.now) ≤ length out.old }
+        ensures { out.new ≡ written out.old 0 (made_text self.now) }
+    {
+        let one = put_verdict(self.head(), out, 0);
+        let two = put_section(Section::Cores, self.cores, self.core_lines, out, one);
+        put_section(
+            Section::Processes,
+            self.processes,
+            self.process_lines,
+            out,
+            two,
+        );
+    }
+
+    // Puts the whole text, where it fits.
+    pub(crate) fn put_whole(&self, out: &mut [u8]) -> Result<usize, Refusal>
+        requires { Short self.now }
+        ensures { told_as result out.new ≡ into_output (Text (made_text self.now)) out.old }
+    {
+        let length = self.length();
+        if out.len() < length {
+            return Err(Refusal::Output);
+        }
+        self.put(out);
+        Ok(length)
+    }
 }

@@ -3,7 +3,7 @@ ghost use Rattle.std.specs.Prelude.{◌≡◌, ◌+◌, ◌≤◌, length};
 ghost use Rattle.text.specs.Put.{put, after};
 ghost use Rattle.bill.specs.Verdict.{accepted_text, refused_text, verdict_text};
 
-use crate::scale::{put_scale, scale_length};
+use crate::scale::scale_word;
 use text::put::{digit_count, put_bytes, put_number, room};
 
 // The verdict, with the time scale's number and the span.
@@ -20,7 +20,7 @@ fn put_accepted(scale: u32, span: u64, out: &mut [u8], at: usize) -> usize
     ensures { after result out.new ≡ put out.old at (accepted_text scale span) }
 {
     let one = put_bytes(b"verdict 0 line 0 scale ", out, at);
-    let two = put_scale(scale, out, one);
+    let two = put_bytes(scale_word(scale), out, one);
     let three = put_bytes(b" span ", out, two);
     let four = put_number(span, out, three);
     put_bytes(b"\n", out, four)
@@ -42,7 +42,7 @@ pub fn verdict_length(v: Verdict) -> usize
     ensures { result ≡ length (verdict_text v) }
 {
     if v.number == 0 {
-        return scale_length(v.scale) + digit_count(v.span) + 30;
+        return scale_word(v.scale).len() + digit_count(v.span) + 30;
     }
     digit_count(v.number as u64) + digit_count(v.line as u64) + 15
 }

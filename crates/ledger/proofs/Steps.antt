@@ -13,9 +13,10 @@ use Rattle.shifts.specs.Sum.{Total, Text, Refusal, add_texts}
 use Rattle.shifts.specs.Sizes.{sheet_most}
 use Rattle.shifts.specs.Many.{is_sound, alone}
 use Rattle.shifts.proofs.Many.{sound_short, sum_short}
-use Rattle.adding.specs.declared.add.Sum.{Sum}
-use Rattle.adding.specs.declared.add.Sum.TheVariants.{Added, Refused}
-use Rattle.adding.specs.Adding.{Summed, summed, into_output, add_into}
+use Rattle.std.specs.declared.result.Result.{Result}
+use Rattle.std.specs.declared.result.Result.TheVariants.{Ok, Err}
+use Rattle.adding.specs.declared.refusal.Refusal.{Refusal as Why}
+use Rattle.adding.specs.Adding.{number_of, Summed, summed, told_as, into_output, add_into}
 use Rattle.ledger.specs.Totals.{read_most, ASheet, Comes}
 
 -- ---- a file at the front of the buffer
@@ -50,62 +51,62 @@ module _ (b : List ℕ) (n : ℕ) (fit : n ≤ length b) (sized : length b ≡ r
 
 -- ---- another: what `add` leaves in an output that every sum fits into
 
-module _ (s u out : List ℕ) (room : length out ≡ sheet_most) {x : Sum} {m : List ℕ} (w : summed x m ≡ add_into s u out) where
-  by_total : (y : Total) → add_texts s u ≡ y → summed x m ≡ into_output y out
+module _ (s u out : List ℕ) (room : length out ≡ sheet_most) (x : Result ℕ Why) {m : List ℕ} (w : told_as x m ≡ add_into s u out) where
+  by_total : (y : Total) → add_texts s u ≡ y → told_as x m ≡ into_output y out
   unfolding add_into
   by_total y e = rw e at w
 
-  as_text : (v : List ℕ) → add_texts s u ≡ Text v → summed x m ≡ summed (Added (length v)) (written out 0 v)
+  as_text : (v : List ℕ) → add_texts s u ≡ Text v → told_as x m ≡ summed (Ok (length v)) (written out 0 v)
   as_text v e = by_total (Text v) e ∙ rw (le-leb (length v) (length out) (omega (arith, sum_short s u v e)))
 
-  sum_added : {k : ℕ} → x ≡ Added k → (k ≤ length m) × (add_texts s u ≡ Text (take k m))
+  sum_added : {k : ℕ} → x ≡ Ok k → (k ≤ length m) × (add_texts s u ≡ Text (take k m))
   sum_added {k} a = by_cases (add_texts s u) refl
     where
       by_cases : (y : Total) → add_texts s u ≡ y → (k ≤ length m) × (add_texts s u ≡ Text (take k m))
       by_cases (Text v) e =
           let f = as_text v e in
-          let answer : Added k ≡ Added (length v) = sym a ∙ ap (λ (z : Summed). z.answer) f in
+          let answer : ◌≡◌ {A = Result ℕ ℕ} (Ok k) (Ok (length v)) = sym (ap (λ r. (told_as r m).answer) a) ∙ ap (λ (z : Summed). z.answer) f in
           let size : k ≡ length v = cc in
           let h : length v ≤ length out = omega (arith, sum_short s u v e) in
           let p : after (0 + length v) m ≡ put out 0 v = rw (ap (λ (z : Summed). z.output) f) (sym (put_fits out 0 v (omega arith))) in
           let q = held_whole out v k p h size in
           (q.0, e ∙ ap Text (sym q.1))
       by_cases (Refusal n) e =
-          let answer : Added k ≡ Refused n = sym a ∙ ap (λ (z : Summed). z.answer) (by_total (Refusal n) e) in
+          let answer : ◌≡◌ {A = Result ℕ ℕ} (Ok k) (Err n) = sym (ap (λ r. (told_as r m).answer) a) ∙ ap (λ (z : Summed). z.answer) (by_total (Refusal n) e) in
           let z : ◌≡◌ {A = ℕ} 0 1 = cc in
           absurd (omega arith)
 
-  sum_refused : {n : ℕ} → x ≡ Refused n → add_texts s u ≡ Refusal n
-  sum_refused {n} a = by_cases (add_texts s u) refl
+  sum_refused : (r : Why) → x ≡ Err r → add_texts s u ≡ Refusal (number_of r)
+  sum_refused r a = by_cases (add_texts s u) refl
     where
-      by_cases : (y : Total) → add_texts s u ≡ y → add_texts s u ≡ Refusal n
+      by_cases : (y : Total) → add_texts s u ≡ y → add_texts s u ≡ Refusal (number_of r)
       by_cases (Text v) e =
-          let answer : Refused n ≡ Added (length v) = sym a ∙ ap (λ (z : Summed). z.answer) (as_text v e) in
+          let answer : ◌≡◌ {A = Result ℕ ℕ} (Err (number_of r)) (Ok (length v)) = sym (ap (λ r. (told_as r m).answer) a) ∙ ap (λ (z : Summed). z.answer) (as_text v e) in
           let z : ◌≡◌ {A = ℕ} 0 1 = cc in
           absurd (omega arith)
       by_cases (Refusal k) e =
-          let answer : Refused n ≡ Refused k = sym a ∙ ap (λ (z : Summed). z.answer) (by_total (Refusal k) e) in
-          let same : k ≡ n = cc in
+          let answer : ◌≡◌ {A = Result ℕ ℕ} (Err (number_of r)) (Err k) = sym (ap (λ r. (told_as r m).answer) a) ∙ ap (λ (z : Summed). z.answer) (by_total (Refusal k) e) in
+          let same : k ≡ number_of r = cc in
           e ∙ ap Refusal same
 
 module _ (l : List ℕ) (n : ℕ) (b : List ℕ) (i : ℕ) (fit : i ≤ length b) (sized : length b ≡ read_most) (bytes : (j : ℕ) → get_or b j 0 < 256)
-    (out : List ℕ) {x : Sum} {m : List ℕ} (w : summed x m ≡ add_into (take (n - 0) l) (take (i - 0) b) out) (room : length out ≡ sheet_most) where
+    (out : List ℕ) (x : Result ℕ Why) {m : List ℕ} (w : told_as x m ≡ add_into (take (n - 0) l) (take (i - 0) b) out) (room : length out ≡ sheet_most) where
   to_held : {y : Total} → add_texts (take (n - 0) l) (take (i - 0) b) ≡ y → Comes (add_texts (take n l)) y
   to_held e =
       let z : n - 0 ≡ n = omega arith in
       record { sheet = take (i - 0) b; each = a_sheet b i fit sized bytes; comes_to = rw z at e }
 
-  pub sum_fits : {k : ℕ} → x ≡ Added k → k ≤ length m
-  sum_fits a = (sum_added (take (n - 0) l) (take (i - 0) b) out room w a).0
+  pub sum_fits : {k : ℕ} → x ≡ Ok k → k ≤ length m
+  sum_fits a = (sum_added (take (n - 0) l) (take (i - 0) b) out room x w a).0
 
-  pub more_held : {k j : ℕ} {d : List ℕ} → x ≡ Added k → after j d ≡ put l 0 (take (k - 0) m) → length l ≡ sheet_most → length m ≡ sheet_most
+  pub more_held : {k j : ℕ} {d : List ℕ} → x ≡ Ok k → after j d ≡ put l 0 (take (k - 0) m) → length l ≡ sheet_most → length m ≡ sheet_most
       → (k ≤ length d) × Comes (add_texts (take n l)) (Text (take k d))
   more_held {k} {j} {d} a p size same =
-      let v = sum_added (take (n - 0) l) (take (i - 0) b) out room w a in
+      let v = sum_added (take (n - 0) l) (take (i - 0) b) out room x w a in
       let e : length (take (k - 0) m) ≡ k = omega (arith, length-take-le (k - 0) m (omega (arith, v.0))) in
       let q = held_whole l (take (k - 0) m) k p (omega (arith, v.0)) (omega arith) in
       let z : k - 0 ≡ k = omega arith in
       (q.0, to_held (v.1 ∙ ap Text (rw z at (sym q.1))))
 
-  pub more_refused : {k : ℕ} → x ≡ Refused k → Comes (add_texts (take n l)) (Refusal k)
-  more_refused a = to_held (sum_refused (take (n - 0) l) (take (i - 0) b) out room w a)
+  pub more_refused : (r : Why) {k : ℕ} → x ≡ Err r → k ≡ number_of r → Comes (add_texts (take n l)) (Refusal k)
+  more_refused r a e = to_held (sum_refused (take (n - 0) l) (take (i - 0) b) out room x w r a ∙ ap Refusal (sym e))

@@ -2,16 +2,14 @@
 use Rattle.std.specs.Prelude.{◌≡◌, Bool, false, List, [], ◌∷◌, ◌++◌, ℕ, ◌+◌, ◌-◌, ◌≤◌, ◌<◌, eqb, ltb, length, take, get_or, Option, None, Some}
 use Rattle.text.specs.Put.{written}
 use Rattle.shifts.specs.Sum.{Total, Text, Refusal, add_all}
+use Rattle.shifts.specs.Sizes.{sheet_most}
 use Rattle.shifts.specs.Many.{sum_from, HasText}
 use Rattle.ledger.specs.declared.total.Step.{Step}
 use Rattle.ledger.specs.declared.total.Step.TheVariants.{Held, Refused as StepRefused, Unread as StepUnread}
 use Rattle.ledger.specs.declared.total.Answer.{Answer}
 use Rattle.ledger.specs.declared.total.Answer.TheVariants.{Text as Told, Refused, Unread, TooFew, WrongSize}
 
--- no sheet that may be added is longer (`Sizes.sound_longest`), and one byte more is read, by which a longer one shows
-abbrev pub sheet_most : ℕ
-sheet_most = 24008
-
+-- one byte more than any sheet that may be added has is read, by which a longer one shows
 abbrev pub read_most : ℕ
 read_most = 24009
 

@@ -2,10 +2,11 @@
 ghost use Rattle.std.specs.Prelude.{◌≡◌, ◌≤◌, length, take};
 ghost use Rattle.shifts.specs.Sum.{add_texts};
 ghost use Rattle.shifts.specs.Many.{alone};
-ghost use Rattle.ledger.specs.Totals.{sheet_most, read_most, Stepped, Holding, Ended, Answered};
+ghost use Rattle.shifts.specs.Sizes.{sheet_most};
+ghost use Rattle.ledger.specs.Totals.{read_most, Stepped, Holding, Ended, Answered};
 
 use crate::files::{File, read_argument};
-use adding::add::{Sum, add};
+use adding::add::add;
 use adding::sheet::SHEET_MOST;
 use adding::sound::sound;
 use std::env::Env;
@@ -58,13 +59,12 @@ fn one_more<R: Env + Files>(rt: &R, held: &mut [u8], n: usize, buf: &mut [u8], i
         return Step::Unread;
     };
     let mut out = [0u8; SHEET_MOST];
-    let sum = add(&held[0..n], &buf[0..m], &mut out);
-    match sum {
-        Sum::Added(k) => {
+    match add(&held[0..n], &buf[0..m], &mut out) {
+        Ok(k) => {
             put_bytes(&out[0..k], held, 0);
             Step::Held(k)
         }
-        Sum::Refused(number) => Step::Refused(number),
+        Err(refusal) => Step::Refused(refusal.number()),
     }
 }
 

@@ -5,7 +5,7 @@
 ghost use Rattle.std.specs.Prelude.{◌≤◌, ◌<◌, length, IfSome};
 ghost use Rattle.try_sheets.specs.Steps.{Step};
 
-use adding::add::{Sum, add};
+use adding::add::add;
 use adding::sheet::SHEET_MOST;
 use intake::read_full;
 use std::io::Stdout;
@@ -61,23 +61,20 @@ fn say_short(stdout: Stdout, a: &[u8], b: &[u8], n: usize) {
         return;
     }
     let mut out = [0u8; SHEET_MOST];
-    let sum = add(a, b, &mut out[0..n - 1]);
-    let Sum::Refused(number) = sum else {
-        return;
-    };
-    say_refused(stdout, number);
+    if let Err(refusal) = add(a, b, &mut out[0..n - 1]) {
+        say_refused(stdout, refusal.number());
+    }
 }
 
 // Adds a pair and says what came of it; a sum is asked for once more, with an output that is a byte too short.
 fn say_sum(stdout: Stdout, a: &[u8], b: &[u8]) {
     let mut out = [0u8; SHEET_MOST];
-    let sum = add(a, b, &mut out);
-    match sum {
-        Sum::Added(n) => {
+    match add(a, b, &mut out) {
+        Ok(n) => {
             say_front(stdout, &out, n);
             say_short(stdout, a, b, n);
         }
-        Sum::Refused(number) => say_refused(stdout, number),
+        Err(refusal) => say_refused(stdout, refusal.number()),
     }
 }
 

@@ -5,4 +5,4 @@ use Rattle.adding.proofs.add.cores_met.Goals as goal
 pub meet-requires : goal.meet-requires
 meet-requires c =
     let p = c.requires in
-    ((p.first.in_order Cores).in_order, (p.second.in_order Processes).in_order)
+    (rw c.places.ensures (p.first.in_order Cores).in_order, rw c.places-2.ensures (p.second.in_order Processes).in_order)

@@ -7,5 +7,5 @@ use Rattle.bill.proofs.verdict.put_accepted.Goals as goal
 pub returns : goal.returns
 unfolding accepted_text
 returns c =
-    put_five _ _ _ _ _ _ _ c.put_bytes-one.ensures c.put_scale-two.ensures c.put_bytes-three.ensures c.put_number-four.ensures c.put_bytes.ensures
+    put_five _ _ _ _ _ _ _ c.put_bytes-one.ensures (rw c.scale_word.ensures at c.put_bytes-two.ensures) c.put_bytes-three.ensures c.put_number-four.ensures c.put_bytes.ensures
     c.requires

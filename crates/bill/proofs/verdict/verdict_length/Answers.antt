@@ -25,13 +25,13 @@ refused_size v e h k =
     (omega arith, omega (arith, digits_short v.number (omega arith), digits_short v.line (omega arith)))
 
 pub overflow_add-result : goal.overflow_add-result
-overflow_add-result c = omega (arith, accepted_size c.args.v c.if-v-eq0.true (omega arith))
+overflow_add-result c = omega (arith, ap length c.scale_word.ensures, accepted_size c.args.v c.if-v-eq0.true (omega arith))
 
 pub overflow_add-result-then-v-eq0 : goal.overflow_add-result-then-v-eq0
-overflow_add-result-then-v-eq0 c = omega (arith, accepted_size c.args.v c.if-v-eq0.true (omega arith))
+overflow_add-result-then-v-eq0 c = omega (arith, ap length c.scale_word.ensures, accepted_size c.args.v c.if-v-eq0.true (omega arith))
 
 pub returns-then-v-eq0 : goal.returns-then-v-eq0
-returns-then-v-eq0 c = omega (arith, accepted_size c.args.v c.if-v-eq0.true (omega arith))
+returns-then-v-eq0 c = omega (arith, ap length c.scale_word.ensures, accepted_size c.args.v c.if-v-eq0.true (omega arith))
 
 pub overflow_add-result-2 : goal.overflow_add-result-2
 overflow_add-result-2 c = omega (arith, refused_size c.args.v c.if-v-eq0.false (omega arith) (omega arith))

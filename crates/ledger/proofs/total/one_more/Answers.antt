@@ -5,12 +5,12 @@ use Rattle.ledger.proofs.total.one_more.Goals as goal
 
 pub slice_bounds-put_bytes-end : goal.slice_bounds-put_bytes-end
 slice_bounds-put_bytes-end g c =
-    omega (arith, sum_fits c.args.held.now c.args.n _ _ c.in-Read.ensures (omega arith) (λ i. search rules) _ c.add-sum.ensures (search rules) c.in-Added.is)
+    omega (arith, sum_fits c.args.held.now c.args.n _ _ c.in-Read.ensures (omega arith) (λ i. search rules) _ _ c.add.ensures (search rules) c.in-Ok.is)
 
-pub returns-in-Added : goal.returns-in-Added
-returns-in-Added g c =
-    more_held c.args.held.now c.args.n _ _ c.in-Read.ensures (omega arith) (λ i. search rules) _ c.add-sum.ensures (search rules) c.in-Added.is c.put_bytes.ensures c.requires.1 (search rules)
+pub returns-in-Ok : goal.returns-in-Ok
+returns-in-Ok g c =
+    more_held c.args.held.now c.args.n _ _ c.in-Read.ensures (omega arith) (λ i. search rules) _ _ c.add.ensures (search rules) c.in-Ok.is c.put_bytes.ensures c.requires.1 (search rules)
 
-pub returns-in-Refused : goal.returns-in-Refused
-returns-in-Refused g c =
-    more_refused c.args.held.now c.args.n _ _ c.in-Read.ensures (omega arith) (λ i. search rules) _ c.add-sum.ensures (search rules) c.in-Refused.is
+pub returns-in-Err : goal.returns-in-Err
+returns-in-Err g c =
+    more_refused c.args.held.now c.args.n _ _ c.in-Read.ensures (omega arith) (λ i. search rules) _ _ c.add.ensures (search rules) _ c.in-Err.is c.number.ensures
