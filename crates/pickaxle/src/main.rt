@@ -38,6 +38,7 @@ fn main(rt: HostRuntime) {
         Ok(text) => print(rt.stdout(), stderr, &out, text.length),
         Err(ReadError::Failed) => complain(stderr, b"pickaxle: cannot read standard input\n"),
         // what is lent has the right sizes
-        Err(ReadError::WrongSize | ReadError::OutOfRange) => unreachable!(),
+        Err(ReadError::WrongSize) => unreachable!(),
+        Err(ReadError::OutOfRange) => unreachable!(),
     }
 }
