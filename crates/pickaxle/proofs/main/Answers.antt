@@ -9,8 +9,8 @@ print-requires c = text_told _ _ (search rules) c.text_of_input-text.ensures c.i
 
 pub unreachable-requires : goal.unreachable-requires
 unreachable-requires c =
-    sizes_taken _ _ (search rules) c.text_of_input-text.ensures (ap error_number c.in-Err-WrongSize.field-0-is) c.in-Err-WrongSize.is
+    sizes_taken _ _ (search rules) c.text_of_input-text.ensures (ap error_number c.in-WrongSize.is) c.in-Err.is
 
-pub unreachable-requires-in-Err-OutOfRange : goal.unreachable-requires-in-Err-OutOfRange
-unreachable-requires-in-Err-OutOfRange c =
-    sizes_taken _ _ (search rules) c.text_of_input-text.ensures (ap error_number c.in-Err-OutOfRange.field-0-is) c.in-Err-OutOfRange.is
+pub unreachable-requires-in-OutOfRange : goal.unreachable-requires-in-OutOfRange
+unreachable-requires-in-OutOfRange c =
+    sizes_taken _ _ (search rules) c.text_of_input-text.ensures (ap error_number c.in-OutOfRange.is) c.in-Err.is
