@@ -19,7 +19,7 @@ fn fill<F: Read>(file: &mut F, buf: &mut [u8], have: usize) -> io::Result<usize>
 }
 
 // Reads until the file ends, the buffer is full or a read fails; how many bytes of the buffer it takes, the whole of the file where they are fewer than
-// the buffer has.
+// the buffer has. A loop of its own, since std's `read_to_end` fills a `Vec`, which needs a heap.
 fn read_open<F: Read>(file: &mut F, buf: &mut [u8]) -> io::Result<usize>
     ensures { IfOk result (λ n. n ≤ length buf.new) }
 {
