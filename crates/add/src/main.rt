@@ -2,13 +2,13 @@
 // are only the memory that is lent, the line of a refusal, and the writing, which nobody can prove.
 #![tactic(auto)]
 
-ghost use Rattle.std.specs.Prelude.{◌≡◌, ◌≤◌, length};
+ghost use Rattle.std.specs.Prelude.{◌≡◌, ℕ, ◌≤◌, length};
 ghost use Rattle.text.specs.Put.{put, after};
 ghost use Rattle.ledger.specs.Totals.{IsRefusal};
 ghost use Rattle.add.specs.Line.{refused_line, line_most, IsAnswer};
 
 use adding::sheet::SHEET_MOST;
-use ledger::total::{Answer, sum_of_arguments};
+use ledger::total::{SheetError, SumError, sum_of_arguments};
 use std::env::{Env, FillError};
 use std::io::{Stderr, Stdout};
 use text::put::{put_bytes, put_number};
@@ -52,6 +52,19 @@ fn tell(stderr: Stderr, word: &[u8], sheet: usize) {
     let _ = stderr.println(sheet);
 }
 
+// Tells why a sheet does not come to the sum: the line of its refusal, or that it could not be read.
+fn tell_sheet(stdout: Stdout, stderr: Stderr, sheet: usize, why: SheetError)
+    requires { (number : ℕ) → why ≡ SheetError.Refused number → IsRefusal number }
+{
+    match why {
+        SheetError::Refused(number) => {
+            print_refused(stdout, stderr, number);
+            tell(stderr, b"sheet ", sheet);
+        }
+        SheetError::Unread => tell(stderr, b"unread ", sheet),
+    }
+}
+
 // How many arguments there are, the program's own name among them.
 fn arg_count(env: &impl Env) -> usize {
     for i in 0..usize::MAX {
@@ -66,16 +79,14 @@ fn main(rt: HostRuntime) {
     let stdout = rt.stdout();
     let stderr = rt.stderr();
     let mut out = [0u8; SHEET_MOST];
-    let answer = sum_of_arguments(&rt, arg_count(&rt), &mut out);
-    match answer {
-        Answer::Text(n) => print(stdout, stderr, &out, n),
-        Answer::Refused(number, sheet) => {
-            print_refused(stdout, stderr, number);
-            tell(stderr, b"sheet ", sheet);
-        }
-        Answer::Unread(sheet) => tell(stderr, b"unread ", sheet),
-        Answer::TooFew => complain(stderr, b"fewer than two sheets\n"),
-        // the output that is lent has room for every sum
-        Answer::WrongSize => unreachable!(),
+    let sum = sum_of_arguments(&rt, arg_count(&rt), &mut out);
+    match sum {
+        Ok(n) => print(stdout, stderr, &out, n),
+        Err(why) => match why {
+            SumError::Sheet(sheet, why) => tell_sheet(stdout, stderr, sheet, why),
+            SumError::TooFew => complain(stderr, b"fewer than two sheets\n"),
+            // the output that is lent has room for every sum
+            SumError::WrongSize => unreachable!(),
+        },
     }
 }

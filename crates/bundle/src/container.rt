@@ -56,6 +56,7 @@ fn entry_from(s: &[u8], at: usize) -> Option<Entry>
     }
     let n = length_in(&s[at..end])?;
     let size = n as usize;
+    // two tests, since of `rest.get(size) != Some(&b'\n')` the search proves too little
     let rest = &s[end + 1..];
     if rest.len() <= size {
         return None;

@@ -2,6 +2,7 @@
 use mathlib.Core.Path.{◌≡◌, sym, ap, ◌∙◌}
 use mathlib.Core.Bool.{false}
 use mathlib.Core.List.{List}
+use Rattle.std.specs.Prelude.{Result, Ok, Err}
 use Prim.Native.Nat.{ℕ, ◌-◌, ◌≤◌}
 use native.Mathlib.Omega.{arith}
 use lib.Dec.{eqb, ltb}
@@ -12,8 +13,9 @@ use Rattle.text.specs.Put.{Put, after, put}
 use Rattle.text.proofs.Writes.{put_fits}
 use Rattle.shifts.specs.Sizes.{sheet_most}
 use Rattle.shifts.proofs.Many.{from_21}
-use Rattle.ledger.specs.declared.total.Answer.{Answer}
-use Rattle.ledger.specs.declared.total.Answer.TheVariants.{Text as Told, Refused, Unread, TooFew, WrongSize}
+use Rattle.ledger.specs.declared.total.SheetError.TheVariants.{Refused, Unread}
+use Rattle.ledger.specs.declared.total.SumError.{SumError}
+use Rattle.ledger.specs.declared.total.SumError.TheVariants.{Sheet, TooFew, WrongSize}
 use Rattle.ledger.specs.Totals.{RefusedAt, Summed, Answered, Holding, Ended}
 
 -- ---- by the sheets
@@ -25,12 +27,12 @@ module _ (count : ℕ) (l : List ℕ) (room : sheet_most ≤ length l) where
   other : (n k : ℕ) → RefusedAt n k → eqb n 15 ≡ ltb (length l) sheet_most
   other n k w = let c = w.came in ne_eqb n 15 (λ e. omega (arith, from_21 c.first c.others c.total)) ∙ long
 
-  pub answered : (r : Answer) (m : List ℕ) → 3 ≤ count → Ended r count l m → Answered r count l m
-  answered (Told n) m h w = record { number = long; enough = h; leaves = w.1 }
-  answered (Refused n k) m h w = record { number = other n k w.1.1.0; enough = h; leaves = w.1 }
-  answered (Unread k) m h w = record { number = long; enough = h; leaves = w.1 }
-  answered TooFew m h w = absurd w.0
-  answered WrongSize m h w = absurd w.0
+  pub answered : (r : Result ℕ SumError) (m : List ℕ) → 3 ≤ count → Ended r count l m → Answered r count l m
+  answered (Ok n) m h w = record { number = long; enough = h; leaves = w.1 }
+  answered (Err (Sheet k (Refused n))) m h w = record { number = other n k w.1.1.0; enough = h; leaves = w.1 }
+  answered (Err (Sheet k Unread)) m h w = record { number = long; enough = h; leaves = w.1 }
+  answered (Err TooFew) m h w = absurd w.0
+  answered (Err WrongSize) m h w = absurd w.0
 
 -- ---- what is held at the end is put
 

@@ -1,6 +1,7 @@
 -- Sheets that grow at their end by one a turn, and what they come to.
 use mathlib.Core.Path.{◌≡◌, refl, ap, ◌∙◌}
 use mathlib.Core.List.{List, [], ◌∷◌, ◌++◌}
+use Rattle.std.specs.Prelude.{Ok, Err}
 use Prim.Native.Nat.{ℕ, ◌+◌, ◌-◌, ◌≤◌, ◌<◌}
 use native.Mathlib.Omega.{arith}
 use lib.ListN.{length, take, length-append}
@@ -8,9 +9,10 @@ use lib.Seq.{take-append-le}
 use Rattle.shifts.specs.Sum.{Total, Text, Refusal, add_texts, add_next}
 use Rattle.shifts.specs.Many.{alone, sum_from, HasText}
 use Rattle.shifts.proofs.Many.{add_more, fewer}
-use Rattle.ledger.specs.declared.total.Step.{Step}
-use Rattle.ledger.specs.declared.total.Step.TheVariants.{Held, Refused}
-use Rattle.ledger.specs.Totals.{ASheet, AllSheets, Came, RefusedAt, UnreadAt, Comes, Stepped, Holding}
+use Rattle.ledger.specs.declared.total.SumError.TheVariants.{Sheet}
+use Rattle.ledger.specs.declared.total.SheetError.{SheetError}
+use Rattle.ledger.specs.declared.total.SheetError.TheVariants.{Refused, Unread}
+use Rattle.ledger.specs.Totals.{ASheet, AllSheets, Came, RefusedAt, Comes, Stepped, Holding, Ended}
 
 -- ---- the first
 
@@ -39,44 +41,32 @@ module _ {k : ℕ} {s : List ℕ} (c : Came k (Text s)) {x : Total} (w : Comes (
       let l : j ≤ length c.others = omega (arith, length-append c.others (w.sheet ∷ [])) in
       rw (take-append-le j c.others (w.sheet ∷ []) l) (fewer (alone c.first) c.others j (rw c.total tt))
 
--- ---- by the answer of a turn
+-- ---- by the answer of a turn: the total is held, or why a sheet does not come to it
 
-module _ {f : List ℕ → Total} (d : List ℕ) {r : Step} (w : Stepped r f d) where
-  as_held : {k : ℕ} → r ≡ Held k → (k ≤ length d) × Comes f (Text (take k d))
-  as_held e = rw e at w
+pub holds_first : {n : ℕ} (d : List ℕ) → Stepped (Ok n) alone d → Holding 2 n d
+holds_first d h = record { fits = h.0; came = came_first h.1 }
 
-  as_refused : {n : ℕ} → r ≡ Refused n → Comes f (Refusal n)
-  as_refused e = rw e at w
+pub first_not : {count : ℕ} (l d : List ℕ) (e : SheetError) → 1 < count → Stepped (Err e) alone d → Ended (Err (Sheet 1 e)) count l l
+first_not l d (Refused n) h w = (tt, (h, (record { came = came_first w; before = λ j p. absurd (omega arith) }, refl)))
+first_not l d Unread h w = (tt, (h, (record { from = omega arith; before = λ p. absurd (omega arith) }, refl)))
 
-module _ (d : List ℕ) {r : Step} (w : Stepped r alone d) where
-  pub holds_first : {n : ℕ} → r ≡ Held n → Holding 2 n d
-  holds_first e = let h = as_held d w e in record { fits = h.0; came = came_first h.1 }
+module _ {i n : ℕ} (c : List ℕ) (from : 2 ≤ i) (s : Holding i n c) (d : List ℕ) where
+  pub holds_more : {k : ℕ} → Stepped (Ok k) (add_texts (take n c)) d → Holding (i + 1) k d
+  holds_more h =
+      let q : i - 1 + 1 ≡ i + 1 - 1 = omega arith in
+      record { fits = h.0; came = rw q at (came_more s.came h.1) }
 
-  pub refuses_first : {n : ℕ} → r ≡ Refused n → RefusedAt n 1
-  refuses_first e = record { came = came_first (as_refused d w e); before = λ j h. absurd (omega arith) }
+  refuses_next : {k : ℕ} → Comes (add_texts (take n c)) (Refusal k) → RefusedAt k i
+  refuses_next {k} h =
+      let q : i - 1 + 1 ≡ i = omega arith in
+      rw q at refused_more
+    where
+      refused_more : RefusedAt k (i - 1 + 1)
+      refused_more = record { came = came_more s.came h; before = before_more s.came h }
 
-pub unread_first : UnreadAt 1
-unread_first = record { from = omega arith; before = λ h. absurd (omega arith) }
-
-module _ {i n : ℕ} (c : List ℕ) (from : 2 ≤ i) (s : Holding i n c) where
-  pub unread_next : UnreadAt i
-  unread_next = record { from = omega arith; before = λ h. record { text = take n c; came = s.came } }
-
-  module _ (d : List ℕ) {r : Step} (w : Stepped r (add_texts (take n c)) d) where
-    pub holds_more : {k : ℕ} → r ≡ Held k → Holding (i + 1) k d
-    holds_more e =
-        let h = as_held d w e in
-        let q : i - 1 + 1 ≡ i + 1 - 1 = omega arith in
-        record { fits = h.0; came = rw q at (came_more s.came h.1) }
-
-    pub refuses_next : {k : ℕ} → r ≡ Refused k → RefusedAt k i
-    refuses_next {k} e =
-        let h = as_refused d w e in
-        let q : i - 1 + 1 ≡ i = omega arith in
-        rw q at (refused_more h)
-      where
-        refused_more : Comes (add_texts (take n c)) (Refusal k) → RefusedAt k (i - 1 + 1)
-        refused_more h = record { came = came_more s.came h; before = before_more s.came h }
+  pub next_not : {count : ℕ} (l : List ℕ) (e : SheetError) → i < count → Stepped (Err e) (add_texts (take n c)) d → Ended (Err (Sheet i e)) count l l
+  next_not l (Refused k) h w = (tt, (h, (refuses_next w, refl)))
+  next_not l Unread h w = (tt, (h, (record { from = omega arith; before = λ p. record { text = take n c; came = s.came } }, refl)))
 
 pub holds_all : {i count n : ℕ} {c : List ℕ} → i ≡ count → Holding i n c → Holding count n c
 holds_all e s = rw e at s

@@ -2,6 +2,7 @@
 use mathlib.Core.Path.{◌≡◌, sym, ap, ◌∙◌}
 use mathlib.Core.Bool.{true, false}
 use mathlib.Core.List.{List, [], ◌∷◌, ◌++◌}
+use Rattle.std.specs.Prelude.{Result, Ok, Err}
 use Prim.Native.Nat.{ℕ, ◌≤◌, ◌<◌}
 use native.Mathlib.Omega.{arith}
 use lib.ListN.{length}
@@ -11,8 +12,10 @@ use Rattle.shifts.specs.Sum.{Total, Text, add_all}
 use Rattle.shifts.specs.Sizes.{sheet_most}
 use Rattle.shifts.specs.Many.{alone, sum_from}
 use Rattle.shifts.proofs.Many.{stays, add_more, all_added, total_short}
-use Rattle.ledger.specs.declared.total.Answer.{Answer}
-use Rattle.ledger.specs.declared.total.Answer.TheVariants.{Text as Told, Refused, WrongSize}
+use Rattle.ledger.specs.declared.total.SheetError.{SheetError}
+use Rattle.ledger.specs.declared.total.SheetError.TheVariants.{Refused}
+use Rattle.ledger.specs.declared.total.SumError.{SumError}
+use Rattle.ledger.specs.declared.total.SumError.TheVariants.{Sheet, WrongSize}
 use Rattle.ledger.specs.Totals.{RefusedAt, Summed, Answered, IsSum, IsRefusal}
 
 -- the first need not be tested by itself
@@ -51,15 +54,19 @@ sum_is l m h room w =
 
 -- ---- by the answer, where the output has room
 
-module _ (count : ℕ) (l m : List ℕ) (room : sheet_most ≤ length l) {r : Answer} (w : Answered r count l m) where
-  pub sum_told : {n : ℕ} → r ≡ Told n → IsSum n m
+module _ (count : ℕ) (l m : List ℕ) (room : sheet_most ≤ length l) {r : Result ℕ SumError} (w : Answered r count l m) where
+  pub sum_told : {n : ℕ} → r ≡ Ok n → IsSum n m
   sum_told e = sum_is l m (rw e at w.enough) room (rw e at w.leaves)
 
-  pub refusal_told : {n k : ℕ} → r ≡ Refused n k → IsRefusal n
-  refusal_told e = refusal_is (rw e at w.leaves).1.0
+  -- an error is taken apart one step after the other
+  module _ {y : SumError} (p : r ≡ Err y) where
+    pub refusal_told : {k n : ℕ} {e : SheetError} → y ≡ Sheet k e → e ≡ Refused n → IsRefusal n
+    refusal_told {k} {n} {e} q f =
+        let same : r ≡ Err (Sheet k (Refused n)) = cc in
+        refusal_is (rw same at w.leaves).1.0
 
-  pub size_right : r ≡ WrongSize → ⊥
-  size_right e =
-      let p : true ≡ false = (rw e at w.number) ∙ le-ltb (length l) sheet_most room in
-      let z : ◌≡◌ {A = ℕ} 0 1 = cc in
-      omega arith
+    pub size_right : y ≡ WrongSize → ⊥
+    size_right q =
+        let same : r ≡ Err WrongSize = cc in
+        let z : true ≡ false = (rw same at w.number) ∙ le-ltb (length l) sheet_most room in
+        cc

@@ -1,3 +1,2 @@
 -- The sheets that arguments name, added: what reading and adding leave.
-pub mod Files
 pub mod Totals

@@ -1,13 +1,13 @@
 -- What the sheets that were read come to. Which bytes they have is the world's: here they are some bytes.
-use Rattle.std.specs.Prelude.{◌≡◌, Bool, false, List, [], ◌∷◌, ◌++◌, ℕ, ◌+◌, ◌-◌, ◌≤◌, ◌<◌, eqb, ltb, length, take, get_or, Option, None, Some}
+use Rattle.std.specs.Prelude.{◌≡◌, Bool, false, List, [], ◌∷◌, ◌++◌, ℕ, ◌+◌, ◌-◌, ◌≤◌, ◌<◌, eqb, ltb, length, take, get_or, Option, None, Some, Result, Ok, Err}
 use Rattle.text.specs.Put.{written}
 use Rattle.shifts.specs.Sum.{Total, Text, Refusal, add_all}
 use Rattle.shifts.specs.Sizes.{sheet_most}
 use Rattle.shifts.specs.Many.{sum_from, HasText}
-use Rattle.ledger.specs.declared.total.Step.{Step}
-use Rattle.ledger.specs.declared.total.Step.TheVariants.{Held, Refused as StepRefused, Unread as StepUnread}
-use Rattle.ledger.specs.declared.total.Answer.{Answer}
-use Rattle.ledger.specs.declared.total.Answer.TheVariants.{Text as Told, Refused, Unread, TooFew, WrongSize}
+use Rattle.ledger.specs.declared.total.SheetError.{SheetError}
+use Rattle.ledger.specs.declared.total.SheetError.TheVariants.{Refused, Unread}
+use Rattle.ledger.specs.declared.total.SumError.{SumError}
+use Rattle.ledger.specs.declared.total.SumError.TheVariants.{Sheet, TooFew, WrongSize}
 
 -- one byte more than any sheet that may be added has is read, by which a longer one shows
 abbrev pub read_most : ℕ
@@ -53,12 +53,12 @@ pub record UnreadAt (k : ℕ) : Type 0 where
 -- ---- the answer: of so many arguments, the program's own name among them, into an output l that m is then
 
 -- The number of each answer, of 02's list, or of 01's table for an output too short. 01 and 02 have none for a sheet that can't be read or is missing.
-abbrev pub answer_number : Answer → Option ℕ
-answer_number (Told n) = Some 0
-answer_number (Refused n k) = Some n
-answer_number (Unread k) = None
-answer_number TooFew = None
-answer_number WrongSize = Some 15
+abbrev pub answer_number : Result ℕ SumError → Option ℕ
+answer_number (Ok n) = Some 0
+answer_number (Err (Sheet k (Refused n))) = Some n
+answer_number (Err (Sheet k Unread)) = None
+answer_number (Err TooFew) = None
+answer_number (Err WrongSize) = Some 15
 
 -- it is 15 exactly if the output is too short
 abbrev pub Numbered : Option ℕ → Bool → Type 0
@@ -66,12 +66,11 @@ Numbered (Some n) short = eqb n 15 ≡ short
 Numbered None short = false ≡ short
 
 -- two sheets, or the answer is that there are too few
-abbrev pub Enough : Answer → ℕ → Type 0
-Enough (Told n) count = 3 ≤ count
-Enough (Refused n k) count = 3 ≤ count
-Enough (Unread k) count = 3 ≤ count
-Enough TooFew count = count < 3
-Enough WrongSize count = Unit {0}
+abbrev pub Enough : Result ℕ SumError → ℕ → Type 0
+Enough (Ok n) count = 3 ≤ count
+Enough (Err (Sheet k e)) count = 3 ≤ count
+Enough (Err TooFew) count = count < 3
+Enough (Err WrongSize) count = Unit {0}
 
 -- the sum of all, of n bytes, is at the front of the output, the rest unchanged
 pub record Summed (n count : ℕ) (l m : List ℕ) : Type 0 where
@@ -80,14 +79,14 @@ pub record Summed (n count : ℕ) (l m : List ℕ) : Type 0 where
   pub output : m ≡ written l 0 sum.text
 
 -- "A refused sum writes nothing"
-abbrev pub Leaves : Answer → ℕ → List ℕ → List ℕ → Type 0
-Leaves (Told n) count l m = Summed n count l m
-Leaves (Refused n k) count l m = (k < count) × (RefusedAt n k × (m ≡ l))
-Leaves (Unread k) count l m = (k < count) × (UnreadAt k × (m ≡ l))
-Leaves TooFew count l m = m ≡ l
-Leaves WrongSize count l m = m ≡ l
+abbrev pub Leaves : Result ℕ SumError → ℕ → List ℕ → List ℕ → Type 0
+Leaves (Ok n) count l m = Summed n count l m
+Leaves (Err (Sheet k (Refused n))) count l m = (k < count) × (RefusedAt n k × (m ≡ l))
+Leaves (Err (Sheet k Unread)) count l m = (k < count) × (UnreadAt k × (m ≡ l))
+Leaves (Err TooFew) count l m = m ≡ l
+Leaves (Err WrongSize) count l m = m ≡ l
 
-pub record Answered (r : Answer) (count : ℕ) (l m : List ℕ) : Type 0 where
+pub record Answered (r : Result ℕ SumError) (count : ℕ) (l m : List ℕ) : Type 0 where
   pub number : Numbered (answer_number r) (ltb (length l) sheet_most)
   pub enough : Enough r count
   pub leaves : Leaves r count l m
@@ -118,10 +117,10 @@ pub record Comes (f : List ℕ → Total) (x : Total) : Type 0 where
   pub each : ASheet sheet
   pub comes_to : f sheet ≡ x
 
-abbrev pub Stepped : Step → (List ℕ → Total) → List ℕ → Type 0
-Stepped (Held k) f c = (k ≤ length c) × Comes f (Text (take k c))
-Stepped (StepRefused n) f c = Comes f (Refusal n)
-Stepped StepUnread f c = Unit {0}
+abbrev pub Stepped : Result ℕ SheetError → (List ℕ → Total) → List ℕ → Type 0
+Stepped (Ok k) f c = (k ≤ length c) × Comes f (Text (take k c))
+Stepped (Err (Refused n)) f c = Comes f (Refusal n)
+Stepped (Err Unread) f c = Unit {0}
 
 -- the total of the sheets before sheet i
 pub record Holding (i n : ℕ) (c : List ℕ) : Type 0 where
@@ -129,12 +128,11 @@ pub record Holding (i n : ℕ) (c : List ℕ) : Type 0 where
   pub came : Came (i - 1) (Text (take n c))
 
 -- one of the answers for which sheets are read
-abbrev pub Tried : Answer → Type 0
-Tried (Told n) = Unit {0}
-Tried (Refused n k) = Unit {0}
-Tried (Unread k) = Unit {0}
-Tried TooFew = ⊥
-Tried WrongSize = ⊥
+abbrev pub Tried : Result ℕ SumError → Type 0
+Tried (Ok n) = Unit {0}
+Tried (Err (Sheet k e)) = Unit {0}
+Tried (Err TooFew) = ⊥
+Tried (Err WrongSize) = ⊥
 
-abbrev pub Ended : Answer → ℕ → List ℕ → List ℕ → Type 0
+abbrev pub Ended : Result ℕ SumError → ℕ → List ℕ → List ℕ → Type 0
 Ended r count l m = Tried r × Leaves r count l m

@@ -5,7 +5,7 @@ ghost use Rattle.shifts.specs.Many.{alone};
 ghost use Rattle.shifts.specs.Sizes.{sheet_most};
 ghost use Rattle.ledger.specs.Totals.{read_most, Stepped, Holding, Ended, Answered};
 
-use crate::files::{File, read_argument};
+use crate::files::read_argument;
 use adding::add::add;
 use adding::sheet::SHEET_MOST;
 use adding::sound::sound;
@@ -13,21 +13,18 @@ use std::env::Env;
 use std::rt::Files;
 use text::put::put_bytes;
 
-// What one more sheet came to: the new total's bytes; a refusal; or that the sheet could not be read.
-#[derive(Clone, Copy)]
-enum Step {
-    Held(usize),
+// Why a sheet does not come to the total: the number of its refusal, or that it could not be read.
+#[derive(Clone, Copy, Debug, PartialEq, Eq, Hash)]
+pub enum SheetError {
     Refused(u32),
     Unread,
 }
 
-// How many bytes of the output the sum takes; the number of a refusal and which sheet is refused, counted from 1; which sheet could not be read;
-// that there are fewer than two sheets; or that the output is too short. Only a sum is written.
-#[derive(Clone, Copy)]
-pub enum Answer {
-    Text(usize),
-    Refused(u32, usize),
-    Unread(usize),
+// Why there is no sum: a sheet that does not come to it, counted from 1; that there are fewer than two sheets; or that the output is too short. Then
+// nothing is written.
+#[derive(Clone, Copy, Debug, PartialEq, Eq, Hash)]
+pub enum SumError {
+    Sheet(usize, SheetError),
     TooFew,
     WrongSize,
 }
@@ -35,36 +32,38 @@ pub enum Answer {
 // One more than any sheet that may be added has: a longer one shows by it.
 const READ_MOST: usize = 24009;
 
-// Holds the first sheet where it may be added.
-fn first_sheet<R: Env + Files>(rt: &R, held: &mut [u8], buf: &mut [u8]) -> Step
+// Holds the first sheet where it may be added; how many bytes are held.
+fn first_sheet<R: Env + Files>(rt: &R, held: &mut [u8], buf: &mut [u8]) -> Result<usize, SheetError>
     requires { (length held.old ≡ sheet_most) × (length buf.old ≡ read_most) }
     ensures { Stepped result alone held.new }
 {
-    let File::Read(n) = read_argument(rt, 1, buf) else {
-        return Step::Unread;
-    };
+    let n = read_argument(rt, 1, buf).ok_or(SheetError::Unread)?;
     if sound(&buf[0..n]) {
         put_bytes(&buf[0..n], held, 0);
-        return Step::Held(n);
+        return Ok(n);
     }
-    Step::Refused(21)
+    Err(SheetError::Refused(21))
 }
 
-// Adds the sheet that argument i names to the total so far, the first n bytes held.
-fn one_more<R: Env + Files>(rt: &R, held: &mut [u8], n: usize, buf: &mut [u8], i: usize) -> Step
+// Adds the sheet that argument i names to the total so far, the first n bytes held; how many bytes are held then.
+fn one_more<R: Env + Files>(
+    rt: &R,
+    held: &mut [u8],
+    n: usize,
+    buf: &mut [u8],
+    i: usize,
+) -> Result<usize, SheetError>
     requires { (n ≤ length held.old) × (length held.old ≡ sheet_most) × (length buf.old ≡ read_most) }
     ensures { Stepped result (add_texts (take n held.old)) held.new }
 {
-    let File::Read(m) = read_argument(rt, i, buf) else {
-        return Step::Unread;
-    };
+    let m = read_argument(rt, i, buf).ok_or(SheetError::Unread)?;
     let mut out = [0u8; SHEET_MOST];
     match add(&held[0..n], &buf[0..m], &mut out) {
         Ok(k) => {
             put_bytes(&out[0..k], held, 0);
-            Step::Held(k)
+            Ok(k)
         }
-        Err(refusal) => Step::Refused(refusal.number()),
+        Err(refusal) => Err(SheetError::Refused(refusal.number())),
     }
 }
 
@@ -76,29 +75,19 @@ fn add_others<R: Env + Files>(
     first: usize,
     buf: &mut [u8],
     out: &mut [u8],
-) -> Answer
+) -> Result<usize, SumError>
     requires { Holding 2 first held.old × (3 ≤ count) × (length held.old ≡ sheet_most) × (length buf.old ≡ read_most) × (sheet_most ≤ length out.old) }
     ensures { Ended result count out.old out.new }
 {
     let mut n = first;
-    let mut i: usize = 2;
-    while i < count {
-        let step = one_more(rt, held, n, buf, i);
-        match step {
-            Step::Held(k) => {
-                n = k;
-            }
-            Step::Refused(number) => {
-                return Answer::Refused(number, i);
-            }
-            Step::Unread => {
-                return Answer::Unread(i);
-            }
+    for i in 2..count {
+        match one_more(rt, held, n, buf, i) {
+            Ok(k) => n = k,
+            Err(why) => return Err(SumError::Sheet(i, why)),
         }
-        i += 1;
     }
     put_bytes(&held[0..n], out, 0);
-    Answer::Text(n)
+    Ok(n)
 }
 
 // Adds all sheets, where there are two or more.
@@ -108,27 +97,30 @@ fn add_sheets<R: Env + Files>(
     held: &mut [u8],
     buf: &mut [u8],
     out: &mut [u8],
-) -> Answer
+) -> Result<usize, SumError>
     requires { (3 ≤ count) × (length held.old ≡ sheet_most) × (length buf.old ≡ read_most) × (sheet_most ≤ length out.old) }
     ensures { Ended result count out.old out.new }
 {
-    let step = first_sheet(rt, held, buf);
-    match step {
-        Step::Held(n) => add_others(rt, count, held, n, buf, out),
-        Step::Refused(number) => Answer::Refused(number, 1),
-        Step::Unread => Answer::Unread(1),
+    match first_sheet(rt, held, buf) {
+        Ok(n) => add_others(rt, count, held, n, buf, out),
+        Err(why) => Err(SumError::Sheet(1, why)),
     }
 }
 
-// The sum of the sheets that a program's arguments name, at the front of the output; `count` is how many arguments it has, its own name among them.
-pub fn sum_of_arguments<R: Env + Files>(rt: &R, count: usize, out: &mut [u8]) -> Answer
+// The sum of the sheets that a program's arguments name, at the front of the output, and how many bytes it takes; `count` is how many arguments it has,
+// its own name among them.
+pub fn sum_of_arguments<R: Env + Files>(
+    rt: &R,
+    count: usize,
+    out: &mut [u8],
+) -> Result<usize, SumError>
     ensures { Answered result count out.old out.new }
 {
     if out.len() < SHEET_MOST {
-        return Answer::WrongSize;
+        return Err(SumError::WrongSize);
     }
     if count < 3 {
-        return Answer::TooFew;
+        return Err(SumError::TooFew);
     }
     let mut held = [0u8; SHEET_MOST];
     let mut buf = [0u8; READ_MOST];

@@ -36,8 +36,11 @@ fn main(rt: HostRuntime) {
     );
     match text {
         Ok(text) => print(rt.stdout(), stderr, &out, text.length),
-        Err(ReadError::Failed) => complain(stderr, b"pickaxle: cannot read standard input\n"),
-        // what is lent has the right sizes
-        Err(ReadError::WrongSize | ReadError::OutOfRange) => unreachable!(),
+        Err(why) => match why {
+            ReadError::Failed => complain(stderr, b"pickaxle: cannot read standard input\n"),
+            // what is lent has the right sizes
+            ReadError::WrongSize => unreachable!(),
+            ReadError::OutOfRange => unreachable!(),
+        },
     }
 }

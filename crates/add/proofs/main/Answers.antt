@@ -5,10 +5,10 @@ use Rattle.ledger.proofs.Printing.{sum_told, refusal_told, size_right}
 use Rattle.add.proofs.main.Goals as goal
 
 pub print-requires : goal.print-requires
-print-requires c = inl (sum_told _ _ _ (search rules) c.sum_of_arguments-answer.ensures c.in-Text.is)
+print-requires c = inl (sum_told _ _ _ (search rules) c.sum_of_arguments-sum.ensures c.in-Ok.is)
 
-pub print_refused-requires : goal.print_refused-requires
-print_refused-requires c = refusal_told _ _ _ (search rules) c.sum_of_arguments-answer.ensures c.in-Refused.is
+pub tell_sheet-requires : goal.tell_sheet-requires
+tell_sheet-requires c = λ number e. refusal_told _ _ _ (search rules) c.sum_of_arguments-sum.ensures c.in-Err.is c.in-Sheet.is e
 
 pub unreachable-requires : goal.unreachable-requires
-unreachable-requires c = size_right _ _ _ (search rules) c.sum_of_arguments-answer.ensures c.in-WrongSize.is
+unreachable-requires c = size_right _ _ _ (search rules) c.sum_of_arguments-sum.ensures c.in-Err.is c.in-WrongSize.is
