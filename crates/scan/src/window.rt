@@ -13,18 +13,18 @@ fn weight(b: u8, w: u8) -> u8
     if name_byte(b) { 0 } else { w }
 }
 
-// The sum of eight weights. They are added as bytes, so that all eight can be added at once.
+// The sum of eight weights. They are added as bytes, so that all eight can be added at once. (A loop over the eight compiles to the same; its proof would need an invariant.)
 fn eight(l: &[u8], i: usize) -> u64
     requires { i + 8 ≤ length l.now }
     ensures { result ≡ eight_from l.now i % 256 }
 {
-    let two = l[i].wrapping_add(l[i + 1]);
-    let three = two.wrapping_add(l[i + 2]);
-    let four = three.wrapping_add(l[i + 3]);
-    let five = four.wrapping_add(l[i + 4]);
-    let six = five.wrapping_add(l[i + 5]);
-    let seven = six.wrapping_add(l[i + 6]);
-    seven.wrapping_add(l[i + 7]) as u64
+    l[i].wrapping_add(l[i + 1])
+        .wrapping_add(l[i + 2])
+        .wrapping_add(l[i + 3])
+        .wrapping_add(l[i + 4])
+        .wrapping_add(l[i + 5])
+        .wrapping_add(l[i + 6])
+        .wrapping_add(l[i + 7]) as u64
 }
 
 // The sums of all 64 weights, eight after eight.
