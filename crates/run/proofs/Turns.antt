@@ -8,7 +8,7 @@ use Prim.Native.Nat.{ℕ, zero, suc, ◌+◌, ◌-◌, ◌≤◌, ◌<◌}
 use native.Mathlib.Omega.{arith}
 use lib.ListN.{length, take, drop, length-drop}
 use lib.Seq.{take_all, take-length, take-add, length-take-le, drop_at}
-use borrow.Author.Tests.{eq-eqb, ne_eqb, lt-ltb, le-ltb}
+use borrow.Author.Tests.{lt-ltb, le-ltb}
 use Rattle.std.specs.Prelude.{min}
 use Rattle.std.proofs.lemmas.Bool.{cases_lt}
 use Rattle.text.specs.Put.{written}
@@ -20,7 +20,7 @@ use Rattle.tables.specs.Entry.{verdict_number}
 use Rattle.ranges.specs.Range.{table_answer}
 use Rattle.judge.specs.declared.feed.Fed.{Fed}
 use Rattle.judge.specs.Feed.{Tables, tables, After, fed_line, judged_lines, AfterChunk, chunked, fed_chunk}
-use Rattle.run.specs.Chunk.{carried_most, Turned, turned, carried_over, chunk_taken, last_taken}
+use Rattle.run.specs.Chunk.{carried_most, Turned, turned, carried_over, chunk_taken}
 
 -- ---- the first n bytes of the buffer, or all where it has no n
 
@@ -36,17 +36,6 @@ front_some l n e h q = record { within = omega arith; front = rw q }
 
 pub front_min : (l : List ℕ) (n e : ℕ) → e ≡ min n (length l) → Front l n e
 front_min l n e q = ⊎_elim (λ h. front_all l n e h (omega arith)) (λ h. front_some l n e h (omega arith)) (cases_lt (length l) n)
-
--- ---- the last line
-
-module _ (t : Tables) (l : List ℕ) (n : ℕ) where
-  pub no_last : n ≡ 0 → t ≡ last_taken t l n
-  unfolding last_taken
-  no_last z = rw (eq-eqb n 0 z)
-
-  pub one_last : {e : ℕ} {x : After} → Front l n e → (n ≡ 0 → ⊥) → x ≡ fed_line t (take e l) → x.left ≡ last_taken t l n
-  unfolding last_taken
-  one_last f z p = rw (ne_eqb n 0 z, ← f.front) (ap (λ (y : After). y.left) p)
 
 -- ---- what is left of a chunk is carried over
 

@@ -65,6 +65,7 @@ pub fn take_chunk(
 }
 
 // At the end of input: what was carried over is the last line, where there is any.
+#[tactic(auto, using(crate::proofs::Turns::front_min), unfolding(crate::specs::Chunk::last_taken))]
 pub fn take_last(names: &mut [u8], nums: &mut [u32], ticks: &mut [u64], buf: &[u8], n: usize)
     ensures { tables names.new nums.new ticks.new
         ≡ last_taken (tables names.old nums.old ticks.old) buf.now n }

@@ -13,28 +13,35 @@ fn weight(b: u8, w: u8) -> u8
     if name_byte(b) { 0 } else { w }
 }
 
-// The sum of eight weights. They are added as bytes, so that all eight can be added at once.
-fn eight(l: &[u8], i: usize) -> u64
+// The sum of eight weights. They are added as bytes, so that all eight can be added at once. (A loop over the eight compiles to the same; its proof would need an invariant.)
+fn eight(l: &[u8], i: usize) -> u8
     requires { i + 8 ≤ length l.now }
     ensures { result ≡ eight_from l.now i % 256 }
 {
-    let two = l[i].wrapping_add(l[i + 1]);
-    let three = two.wrapping_add(l[i + 2]);
-    let four = three.wrapping_add(l[i + 3]);
-    let five = four.wrapping_add(l[i + 4]);
-    let six = five.wrapping_add(l[i + 5]);
-    let seven = six.wrapping_add(l[i + 6]);
-    seven.wrapping_add(l[i + 7]) as u64
+    l[i].wrapping_add(l[i + 1])
+        .wrapping_add(l[i + 2])
+        .wrapping_add(l[i + 3])
+        .wrapping_add(l[i + 4])
+        .wrapping_add(l[i + 5])
+        .wrapping_add(l[i + 6])
+        .wrapping_add(l[i + 7])
 }
 
-// The sums of all 64 weights, eight after eight.
+// The sums of all 64 weights, eight after eight, each as one byte of the number.
 fn joined(l: &[u8]) -> u64
     requires { length l.now ≡ 64 }
     ensures { result ≡ joined_of l.now }
 {
-    let low = eight(l, 0) + eight(l, 8) * 256 + eight(l, 16) * 65536 + eight(l, 24) * 16777216;
-    let high = eight(l, 32) + eight(l, 40) * 256 + eight(l, 48) * 65536 + eight(l, 56) * 16777216;
-    low + high * 4294967296
+    u64::from_le_bytes([
+        eight(l, 0),
+        eight(l, 8),
+        eight(l, 16),
+        eight(l, 24),
+        eight(l, 32),
+        eight(l, 40),
+        eight(l, 48),
+        eight(l, 56),
+    ])
 }
 
 // A mark for each of the 64 bytes from the index `at` on that no name may have.

@@ -1,4 +1,5 @@
-// The numbers that stand for kinds and states, as rules/specs/Words.antt has them; those of event words are in `words`.
+// The numbers that stand for kinds and states, as rules/specs/Words.antt has them; those of event words are in `words`. Numbers and no enum:
+// the lent tables hold them, and what is public here answers to any number.
 pub const CORE: u32 = 1;
 
 pub const TASK: u32 = 2;
