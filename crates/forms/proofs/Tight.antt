@@ -1,5 +1,5 @@
 -- How tight the contracts of dates, notes and source rules are: no second answer, and wrong answers that they shut out.
-use Rattle.std.proofs.Common.{Some, Option}
+use Rattle.std.proofs.Common.{is_none, Some, Option}
 use mathlib.Core.Path.{◌≡◌, refl}
 use mathlib.Core.Bool.{Bool, not}
 use mathlib.Core.List.{List}
@@ -12,7 +12,7 @@ use Rattle.words.specs.declared.kind.Kind.{Kind}
 use Rattle.words.specs.declared.kind.Kind.TheVariants.{Semaphore}
 use Rattle.words.specs.declared.action.Action.{Action}
 use Rattle.forms.specs.Date.{fits_byte, fits_pattern, digit_at, two_at, is_leap, days_in, is_day, is_time, is_moment}
-use Rattle.forms.specs.Note.{count_note, is_decimal, is_signal, signal_note, note_of, is_wrong}
+use Rattle.forms.specs.Note.{count_note, is_decimal, is_signal, signal_note, note_of}
 use Rattle.forms.specs.Rule.{rule_broken}
 
 -- ---- `moment`
@@ -33,12 +33,12 @@ note_unique k = unique (note_of k)
 -- a semaphore's note is a count, and not any name
 pub note_not_any : ShutsOut (note_of Semaphore) (λ s. Some 0)
 unfolding note_of count_note number_of
-note_not_any = shut_out is_wrong (bytes "x") refl refl
+note_not_any = shut_out is_none (bytes "x") refl refl
 
 -- nor a signal's value, which may have a sign
 pub note_not_as_a_signal : ShutsOut (note_of Semaphore) signal_note
 unfolding note_of count_note number_of signal_note is_signal is_decimal are_digits to_byte
-note_not_as_a_signal = shut_out is_wrong (bytes "-1") refl refl
+note_not_as_a_signal = shut_out is_none (bytes "-1") refl refl
 
 -- ---- `rule_broken`
 

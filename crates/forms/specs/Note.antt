@@ -50,7 +50,3 @@ note_at Semaphore s = count_note s
 unfoldable pub note_of : Kind → List ℕ → Option ℕ
 note_of k [] = Some 0
 note_of k (x ∷ s) = note_at k (x ∷ s)
-
-abbrev pub is_wrong : Option ℕ → Bool
-is_wrong (Some n) = false
-is_wrong None = true

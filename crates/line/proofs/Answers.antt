@@ -1,5 +1,5 @@
 -- Document 01's table holds of the reader: it answers the lowest number whose condition holds of the line, and 0 exactly where none does.
-use Rattle.std.proofs.Common.{None, Some, Option}
+use Rattle.std.proofs.Common.{is_none, None, Some, Option}
 use mathlib.Core.Path.{◌≡◌, refl, sym, ap, ◌∙◌}
 use mathlib.Core.Bool.{Bool, true, false, not, ◌&&◌, ◌||◌, cond, or-true}
 use mathlib.Core.Logic.{◌↔◌}
@@ -21,7 +21,7 @@ use Rattle.words.specs.declared.action.Action.{Action}
 use Rattle.words.specs.declared.scale.Scale.{Scale}
 use Rattle.words.specs.Pair.{named_by}
 use Rattle.fields.specs.Part.{parts_of, field_of}
-use Rattle.forms.specs.Note.{max_instance, note_of, is_wrong}
+use Rattle.forms.specs.Note.{max_instance, note_of}
 use Rattle.forms.specs.Rule.{rule_broken}
 use Rattle.line.specs.declared.event.Event.{Event}
 use Rattle.line.specs.declared.reading.Reading.{Reading}
@@ -54,7 +54,7 @@ use Rattle.line.proofs.Lowest.{lowest_exactly, lowest_none}
 
 -- ---- event lines: 5, 6 and 7, from the last test of the reading to the first
 
-known_lowest : (n : Option ℕ) (broken : Bool) (e : Event) → answer_of (ruled n broken e) ≡ lowest (test 5 (is_wrong n) ∷ test 6 false ∷ test 7 broken ∷ [])
+known_lowest : (n : Option ℕ) (broken : Bool) (e : Event) → answer_of (ruled n broken e) ≡ lowest (test 5 (is_none n) ∷ test 6 false ∷ test 7 broken ∷ [])
 unfolding answer_of
 known_lowest None broken e = refl
 known_lowest (Some count) true e = refl

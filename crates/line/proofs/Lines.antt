@@ -1,5 +1,5 @@
 -- Laws of the line as a whole: what `has_break` does at a turn, what the first byte says, and the next line of a chunk.
-use Rattle.std.proofs.Common.{None, Some, Option}
+use Rattle.std.proofs.Common.{None, Some, Option, subst}
 use mathlib.Core.Path.{◌≡◌, refl, sym}
 use mathlib.Core.Bool.{Bool, true, false, not, ◌||◌}
 use mathlib.Core.List.{List, [], ◌∷◌}
@@ -15,7 +15,7 @@ use Rattle.fields.specs.Part.{part_from, commas_of}
 use Rattle.scan.specs.Ahead.{line_from}
 use Rattle.scan.proofs.Nexts.{line_inside}
 use Rattle.line.specs.declared.reading.Reading.{Reading}
-use Rattle.line.specs.declared.reading.Split.{Split}
+use Rattle.line.specs.declared.reading.NextRead.{NextRead}
 use Rattle.line.specs.Reading.{has_break, is_event_line, read_line, split_line, reading_of, next_reading}
 
 -- a turn of the loop, and its end
@@ -45,31 +45,28 @@ unfolding next_reading
 next_over whole s at q = rw q
 
 pub next_read : (whole : Bool) (s : List ℕ) (at end start : ℕ) (r : Reading) (c : Commas) → line_from whole s at ≡ Some (end, start)
-    → r ≡ read_line (part_from s at end) → c ≡ commas_of (part_from s at end) → Some (record { end = end; start = start; split = record { reading = r; commas = c } }) ≡ next_reading whole s at
+    → r ≡ read_line (part_from s at end) → c ≡ commas_of (part_from s at end) → ◌≡◌ {A = Option NextRead} (Some (record { end = end; start = start; split = record { reading = r; commas = c } })) (next_reading whole s at)
 unfolding next_reading
 next_read whole s at end start r c q e d = rw (q, e, d)
 
 -- what a caller goes by: the line is the next one, and stands in the chunk
-pub record NextIs (whole : Bool) (s : List ℕ) (at end start : ℕ) (split : Split) : Type 0 where
-  pub next : line_from whole s at ≡ Some (end, start)
-  pub begins : at ≤ end
-  pub ends : end ≤ length s
-  pub said : split ≡ split_line (part_from s at end)
+pub record NextIs (whole : Bool) (s : List ℕ) (at : ℕ) (n : NextRead) : Type 0 where
+  pub next : line_from whole s at ≡ Some (n.end, n.start)
+  pub begins : at ≤ n.end
+  pub ends : n.end ≤ length s
+  pub said : n.split ≡ split_line (part_from s at n.end)
 
 module _ (whole : Bool) (s : List ℕ) (at : ℕ) where
-  line_by : (end start : ℕ) (split : Split) (n : Option (ℕ × ℕ)) → line_from whole s at ≡ n → reading_of s at n ≡ Some (record { end = end; start = start; split = split }) → NextIs whole s at end start split
-  line_by end start split (Some (e, n)) q h =
-      let x : e ≡ end = cc in
-      let y : n ≡ start = cc in
-      let z : split_line (part_from s at e) ≡ split = cc in
-      let line : line_from whole s at ≡ Some (end, start) = rw (← x, ← y) q in
-      let i = line_inside s at end start whole line in
-      record { next = line; begins = i.0; ends = i.1; said = rw (← x) (sym z) }
-  line_by end start split None q h = let z : ◌≡◌ {A = ℕ} 0 1 = cc in let no_line : ⊥ = omega arith in absurd no_line
+  line_by : (n : NextRead) (x : Option (ℕ × ℕ)) → line_from whole s at ≡ x → reading_of s at x ≡ Some n → NextIs whole s at n
+  line_by n (Some (e, f)) q h =
+      let i = line_inside s at e f whole q in
+      let w : ◌≡◌ {A = NextRead} (record { end = e; start = f; split = split_line (part_from s at e) }) n = cc in
+      subst (NextIs whole s at) w (record { next = q; begins = i.0; ends = i.1; said = refl })
+  line_by n None q h = let z : ◌≡◌ {A = ℕ} 0 1 = cc in let no_line : ⊥ = omega arith in absurd no_line
 
-  pub line_next : (end start : ℕ) (split : Split) → next_reading whole s at ≡ Some (record { end = end; start = start; split = split }) → NextIs whole s at end start split
+  pub line_next : (n : NextRead) → next_reading whole s at ≡ Some n → NextIs whole s at n
   unfolding next_reading
-  line_next end start split q = line_by end start split (line_from whole s at) refl q
+  line_next n q = line_by n (line_from whole s at) refl q
 
   over_by : (n : Option (ℕ × ℕ)) → reading_of s at n ≡ None → n ≡ None
   over_by (Some (e, n)) q = cc

@@ -1,5 +1,6 @@
 -- What the writer leaves of an output, for every record and every output: a refusal leaves all of it, and a line that is written stands
 -- at its front and leaves the rest. And which numbers the writer gives.
+use Rattle.std.proofs.Common.{is_none}
 use mathlib.Core.Path.{◌≡◌, refl, sym, ap, ◌∙◌}
 use mathlib.Core.Bool.{Bool, true, false, not, ◌&&◌, ◌||◌, cond}
 use mathlib.Core.List.{List, [], ◌∷◌, ◌++◌}
@@ -13,7 +14,7 @@ use Rattle.text.specs.Put.{written}
 use Rattle.text.specs.Lists.{any}
 use Rattle.text.proofs.Writes.{length_written, written_first}
 use Rattle.words.specs.Action.{is_of}
-use Rattle.forms.specs.Note.{note_of, is_wrong}
+use Rattle.forms.specs.Note.{note_of}
 use Rattle.forms.specs.Rule.{rule_broken}
 use Rattle.line.specs.declared.event.Event.{Event}
 use Rattle.line.specs.declared.writing.Written.TheVariants.{Done, NotWritten}
@@ -89,7 +90,7 @@ tests_given false false false text out = fit_case text out (λ w. is_given (writ
 pub writer_answers : (e : Event) (source target note out : List ℕ) → is_given (written_answer (write_line e source target note out).answer) ≡ true
 unfolding write_line record_refusal
 writer_answers e source target note out =
-    tests_given (not (has_instances e && has_sizes e.time source target note) || (is_of e.kind e.action && is_wrong (note_of e.kind note)))
+    tests_given (not (has_instances e && has_sizes e.time source target note) || (is_of e.kind e.action && is_none (note_of e.kind note)))
     (not (is_of e.kind e.action))
     (rule_broken e.kind e.action source e.source_instance target e.target_instance note)
     (text_of e source target note)

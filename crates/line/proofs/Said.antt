@@ -1,5 +1,5 @@
 -- What a line says that reads as an event: its fields are the event's numbers and words, its names are names, and the rules hold.
-use Rattle.std.proofs.Common.{None, Some, Option}
+use Rattle.std.proofs.Common.{None, Some, Option, ap}
 use mathlib.Core.Path.{◌≡◌, refl}
 use mathlib.Core.Bool.{Bool, true, false, not, ◌||◌, cond, or-true, or-false}
 use mathlib.Core.Logic.{◌⊎◌, inl, inr, ⊎_elim}
@@ -9,7 +9,6 @@ use native.Mathlib.Omega.{arith}
 use lib.Dec.{eqb, ltb}
 use lib.ListN.{length}
 use borrow.Author.Tests.{eqb-true}
-use Rattle.text.proofs.Pairs.{same_parts}
 use Rattle.text.specs.Name.{is_name}
 use Rattle.text.specs.Number.{digits_of, number_of}
 use Rattle.text.specs.Sizes.{max_time}
@@ -112,7 +111,9 @@ numbers_are : (n f t : Option ℕ) (x y z : ℕ) → numbers_as n f t ≡ Some (
 numbers_are None f t x y z q = (cc, cc, cc)
 numbers_are (Some n) None t x y z q = (cc, cc, cc)
 numbers_are (Some n) (Some f) None x y z q = (cc, cc, cc)
-numbers_are (Some n) (Some f) (Some t) x y z q = let w = same_parts q in let v = same_parts (ap Some w.1) in (ap Some w.0, ap Some v.0, ap Some v.1)
+numbers_are (Some n) (Some f) (Some t) x y z q =
+    let w : ◌≡◌ {A = ℕ × ℕ × ℕ} (n, f, t) (x, y, z) = cc in
+    (ap (λ (p : ℕ × ℕ × ℕ). Some p.0) w, ap (λ (p : ℕ × ℕ × ℕ). Some p.1) w, ap (λ (p : ℕ × ℕ × ℕ). Some p.2) w)
 
 -- ---- the parts
 

@@ -1,5 +1,6 @@
 -- Laws of writing a record: how long its line is, that each field has room where all of them have, when a record is refused, and what
 -- writing it leaves.
+use Rattle.std.proofs.Common.{is_none}
 use mathlib.Core.Path.{◌≡◌, refl, sym, ap, ◌∙◌}
 use mathlib.Core.Bool.{Bool, true, false, not, ◌&&◌, ◌||◌}
 use mathlib.Core.List.{List, [], ◌∷◌}
@@ -21,7 +22,7 @@ use Rattle.text.proofs.Writes.{put_fits, put_length}
 use Rattle.words.specs.Kind.{kind_word}
 use Rattle.words.specs.Action.{word_of, is_of}
 use Rattle.words.proofs.Found.{kind_short, word_short}
-use Rattle.forms.specs.Note.{max_instance, note_of, is_wrong}
+use Rattle.forms.specs.Note.{max_instance, note_of}
 use Rattle.forms.specs.Rule.{rule_broken}
 use Rattle.line.specs.declared.event.Event.{Event}
 use Rattle.line.specs.declared.writing.Written.TheVariants.{Done, NotWritten}
@@ -128,12 +129,12 @@ refused true true true r = refl
 refused true true false true = refl
 refused true true false false = refl
 
-by_tests : (e : Event) (source target note : List ℕ) → record_refusal e source target note ≡ refused_by (has_instances e && has_sizes e.time source target note) (is_of e.kind e.action) (is_wrong (note_of e.kind note)) (rule_broken e.kind e.action source e.source_instance target e.target_instance note)
+by_tests : (e : Event) (source target note : List ℕ) → record_refusal e source target note ≡ refused_by (has_instances e && has_sizes e.time source target note) (is_of e.kind e.action) (is_none (note_of e.kind note)) (rule_broken e.kind e.action source e.source_instance target e.target_instance note)
 unfolding record_refusal
 by_tests e source target note =
-    refused (has_instances e && has_sizes e.time source target note) (is_of e.kind e.action) (is_wrong (note_of e.kind note)) (rule_broken e.kind e.action source e.source_instance target e.target_instance note)
+    refused (has_instances e && has_sizes e.time source target note) (is_of e.kind e.action) (is_none (note_of e.kind note)) (rule_broken e.kind e.action source e.source_instance target e.target_instance note)
 
-pub record_refusal_lem : (e : Event) (source target note : List ℕ) → e.source_instance ≤ max_instance → e.target_instance ≤ max_instance → record_refusal e source target note ≡ refused_by (has_sizes e.time source target note) (is_of e.kind e.action) (is_wrong (note_of e.kind note)) (rule_broken e.kind e.action source e.source_instance target e.target_instance note)
+pub record_refusal_lem : (e : Event) (source target note : List ℕ) → e.source_instance ≤ max_instance → e.target_instance ≤ max_instance → record_refusal e source target note ≡ refused_by (has_sizes e.time source target note) (is_of e.kind e.action) (is_none (note_of e.kind note)) (rule_broken e.kind e.action source e.source_instance target e.target_instance note)
 unfolding has_instances
 record_refusal_lem e source target note h k =
     by_tests e source target note ∙ rw (le-leb e.source_instance max_instance h, le-leb e.target_instance max_instance k)
@@ -145,7 +146,7 @@ sized false o w r e = absurd (suc-ne-zero 4 e)
 -- the sizes of a record that is not refused are right
 pub accepted_sizes : (e : Event) (source target note : List ℕ) → record_refusal e source target note ≡ 0 → has_sizes e.time source target note ≡ true
 accepted_sizes e source target note h =
-    and_r (has_instances e) (has_sizes e.time source target note) (sized (has_instances e && has_sizes e.time source target note) (is_of e.kind e.action) (is_wrong (note_of e.kind note)) (rule_broken e.kind e.action source e.source_instance target e.target_instance note) (sym (by_tests e source target note) ∙ h))
+    and_r (has_instances e) (has_sizes e.time source target note) (sized (has_instances e && has_sizes e.time source target note) (is_of e.kind e.action) (is_none (note_of e.kind note)) (rule_broken e.kind e.action source e.source_instance target e.target_instance note) (sym (by_tests e source target note) ∙ h))
 
 note_length : (s : List ℕ) → is_empty s || is_name s ≡ true → length s ≤ name_most
 note_length [] e = omega arith

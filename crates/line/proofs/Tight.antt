@@ -52,7 +52,7 @@ abbrev next : Asked → Option NextRead
 next (whole, s, at) = next_reading whole s at
 
 abbrev is_over : Option NextRead → Bool
-is_over (Some (record { end = end; start = start; split = r })) = false
+is_over (Some n) = false
 is_over None = true
 
 -- an unfinished line is read
@@ -65,7 +65,7 @@ with_its_end s at (Some (end, start)) = Some (record { end = end; start = start;
 with_its_end s at None = None
 
 abbrev is_taken : Option NextRead → Bool
-is_taken (Some (record { end = end; start = start; split = r })) = eqb (answer_of r.reading) 0
+is_taken (Some n) = eqb (answer_of n.split.reading) 0
 is_taken None = false
 
 -- a line is read with its end, so that none is taken

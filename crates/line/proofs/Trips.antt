@@ -1,6 +1,6 @@
 -- The two round trips, over all bytes: a line that reads as an event, written from what was read, is that very line, and a record that is
 -- written reads back as that record.
-use Rattle.std.proofs.Common.{None, Some, Option}
+use Rattle.std.proofs.Common.{is_none, None, Some, Option}
 use mathlib.Core.Path.{◌≡◌, refl, sym, ap, ◌∙◌}
 use mathlib.Core.Bool.{Bool, true, false, not, ◌&&◌, ◌||◌, cond}
 use mathlib.Core.Logic.{inl, inr}
@@ -22,7 +22,7 @@ use Rattle.words.specs.Action.{word_of, is_of}
 use Rattle.words.proofs.Found.{pair_back}
 use Rattle.fields.specs.Part.{parts_of, field_of}
 use Rattle.fields.proofs.Parts.{join_parts}
-use Rattle.forms.specs.Note.{max_instance, note_of, is_wrong}
+use Rattle.forms.specs.Note.{max_instance, note_of}
 use Rattle.forms.specs.Rule.{rule_broken}
 use Rattle.line.specs.declared.event.Event.{Event}
 use Rattle.line.specs.declared.reading.Reading.TheVariants.{EventLine}
@@ -40,7 +40,7 @@ abbrev count_in : Option ℕ → ℕ
 count_in (Some c) = c
 count_in None = 0
 
-means_count : (n : Option ℕ) → is_wrong n ≡ false → n ≡ Some (count_in n)
+means_count : (n : Option ℕ) → is_none n ≡ false → n ≡ Some (count_in n)
 means_count (Some c) q = refl
 means_count None q = cc
 
@@ -71,7 +71,7 @@ module _ (e : Event) (source target note : List ℕ) where
 
   -- the conditions of the three numbers, none of which holds
   refused_by : record_refusal e source target note ≡ 0
-      → ((not (has_instances e && has_sizes e.time source target note) || (is_of e.kind e.action && is_wrong (note_of e.kind note))) ≡ false)
+      → ((not (has_instances e && has_sizes e.time source target note) || (is_of e.kind e.action && is_none (note_of e.kind note))) ≡ false)
       × (not (is_of e.kind e.action) ≡ false)
       × (rule_broken e.kind e.action source e.source_instance target e.target_instance note ≡ false)
   unfolding record_refusal
@@ -85,7 +85,7 @@ module _ (e : Event) (source target note : List ℕ) where
   passes_allowed q =
       let tests = refused_by q in
       let kind = not-false (is_of e.kind e.action) tests.1 in
-      let form = holds_and (has_instances e && has_sizes e.time source target note) (is_wrong (note_of e.kind note)) (rw kind at tests.0) in
+      let form = holds_and (has_instances e && has_sizes e.time source target note) (is_none (note_of e.kind note)) (rw kind at tests.0) in
       let instances = and_l (has_instances e) _ form.0 in
       let sizes = and_r (has_instances e) _ form.0 in
       let names = and_r (leb e.time max_time) _ sizes in

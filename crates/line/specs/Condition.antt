@@ -1,5 +1,5 @@
 -- Document 01's table of numbered answers as the reader gives them from its line alone: one condition for each number.
-use Rattle.std.specs.Prelude.{ℕ, Bool, true, false, not, ◌&&◌, ◌||◌, List, [], ◌∷◌, eqb, leb, ltb, length, None, Some, Option}
+use Rattle.std.specs.Prelude.{ℕ, Bool, true, false, not, ◌&&◌, ◌||◌, List, [], ◌∷◌, eqb, leb, ltb, length, None, Some, Option, is_none}
 use Rattle.text.specs.Name.{is_name}
 use Rattle.text.specs.Number.{number_of}
 use Rattle.text.specs.Sizes.{max_time}
@@ -8,7 +8,7 @@ use Rattle.words.specs.declared.action.Action.{Action}
 use Rattle.words.specs.declared.scale.Scale.{Scale}
 use Rattle.words.specs.Pair.{named_by}
 use Rattle.fields.specs.Part.{parts_of, field_of}
-use Rattle.forms.specs.Note.{max_instance, note_of, is_wrong}
+use Rattle.forms.specs.Note.{max_instance, note_of}
 use Rattle.forms.specs.Rule.{rule_broken}
 use Rattle.line.specs.Parameter.{is_version, is_version_line, is_comment, time_scale, is_creator, is_creation_date}
 use Rattle.line.specs.Reading.{line_most, has_break, is_event_line}
@@ -46,7 +46,7 @@ name_wrong l = not (is_name (field_of l 2) && is_name (field_of l 5))
 
 -- "Any eighth field needs a name's bytes and length, else 5; a closer form is tested only where type and event are known."
 abbrev pub closer_wrong : Option (Kind × Action) → List ℕ → Bool
-closer_wrong (Some (k, a)) note = is_wrong (note_of k note)
+closer_wrong (Some (k, a)) note = is_none (note_of k note)
 closer_wrong None note = false
 
 unfoldable pub note_wrong : List ℕ → Bool

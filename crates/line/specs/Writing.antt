@@ -1,6 +1,6 @@
 -- The one line that a record is, when it is refused, and what writing it leaves. A record is an event with its source, target and note;
 -- an empty note is no note.
-use Rattle.std.specs.Prelude.{ℕ, zero, suc, Bool, not, ◌&&◌, ◌||◌, cond, List, [], ◌∷◌, ◌++◌, leb, length}
+use Rattle.std.specs.Prelude.{ℕ, zero, suc, Bool, not, ◌&&◌, ◌||◌, cond, List, [], ◌∷◌, ◌++◌, leb, length, is_none}
 use Rattle.text.specs.Name.{is_name}
 use Rattle.text.specs.Number.{digits_of}
 use Rattle.text.specs.Put.{written}
@@ -8,7 +8,7 @@ use Rattle.text.specs.Sizes.{max_time}
 use Rattle.text.specs.Lists.{is_empty}
 use Rattle.words.specs.Kind.{kind_word}
 use Rattle.words.specs.Action.{word_of, is_of}
-use Rattle.forms.specs.Note.{max_instance, note_of, is_wrong}
+use Rattle.forms.specs.Note.{max_instance, note_of}
 use Rattle.forms.specs.Rule.{rule_broken}
 use Rattle.line.specs.declared.event.Event.{Event}
 use Rattle.line.specs.declared.writing.Written.{Written}
@@ -46,7 +46,7 @@ record_refusal e source target note =
     lowest
     (test
     5
-    (not (has_instances e && has_sizes e.time source target note) || (is_of e.kind e.action && is_wrong (note_of e.kind note)))
+    (not (has_instances e && has_sizes e.time source target note) || (is_of e.kind e.action && is_none (note_of e.kind note)))
     ∷ test 6 (not (is_of e.kind e.action))
     ∷ test 7 (rule_broken e.kind e.action source e.source_instance target e.target_instance note)
     ∷ [])

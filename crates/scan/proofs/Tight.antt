@@ -33,11 +33,11 @@ unfolding ahead_of line_from next_from line_text pieces
 ahead_not_by_marks_alone = shut_out told (false, 97 ∷ 10 ∷ [], 0) refl refl
 
 abbrev with_commas : Option Ahead → Commas → Option Ahead
-with_commas (Some (record { end = end; start = start; plain = plain; commas = c })) d = Some (record { end = end; start = start; plain = plain; commas = d })
+with_commas (Some a) d = Some (record a { commas = d })
 with_commas None d = None
 
 abbrev first_comma : ℕ → Option Ahead → Bool
-first_comma n (Some (record { end = end; start = start; plain = plain; commas = c })) = eqb c.c1 n
+first_comma n (Some a) = eqb a.commas.c1 n
 first_comma n None = false
 
 -- the commas of the chunk, not those of the line

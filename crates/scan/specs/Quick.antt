@@ -66,5 +66,5 @@ after_six s at c = cond (is_comma s at c.c7) (cond (nat_lt 127 c.c8) None (ends_
 
 -- whether a line is told
 abbrev pub told : Option Ahead → Bool
-told (Some (record { end = end; start = start; plain = plain; commas = c })) = true
+told (Some a) = true
 told None = false

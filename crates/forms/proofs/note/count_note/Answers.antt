@@ -5,15 +5,15 @@ use Rattle.text.proofs.Digits.{read_written}
 use Rattle.forms.specs.Note.{count_note}
 use Rattle.forms.proofs.note.count_note.Goals as goal
 
-pub returns-in_default : goal.returns-in_default
+pub returns-in_err-count : goal.returns-in_err-count
 unfolding count_note
-returns-in_default c = rw (← c.read_number-n.ensures, c.in_default.is)
+returns-in_err-count c = rw (c.from_residual.ensures, ← c.read_number.ensures, c.in_err-count.was)
 
 pub overflow_cast-result : goal.overflow_cast-result
 overflow_cast-result c =
-    let h = (read_written _ _ _ (sym c.read_number-n.ensures ∙ c.in-Value.is)).1 in
+    let h = (read_written _ _ _ (sym c.read_number.ensures ∙ c.in_ok-count.was)).1 in
     omega arith
 
 pub returns : goal.returns
 unfolding count_note
-returns c = rw (← c.read_number-n.ensures, c.in-Value.is)
+returns c = rw (← c.read_number.ensures, c.in_ok-count.was)

@@ -8,14 +8,14 @@ returns-then-not-names c = rw (← c.names.ensures, c.if-not-names.true)
 
 pub returns-in_default : goal.returns-in_default
 unfolding fields_reading
-returns-in_default c = rw (← c.names.ensures, c.if-not-names.false, ← c.read_numbers-n.ensures, c.in_default.is)
+returns-in_default c = rw (← c.names.ensures, c.if-not-names.false, ← c.read_numbers-numbers.ensures, c.in_default.is)
 
-pub returns-in_default-p : goal.returns-in_default-p
+pub returns-in_default-named : goal.returns-in_default-named
 unfolding fields_reading
-returns-in_default-p c = rw (← c.names.ensures, c.if-not-names.false, ← c.read_numbers-n.ensures, c.in-TimeAndInstances.is, ← c.named-p.ensures, c.in_default-p.is)
+returns-in_default-named c = rw (← c.names.ensures, c.if-not-names.false, ← c.read_numbers-numbers.ensures, c.in-Some.is, ← c.named.ensures, c.in_default-named.is)
 
 pub returns : goal.returns
 unfolding fields_reading
 returns c =
-    rw (← c.names.ensures, c.if-not-names.false, ← c.read_numbers-n.ensures, c.in-TimeAndInstances.is, ← c.named-p.ensures, c.in-Known.is)
+    rw (← c.names.ensures, c.if-not-names.false, ← c.read_numbers-numbers.ensures, c.in-Some.is, ← c.named.ensures, c.in-Some-named.is)
     c.read_known.ensures

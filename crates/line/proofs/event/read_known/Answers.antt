@@ -4,12 +4,12 @@ use Rattle.line.proofs.event.read_known.Goals as goal
 
 pub returns-in_default : goal.returns-in_default
 unfolding known_reading
-returns-in_default c = rw (← c.note_of-n.ensures, c.in_default.is)
+returns-in_default c = rw (← c.note_of.ensures, c.in_default.is)
 
 pub returns-then-rule_broken : goal.returns-then-rule_broken
 unfolding known_reading
-returns-then-rule_broken c = rw (← c.note_of-n.ensures, c.in-Means.is, ← c.rule_broken.ensures, c.if-rule_broken.true)
+returns-then-rule_broken c = rw (← c.note_of.ensures, c.in-Some.is, ← c.rule_broken.ensures, c.if-rule_broken.true)
 
 pub returns : goal.returns
 unfolding known_reading
-returns c = rw (← c.note_of-n.ensures, c.in-Means.is, ← c.rule_broken.ensures, c.if-rule_broken.false)
+returns c = rw (← c.note_of.ensures, c.in-Some.is, ← c.rule_broken.ensures, c.if-rule_broken.false)

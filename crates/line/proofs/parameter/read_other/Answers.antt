@@ -2,9 +2,9 @@
 use Rattle.line.specs.Parameter.{other_reading}
 use Rattle.line.proofs.parameter.read_other.Goals as goal
 
-pub returns-in-ThisScale : goal.returns-in-ThisScale
+pub returns-in-Some : goal.returns-in-Some
 unfolding other_reading
-returns-in-ThisScale c = rw (← c.time_scale.ensures, c.in-ThisScale.is)
+returns-in-Some c = rw (← c.time_scale.ensures, c.in-Some.is)
 
 pub returns-then-creator : goal.returns-then-creator
 unfolding other_reading

@@ -14,17 +14,17 @@ returns-then-not-is_of c =
     let a = c.args in
     rw (record_refusal_lem a.event a.source.now a.target.now a.note.now (omega arith) (omega arith), ← c.sizes.ensures, c.if-not-sizes.false, ← c.is_of.ensures, c.if-not-is_of.true)
 
-pub returns-in_default : goal.returns-in_default
-returns-in_default c =
+pub returns-then-is_none : goal.returns-then-is_none
+returns-then-is_none c =
     let a = c.args in
-    rw (record_refusal_lem a.event a.source.now a.target.now a.note.now (omega arith) (omega arith), ← c.sizes.ensures, c.if-not-sizes.false, ← c.is_of.ensures, c.if-not-is_of.false, ← c.note_of-n.ensures, c.in_default.is)
+    rw (record_refusal_lem a.event a.source.now a.target.now a.note.now (omega arith) (omega arith), ← c.sizes.ensures, c.if-not-sizes.false, ← c.is_of.ensures, c.if-not-is_of.false, ← c.note_of.ensures, c.is_none.ensures, c.if-is_none.true)
 
 pub returns-then-rule_broken : goal.returns-then-rule_broken
 returns-then-rule_broken c =
     let a = c.args in
-    rw (record_refusal_lem a.event a.source.now a.target.now a.note.now (omega arith) (omega arith), ← c.sizes.ensures, c.if-not-sizes.false, ← c.is_of.ensures, c.if-not-is_of.false, ← c.note_of-n.ensures, c.in-Means.is, ← c.rule_broken.ensures, c.if-rule_broken.true)
+    rw (record_refusal_lem a.event a.source.now a.target.now a.note.now (omega arith) (omega arith), ← c.sizes.ensures, c.if-not-sizes.false, ← c.is_of.ensures, c.if-not-is_of.false, ← c.note_of.ensures, c.is_none.ensures, c.if-is_none.false, ← c.rule_broken.ensures, c.if-rule_broken.true)
 
 pub returns : goal.returns
 returns c =
     let a = c.args in
-    rw (record_refusal_lem a.event a.source.now a.target.now a.note.now (omega arith) (omega arith), ← c.sizes.ensures, c.if-not-sizes.false, ← c.is_of.ensures, c.if-not-is_of.false, ← c.note_of-n.ensures, c.in-Means.is, ← c.rule_broken.ensures, c.if-rule_broken.false)
+    rw (record_refusal_lem a.event a.source.now a.target.now a.note.now (omega arith) (omega arith), ← c.sizes.ensures, c.if-not-sizes.false, ← c.is_of.ensures, c.if-not-is_of.false, ← c.note_of.ensures, c.is_none.ensures, c.if-is_none.false, ← c.rule_broken.ensures, c.if-rule_broken.false)
