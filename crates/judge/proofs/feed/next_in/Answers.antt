@@ -9,18 +9,18 @@ pub returns-in_default : goal.returns-in_default
 returns-in_default c = none_next _ _ _ (over_next _ _ _ (sym c.read_next-next.ensures ∙ c.in_default.is))
 
 pub slice_bounds-line_in-count : goal.slice_bounds-line_in-count
-slice_bounds-line_in-count c = omega (arith, line_next _ _ _ _ _ _ (sym c.read_next-next.ensures ∙ c.in-Some.is))
+slice_bounds-line_in-count c = omega (arith, line_next _ _ _ _ (sym c.read_next-next.ensures ∙ c.in-Some.is))
 
 pub slice_bounds-line_in-start : goal.slice_bounds-line_in-start
-slice_bounds-line_in-start c = omega (arith, line_next _ _ _ _ _ _ (sym c.read_next-next.ensures ∙ c.in-Some.is))
+slice_bounds-line_in-start c = omega (arith, line_next _ _ _ _ (sym c.read_next-next.ensures ∙ c.in-Some.is))
 
 pub slice_bounds-line_in-end : goal.slice_bounds-line_in-end
-slice_bounds-line_in-end c = omega (arith, line_next _ _ _ _ _ _ (sym c.read_next-next.ensures ∙ c.in-Some.is))
+slice_bounds-line_in-end c = omega (arith, line_next _ _ _ _ (sym c.read_next-next.ensures ∙ c.in-Some.is))
 
 pub line_in-answer-requires : goal.line_in-answer-requires
 unfolding part_from
-line_in-answer-requires c = (c.requires, (line_next _ _ _ _ _ _ (sym c.read_next-next.ensures ∙ c.in-Some.is)).said)
+line_in-answer-requires c = (c.requires, (line_next _ _ _ _ (sym c.read_next-next.ensures ∙ c.in-Some.is)).said)
 
 pub returns : goal.returns
 unfolding part_from
-returns c = judged_next _ _ _ _ _ (line_next _ _ _ _ _ _ (sym c.read_next-next.ensures ∙ c.in-Some.is)).next c.line_in-answer.ensures
+returns c = judged_next _ _ _ _ _ (line_next _ _ _ _ (sym c.read_next-next.ensures ∙ c.in-Some.is)).next c.line_in-answer.ensures
