@@ -79,8 +79,8 @@ pub fewer_sheets : (ts us : List (List ℕ)) → AllFit (ts ++ us) → AllFit ts
 fewer_sheets ts us w = by_bills (bills_of ts) (bills_of us) refl refl (sym (bills_more ts us) ∙ w.read)
   where
     by_bills : (o p : Option (List Bill)) → bills_of ts ≡ o → bills_of us ≡ p → both_of o p ≡ Some w.bills → AllFit ts × AllFit us
-    by_bills None p r s e = absurd (none-ne-some _ e)
-    by_bills (Some bs) None r s e = absurd (none-ne-some _ e)
+    by_bills None p r s e = cc
+    by_bills (Some bs) None r s e = cc
     by_bills (Some bs) (Some cs) r s e =
         let same : bs ++ cs ≡ w.bills = cc in
         let k = fewer_fit bs cs (rw same w.fit) in

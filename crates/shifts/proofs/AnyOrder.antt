@@ -1,11 +1,11 @@
 -- Sheets in any order come to the same together (`any_order`), and so do they added in any order and grouping (`any_way`). 02, No. 12: "order and grouping don't matter".
 use Rattle.std.proofs.Common.{Option, None, Some}
+use Rattle.std.proofs.Props.{props}
 use mathlib.Core.Path.{◌≡◌, refl, sym, ap, ◌∙◌}
 use mathlib.Core.Logic.{∥∥₁_elim}
 use mathlib.Core.List
 use mathlib.Core.List.Perm
 use mathlib.Core.List.{List, [], ◌∷◌, ◌++◌, cons≢nil, Perm, Permᴰ}
-use mathlib.Core.Option
 use Prim.Native.Nat.{ℕ}
 use native.Mathlib.Nat.{ℕ_set}
 use Rattle.shifts.specs.Sum.{Total, Text, Refusal, add_texts, add_totals, add_all}
@@ -69,7 +69,7 @@ reordered f k (Permᴰ.swap {a = t} {b = u} {l = us} p q) = rw (← p, ← q) (t
 reordered f k (Permᴰ.trans d e) = reordered f k d ∙ reordered f k e
 
 same_bytes : (f : List (List ℕ) → Option (List ℕ)) → IsLeft f → {ts us : List (List ℕ)} → Perm ts us → f ts ≡ f us
-same_bytes f k {ts} {us} p = ∥∥₁_elim p (Option.is_set (List.is_set ℕ_set) (f ts) (f us)) (reordered f k)
+same_bytes f k {ts} {us} p = ∥∥₁_elim p (hlevel (props, List.is_set ℕ_set)) (reordered f k)
 
 pub any_order : {ts us : List (List ℕ)} → Perm ts us → together ts ≡ together us
 any_order = same_bytes together (λ t u us. sym (all_together t u us))

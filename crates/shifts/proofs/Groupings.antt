@@ -42,7 +42,7 @@ unfolding alone is_sound
 of_sheet t = by_bill (sound_sheet t) refl
   where
     by_bill : (o : Option Bill) → sound_sheet t ≡ o → Says (Sheet t) (text_if (is_bill o) t)
-    by_bill None r = λ w. none-ne-some _ (sym (ap (λ (o : Option Bill). with_next o (Some [])) r) ∙ w.read)
+    by_bill None r = λ w. let e : None ≡ Some w.bills = sym (ap (λ (o : Option Bill). with_next o (Some [])) r) ∙ w.read in cc
     by_bill (Some b) r = record { first = b; others = []; read = rw r; fit = alone_fit b (sound_is t b r).1; bill = b; sound = r; sums = alone_sum b }
 
 module _ (g h : Grouping) where
