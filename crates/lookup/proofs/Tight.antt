@@ -48,7 +48,7 @@ look_not_by_word = shut_out (λ s. eqb s.class no_core) runnable refl refl
 pub rows_added_unique : (needed : Bool) (f : Option ℕ) (x y : ℕ) → x ≡ rows_added needed f → y ≡ rows_added needed f → x ≡ y
 rows_added_unique needed = unique (rows_added needed)
 
-abbrev news : Bool × (Option ℕ) → ℕ
+abbrev news : Bool × Option ℕ → ℕ
 news (needed, f) = rows_added needed f
 
 -- a row that is not needed is not new
@@ -64,7 +64,7 @@ rows_added_not_found = shut_out (λ n. eqb n 0) (true, Some 0) refl refl
 pub above_all_unique : (nums : List ℕ) (target : Option ℕ) (number : ℕ) (x y : Bool) → x ≡ above_in nums target number → y ≡ above_in nums target number → x ≡ y
 above_all_unique nums target = unique (above_in nums target)
 
-abbrev above : List ℕ × (Option ℕ) × ℕ → Bool
+abbrev above : List ℕ × Option ℕ × ℕ → Bool
 above (nums, target, number) = above_in nums target number
 
 -- where nothing was seen any number is above it

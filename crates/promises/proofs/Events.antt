@@ -11,7 +11,6 @@ use Rattle.line.specs.declared.reading.Reading.TheVariants.{Version, Comment, Ti
 use Rattle.line.specs.Reading.{read_line}
 use Rattle.rules.specs.Lists.{if_zero}
 use Rattle.rules.specs.Event.{Event}
-use Rattle.rules.specs.History.{names}
 use Rattle.rules.specs.Verdict.{answer, Accepted}
 use Rattle.rules.specs.Lines.{event_from, event_in, event_of_line, with_event, events_of}
 use Rattle.rules.proofs.Answers.{passed}

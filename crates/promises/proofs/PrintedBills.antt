@@ -6,7 +6,7 @@ use mathlib.Core.List.{List, [], reverse}
 use Prim.Native.Nat.{ℕ, ◌+◌, ◌≤◌}
 use native.Mathlib.Omega.{arith}
 use lib.Dec.{eqb}
-use lib.ListN.{length, length-map}
+use lib.ListN.{length}
 use borrow.Author.Tests.{le-ltb}
 use Rattle.text.specs.Name.{is_name}
 use Rattle.text.specs.Sizes.{name_limit, core_limit}

@@ -3,7 +3,7 @@ use Rattle.std.proofs.Common.{Some}
 use mathlib.Core.Path.{◌≡◌, refl, sym, ap, ◌∙◌}
 use mathlib.Core.Bool.{Bool, true, false}
 use mathlib.Core.List.{List, [], ◌∷◌, ◌++◌, append-nil, append_assoc}
-use Prim.Native.Nat.{ℕ, suc, ◌-◌}
+use Prim.Native.Nat.{ℕ, suc}
 use lib.Dec.{eqb}
 use lib.ListN.{length}
 use borrow.Author.Tests.{eqb-true}
@@ -19,7 +19,7 @@ use Rattle.rules.specs.Charts.{is_process}
 use Rattle.rules.specs.Event.{Event}
 use Rattle.rules.specs.History.{names, kind_of, is_kind}
 use Rattle.rules.specs.Verdict.{Accepted}
-use Rattle.rules.specs.Sheet.{core_rows, process_rows, span, sheet}
+use Rattle.rules.specs.Sheet.{core_rows, process_rows, sheet}
 use Rattle.tables.specs.Entry.{kind_at}
 use Rattle.judge.specs.Feed.{Tables}
 use Rattle.sheet.specs.Sheet.{belongs, row_in, rows_to, rows_in, sheet_in}
