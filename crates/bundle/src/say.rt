@@ -3,7 +3,7 @@ ghost use Rattle.std.specs.Prelude.{◌≤◌, length};
 
 use outcome::now::SHEET_MOST;
 use outcome::whole::outcome_of;
-use run::report::{Printed, TEXT_MOST, put_outcome};
+use run::report::{TEXT_MOST, put_outcome};
 use std::io::Stdout;
 use tables::entry::{NAMES_SIZE, NUMS_SIZE, TICKS_SIZE};
 
@@ -20,7 +20,7 @@ fn put_text(trace: &[u8], out: &mut [u8]) -> usize
     let mut ticks = [0u64; TICKS_SIZE];
     let mut sheet = [0u8; SHEET_MOST];
     let o = outcome_of(&mut names, &mut nums, &mut ticks, trace, &mut sheet);
-    let Printed::Done(n) = put_outcome(o, &sheet, out) else {
+    let Ok(n) = put_outcome(o, &sheet, out) else {
         return 0;
     };
     n.min(out.len())

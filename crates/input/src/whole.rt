@@ -3,7 +3,7 @@ ghost use Rattle.std.specs.Prelude.{◌≡◌};
 ghost use Rattle.input.specs.Whole.{lent, lent_refusal, are_sized, Answered};
 
 use crate::reads::{BUFFER_SIZE, ReadError, read_all};
-use run::report::{Printed, TEXT_MOST, report};
+use run::report::{TEXT_MOST, report};
 use std::io::Read;
 use tables::fresh::fresh;
 use tables::size::sized;
@@ -37,7 +37,7 @@ fn text_from_fresh<R: Read>(
 {
     fresh(names, nums, ticks);
     let bytes = read_all(stdin, names, nums, ticks, buf)?;
-    let Printed::Done(length) = report(names, nums, ticks, out) else {
+    let Ok(length) = report(names, nums, ticks, out) else {
         return Err(ReadError::WrongSize);
     };
     Ok(Text { length, bytes })

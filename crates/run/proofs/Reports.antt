@@ -72,8 +72,8 @@ module _ (names nums ticks : List ℕ) where
   abbrev Told : List ℕ → Outcome → List ℕ → Type 0
   Told blank o m = (o ≡ record { verdict = verdict_in nums ticks; length = length sheet }) × (m ≡ written blank 0 sheet)
 
-  own_least : (own ≡ 0) ⊎ (15 ≤ own)
-  own_least = ⊎_elim (λ e. inl e) (λ w. inr (⊎_elim (λ e. omega arith) (λ e. omega arith) w)) (three_answers names nums ticks)
+  own_least : (own ≡ 0) ⊎ ((15 ≤ own) × (own ≤ 16))
+  own_least = ⊎_elim (λ e. inl e) (λ w. inr (⊎_elim (λ e. (omega arith, omega arith)) (λ e. (omega arith, omega arith)) w)) (three_answers names nums ticks)
 
   module _ {o : Outcome} {m : List ℕ} (blank : List ℕ) (wide : length blank ≡ sheet_most) (e : asked o m ≡ outcome_in (tables names nums ticks) blank) where
     told : own ≡ 0 → Told blank o m
@@ -87,16 +87,16 @@ module _ (names nums ticks : List ℕ) where
     unfolding outcome_in
     refused h = ap (λ (x : Asked). x.outcome.verdict.number) (e ∙ if_some own _ (asked (refused_by own) blank) (λ z. omega arith))
 
-    pub report_refused : (out : List ℕ) → 15 ≤ o.verdict.number → reported (Err o.verdict.number) out ≡ report_written names nums ticks out
+    pub report_refused : (out : List ℕ) {n : ℕ} → o.verdict.number ≡ n → 15 ≤ n → reported (Err n) out ≡ report_written names nums ticks out
     unfolding report_written
-    report_refused out h =
+    report_refused out {n} e h =
         ⊎_elim
-        (λ z. absurd (omega (arith, told_most names nums ticks z, ap (λ (x : Outcome). x.verdict.number) (told z).0)))
-        (λ l. rw (refused l) (sym (if_some own _ (reported (Err own) out) (λ z. omega arith)))) own_least
+        (λ z. absurd (omega (arith, told_most names nums ticks z, e, ap (λ (x : Outcome). x.verdict.number) (told z).0)))
+        (λ l. rw (sym e ∙ refused l.0) (sym (if_some own _ (reported (Err own) out) (λ z. omega (arith, l.0))))) own_least
 
-    pub report_told : (out : List ℕ) → o.verdict.number < 15 → outcome_printed o m out ≡ report_written names nums ticks out
+    pub report_told : (out : List ℕ) → (o.verdict.number ≡ 15 → ⊥) → (o.verdict.number ≡ 16 → ⊥) → outcome_printed o m out ≡ report_written names nums ticks out
     unfolding outcome_printed report_written
-    report_told out h =
+    report_told out h k =
         ⊎_elim
         (λ z. let w = told z in rw (z, w.0, w.1, take_written blank sheet (omega (arith, sheet_fits (valid names nums ticks z)))))
-        (λ l. absurd (omega (arith, refused l))) own_least
+        (λ l. let n = refused l.0 in absurd (omega (arith, h, k, l.0, l.1))) own_least

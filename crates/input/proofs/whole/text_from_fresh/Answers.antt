@@ -26,4 +26,4 @@ returns g c =
     let a = c.args in
     let sizes = sizes_right (lent a.names.now a.nums.now a.ticks.now a.buf.now a.out.now) c.requires in
     let came = all_came _ _ _ (fresh_start sizes.0 c.fresh.ensures) c.read_all.ensures c.in_ok-bytes.was in
-    answered_text c.requires (told came _ sizes.1.1 c.report.ensures refl c.in-Done.is)
+    answered_text c.requires (told came _ sizes.1.1 c.report.ensures refl c.in-Ok.is)
