@@ -1,13 +1,10 @@
 // The eight types of a target: their words, read and written.
 ghost use Rattle.std.specs.Prelude.{◌≡◌, length};
-ghost use Rattle.text.specs.Bytes.{same_bytes};
 ghost use Rattle.text.specs.Put.{put, after};
-ghost use Rattle.words.specs.Named.{pick};
 ghost use Rattle.words.specs.Kind.{kind_of, kind_word};
 ghost use Rattle.words.specs.Starts.{kind_start};
 
 use crate::writing::put_part;
-use text::bytes::same;
 
 #[derive(Clone, Copy)]
 pub enum Kind {
@@ -21,30 +18,22 @@ pub enum Kind {
     Semaphore,
 }
 
-// kind where s is the word w, and other where it is not.
-fn kind_named(s: &[u8], w: &[u8], kind: Kind, other: Option<Kind>) -> Option<Kind>
-    ensures { result ≡ pick (same_bytes s.now w.now) (Some kind) other }
-{
-    if same(s, w) {
-        Some(kind)
-    } else {
-        other
-    }
-}
-
 // The type that s names.
+#[tactic(auto, using(std::proofs::lemmas::Grind::common_steps, crate::proofs::Matched::read_bytes), unfolding(crate::specs::Kind::kind_of, crate::specs::Kind::kind_word, crate::specs::Named::pick))]
 pub fn kind_of(s: &[u8]) -> Option<Kind>
     ensures { result ≡ kind_of s.now }
 {
-    let k = None;
-    let k = kind_named(s, b"SEM", Kind::Semaphore, k);
-    let k = kind_named(s, b"SIG", Kind::Signal, k);
-    let k = kind_named(s, b"EVENT", Kind::OsEvent, k);
-    let k = kind_named(s, b"SCHED", Kind::Scheduler, k);
-    let k = kind_named(s, b"R", Kind::Runnable, k);
-    let k = kind_named(s, b"I", Kind::Interrupt, k);
-    let k = kind_named(s, b"T", Kind::Task, k);
-    kind_named(s, b"STI", Kind::Stimulus, k)
+    match s {
+        b"STI" => Some(Kind::Stimulus),
+        b"T" => Some(Kind::Task),
+        b"I" => Some(Kind::Interrupt),
+        b"R" => Some(Kind::Runnable),
+        b"SCHED" => Some(Kind::Scheduler),
+        b"EVENT" => Some(Kind::OsEvent),
+        b"SIG" => Some(Kind::Signal),
+        b"SEM" => Some(Kind::Semaphore),
+        _ => None,
+    }
 }
 
 // How many bytes a type's word has.
