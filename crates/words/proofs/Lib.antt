@@ -3,7 +3,6 @@ pub mod Chains
 pub mod Matched
 pub mod Actions
 pub mod Tags
-pub mod Tables
 pub mod Classes
 pub mod Found
 pub mod Tight
