@@ -1,19 +1,18 @@
--- Laws of the words of the time scales: which numbers have none, how long each is, that it is a part of all of them, and which number a word names.
+-- Laws of the words of the time scales: which numbers have none, how long each is, and which number a word names.
 use Rattle.std.proofs.Common.{None, Some}
 use mathlib.Core.Path.{◌≡◌, refl, ap, ◌∙◌}
 use mathlib.Core.List.{List, []}
-use Prim.Native.Nat.{ℕ, zero, suc, ◌+◌, ◌≤◌, ◌<◌}
+use Prim.Native.Nat.{ℕ, zero, suc, ◌≤◌, ◌<◌}
 use native.Mathlib.Omega.{arith}
-use lib.ListN.{length, take, drop}
+use lib.ListN.{length}
 use borrow.Author.Tests.{ne_eqb}
-use Rattle.text.specs.Literal.{bytes}
 use Rattle.text.specs.Bytes.{same_bytes}
 use Rattle.words.specs.declared.scale.Scale.{Scale}
 use Rattle.words.specs.declared.scale.Scale.TheVariants.{Picoseconds, Nanoseconds, Microseconds, Milliseconds, Seconds}
 use Rattle.words.specs.Named.{pick}
 use Rattle.words.specs.Scale.{scale_word, scales, scale_of}
 use Rattle.words.proofs.Found.{first_named_lem}
-use Rattle.bill.specs.Scale.{scale_number, scale_text, scale_start}
+use Rattle.bill.specs.Scale.{scale_number, scale_text}
 use Rattle.bill.specs.Reading.{scale_code}
 
 pub scale_none : (n : ℕ) → (n ≡ 1 → ⊥) → (n ≡ 2 → ⊥) → (n ≡ 3 → ⊥) → (n ≡ 4 → ⊥) → (n ≡ 5 → ⊥) → scale_text n ≡ []
@@ -22,15 +21,6 @@ scale_none n h1 h2 h3 h4 h5 = rw (ne_eqb n 1 h1, ne_eqb n 2 h2, ne_eqb n 3 h3, n
 
 pub scale_past : (n : ℕ) → 5 < n → scale_text n ≡ []
 scale_past n h = scale_none n (λ e. omega arith) (λ e. omega arith) (λ e. omega arith) (λ e. omega arith) (λ e. omega arith)
-
-pub scale_two : (n : ℕ) → (n ≡ 0 → ⊥) → (n ≡ 5 → ⊥) → n ≤ 5 → length (scale_text n) ≡ 2
-unfolding scale_text scale_word
-scale_two zero z f h = absurd (z refl)
-scale_two (suc zero) z f h = refl
-scale_two (suc (suc zero)) z f h = refl
-scale_two (suc (suc (suc zero))) z f h = refl
-scale_two (suc (suc (suc (suc zero)))) z f h = refl
-scale_two (suc (suc (suc (suc (suc n))))) z f h = absurd (f (omega arith))
 
 pub scale_short : (n : ℕ) → length (scale_text n) ≤ 2
 unfolding scale_text scale_word
@@ -41,35 +31,6 @@ scale_short (suc (suc (suc zero))) = omega arith
 scale_short (suc (suc (suc (suc zero)))) = omega arith
 scale_short (suc (suc (suc (suc (suc zero))))) = omega arith
 scale_short (suc (suc (suc (suc (suc (suc n)))))) = omega (arith, ap length (scale_past (suc (suc (suc (suc (suc (suc n)))))) (omega arith)))
-
--- ---- the words of all numbers, one after the other, and each number's part of them
-
-abbrev scale_words : List ℕ
-scale_words = bytes "psnsusmss"
-
-pub start_past : (n : ℕ) → 5 < n → scale_start n ≡ 0
-unfolding scale_start
-start_past (suc (suc (suc (suc (suc (suc n)))))) h = refl
-start_past zero h = absurd (omega arith)
-start_past (suc zero) h = absurd (omega arith)
-start_past (suc (suc zero)) h = absurd (omega arith)
-start_past (suc (suc (suc zero))) h = absurd (omega arith)
-start_past (suc (suc (suc (suc zero)))) h = absurd (omega arith)
-start_past (suc (suc (suc (suc (suc zero))))) h = absurd (omega arith)
-
--- it is the word, and lies among them
-abbrev Part : ℕ → Type 0
-Part n = (take (length (scale_text n)) (drop (scale_start n) scale_words) ≡ scale_text n) × (scale_start n + length (scale_text n) ≤ 9)
-
-pub scale_part : (n : ℕ) → Part n
-unfolding scale_text scale_word scale_start
-scale_part zero = (refl, omega arith)
-scale_part (suc zero) = (refl, omega arith)
-scale_part (suc (suc zero)) = (refl, omega arith)
-scale_part (suc (suc (suc zero))) = (refl, omega arith)
-scale_part (suc (suc (suc (suc zero)))) = (refl, omega arith)
-scale_part (suc (suc (suc (suc (suc zero))))) = (refl, omega arith)
-scale_part (suc (suc (suc (suc (suc (suc n)))))) = rw (scale_past (suc (suc (suc (suc (suc (suc n)))))) (omega arith)) (refl, omega arith)
 
 -- ---- the number that bytes name
 

@@ -1,5 +1,5 @@
 -- The time scales by their numbers, from 1, as a verdict has them.
-use Rattle.std.specs.Prelude.{cond, List, [], ◌∷◌, ℕ, eqb, get_or}
+use Rattle.std.specs.Prelude.{cond, List, [], ℕ, eqb}
 use Rattle.words.specs.declared.scale.Scale.{Scale}
 use Rattle.words.specs.declared.scale.Scale.TheVariants.{Picoseconds, Nanoseconds, Microseconds, Milliseconds, Seconds}
 use Rattle.words.specs.Scale.{scale_word}
@@ -17,7 +17,3 @@ scale_text n =
     cond (eqb n 1) (scale_word Picoseconds)
     (cond (eqb n 2) (scale_word Nanoseconds)
     (cond (eqb n 3) (scale_word Microseconds) (cond (eqb n 4) (scale_word Milliseconds) (cond (eqb n 5) (scale_word Seconds) []))))
-
--- for the code alone: where the word of each number begins among all of them
-unfoldable pub scale_start : ℕ → ℕ
-scale_start n = get_or (0 ∷ 0 ∷ 2 ∷ 4 ∷ 6 ∷ 8 ∷ []) n 0

@@ -1,7 +1,7 @@
 // The time scales by their numbers, as a verdict has them.
 ghost use Rattle.std.specs.Prelude.{◌≡◌, length};
 ghost use Rattle.text.specs.Put.{put, after};
-ghost use Rattle.bill.specs.Scale.{scale_number, scale_text, scale_start};
+ghost use Rattle.bill.specs.Scale.{scale_number, scale_text};
 
 use text::put::put_bytes;
 use words::scale::Scale;
@@ -10,12 +10,21 @@ use words::scale::Scale;
 pub fn scale_number(scale: Scale) -> u32
     ensures { result ≡ scale_number scale }
 {
+    scale as u32
+}
+
+// The word of a number, empty for a number that has none.
+#[tactic(auto, unfolding(crate::specs::Scale::scale_text, words::specs::Scale::scale_word))]
+fn scale_text(scale: u32) -> &'static [u8]
+    ensures { result.now ≡ scale_text scale }
+{
     match scale {
-        Scale::Picoseconds => 1,
-        Scale::Nanoseconds => 2,
-        Scale::Microseconds => 3,
-        Scale::Milliseconds => 4,
-        Scale::Seconds => 5,
+        1 => b"ps",
+        2 => b"ns",
+        3 => b"us",
+        4 => b"ms",
+        5 => b"s",
+        _ => b"",
     }
 }
 
@@ -23,35 +32,12 @@ pub fn scale_number(scale: Scale) -> u32
 pub(crate) fn scale_length(scale: u32) -> usize
     ensures { result ≡ length (scale_text scale) }
 {
-    if scale == 5 {
-        return 1;
-    }
-    if scale == 0 || 5 < scale {
-        return 0;
-    }
-    2
-}
-
-// The words of the time scales 1 to 5, one after the other, and where that of each number begins.
-const SCALES: [u8; 9] = *b"psnsusmss";
-
-const STARTS: [usize; 6] = [0, 0, 2, 4, 6, 8];
-
-fn scale_start(scale: u32) -> usize
-    ensures { result ≡ scale_start scale }
-{
-    if 5 < scale {
-        return 0;
-    }
-    let n = scale as usize;
-    STARTS[n]
+    scale_text(scale).len()
 }
 
 // Puts the word of a number, and nothing for a number that has none.
 pub(crate) fn put_scale(scale: u32, out: &mut [u8], at: usize) -> usize
     ensures { after result out.new ≡ put out.old at (scale_text scale) }
 {
-    let from = scale_start(scale);
-    let to = from + scale_length(scale);
-    put_bytes(&SCALES[from..to], out, at)
+    put_bytes(scale_text(scale), out, at)
 }

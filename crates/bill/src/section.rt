@@ -5,28 +5,31 @@ ghost use Rattle.bill.specs.Text.{title};
 
 use text::put::put_bytes;
 
-#[derive(Clone, Copy)]
+#[derive(Clone, Copy, Debug, PartialEq, Eq)]
 pub enum Section {
     Cores,
     Processes,
+}
+
+fn title(section: Section) -> &'static [u8]
+    ensures { result.now ≡ title section }
+{
+    match section {
+        Section::Cores => b"cores ",
+        Section::Processes => b"processes ",
+    }
 }
 
 // How many bytes the title takes.
 pub fn title_length(section: Section) -> usize
     ensures { result ≡ length (title section) }
 {
-    match section {
-        Section::Cores => 6,
-        Section::Processes => 10,
-    }
+    title(section).len()
 }
 
 // Puts the title into out from the index at on, and returns the index after it; where it doesn't fit, at, and nothing is written.
 pub fn put_title(section: Section, out: &mut [u8], at: usize) -> usize
     ensures { after result out.new ≡ put out.old at (title section) }
 {
-    match section {
-        Section::Cores => put_bytes(b"cores ", out, at),
-        Section::Processes => put_bytes(b"processes ", out, at),
-    }
+    put_bytes(title(section), out, at)
 }

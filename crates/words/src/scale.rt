@@ -4,11 +4,11 @@ ghost use Rattle.words.specs.Scale.{scale_of};
 
 #[derive(Clone, Copy, Debug, PartialEq, Eq)]
 pub enum Scale {
-    Picoseconds,
-    Nanoseconds,
-    Microseconds,
-    Milliseconds,
-    Seconds,
+    Picoseconds = 1,
+    Nanoseconds = 2,
+    Microseconds = 3,
+    Milliseconds = 4,
+    Seconds = 5,
 }
 
 // The time scale that s names.
