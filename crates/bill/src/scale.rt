@@ -5,17 +5,10 @@ ghost use Rattle.bill.specs.Scale.{scale_number, scale_text};
 use words::scale::Scale;
 
 // A time scale's number, from 1.
-#[tactic(auto, unfolding(crate::specs::Scale::scale_number))]
 pub fn scale_number(scale: Scale) -> u32
     ensures { result ≡ scale_number scale }
 {
-    match scale {
-        Scale::Picoseconds => 1,
-        Scale::Nanoseconds => 2,
-        Scale::Microseconds => 3,
-        Scale::Milliseconds => 4,
-        Scale::Seconds => 5,
-    }
+    scale as u32
 }
 
 // The word of a number; nothing for a number that has none.

@@ -5,5 +5,4 @@ pub mod Code
 pub mod Action
 pub mod Pair
 pub mod Class
-pub mod Starts
 pub mod Scale

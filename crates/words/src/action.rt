@@ -1,5 +1,5 @@
 // The 38 events of 000's sections 2.3.1 to 2.3.7, and what bytes may name of them.
-#[derive(Clone, Copy)]
+#[derive(Clone, Copy, Debug, PartialEq, Eq)]
 pub enum Action {
     Trigger,
     Activate,

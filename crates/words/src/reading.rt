@@ -1,4 +1,5 @@
-// The event that bytes name, by the type: the event words of 000's sections 2.3.1 to 2.3.7, read.
+// The event that bytes name, by the type: the event words of 000's sections 2.3.1 to 2.3.7, read. They are chains and no `match` of byte strings,
+// as that of the types is: a match has goals for each byte of each word, and with words as many or as long as these the check did not close them.
 ghost use Rattle.std.specs.Prelude.{◌≡◌};
 ghost use Rattle.text.specs.Bytes.{same_bytes};
 ghost use Rattle.words.specs.Named.{pick};
@@ -13,11 +14,7 @@ use text::bytes::same;
 fn action_named(s: &[u8], w: &[u8], action: Action, other: Option<Action>) -> Option<Action>
     ensures { result ≡ pick (same_bytes s.now w.now) (Some action) other }
 {
-    if same(s, w) {
-        Some(action)
-    } else {
-        other
-    }
+    if same(s, w) { Some(action) } else { other }
 }
 
 // The event of T and I alike that s names, or other.
