@@ -5,4 +5,5 @@ use Rattle.try_sheets.specs.declared.Told.{Told}
 pub record Step (r : Told) (at end : ℕ) : Type 0 where
   pub small : r.number ≤ 65536
   pub within : r.next ≤ end
-  pub further : at < r.next
+  pub on : at ≤ r.next
+  pub further : at < end → at < r.next

@@ -20,7 +20,7 @@ struct Told {
 }
 
 // The number from the index at on, up to the byte `end`, where there is one.
-fn number_to(s: &[u8], end: u8, at: usize) -> Option<Told>
+fn number_at(s: &[u8], end: u8, at: usize) -> Option<Told>
     requires { at ≤ length s.now }
     ensures { IfSome result (λ r. Step r at (length s.now)) }
 {
@@ -33,6 +33,18 @@ fn number_to(s: &[u8], end: u8, at: usize) -> Option<Told>
         number: number as usize,
         next: stop + 1,
     })
+}
+
+// The same; where there is none, 0, and the end of all.
+fn number_to(s: &[u8], end: u8, at: usize) -> Told
+    requires { at ≤ length s.now }
+    ensures { Step result at (length s.now) }
+{
+    let none = Told {
+        number: 0,
+        next: s.len(),
+    };
+    number_at(s, end, at).unwrap_or(none)
 }
 
 fn say(stdout: Stdout, s: &[u8]) {
@@ -78,24 +90,29 @@ fn say_sum(stdout: Stdout, a: &[u8], b: &[u8]) {
     }
 }
 
-// Says the pair whose header stands at the index `at`, and answers where the next one begins; where no pair can be told, nothing is said.
-fn say_pair(stdout: Stdout, s: &[u8], at: usize) -> Option<usize>
-    requires { at ≤ length s.now }
-    ensures { IfSome result (λ next. (at < next) × (next ≤ length s.now)) }
+// Says the pair whose header stands at the index `at`, and answers where the next one begins; the end where there is none.
+fn say_pair(stdout: Stdout, s: &[u8], at: usize) -> usize
+    requires { at < length s.now }
+    ensures { (at < result) × (result ≤ length s.now) }
 {
-    let first = number_to(s, b' ', at)?;
-    let second = number_to(s, b'\n', first.next)?;
+    let n = s.len();
+    let first = number_to(s, b' ', at);
+    let second = number_to(s, b'\n', first.next);
     let from = second.next;
     let middle = from + first.number;
     let end = middle + second.number;
-    say_sum(stdout, s.get(from..middle)?, s.get(middle..end)?);
-    Some(end)
+    if n < end {
+        return n;
+    }
+    say_sum(stdout, &s[from..middle], &s[middle..end]);
+    end
 }
 
+// No `for`: a pair tells where the next one begins.
 fn say_pairs(stdout: Stdout, s: &[u8]) {
     let mut at = 0;
-    while let Some(next) = say_pair(stdout, s, at) {
-        at = next;
+    while at < s.len() {
+        at = say_pair(stdout, s, at);
     }
 }
 

@@ -26,11 +26,18 @@ pub(crate) enum Word {
 #[derive(Clone, Copy, Debug, PartialEq, Eq, Hash)]
 pub(crate) struct NoSuchWord;
 
+// The bytes of a word that count: the last eight, and of these no byte 0 in front.
+fn counted(word: &[u8]) -> &[u8] {
+    let last = &word[word.len().saturating_sub(8)..];
+    let zeros = last.iter().position(|b| *b != 0).unwrap_or(last.len());
+    &last[zeros..]
+}
+
 impl TryFrom<&[u8]> for Word {
     type Error = NoSuchWord;
 
     fn try_from(s: &[u8]) -> Result<Word, NoSuchWord> {
-        Ok(match s {
+        Ok(match counted(s) {
             b"#" => Word::Remark,
             b"sizes" => Word::Sizes,
             b"names" => Word::Names,

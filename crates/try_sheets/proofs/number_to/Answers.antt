@@ -1,25 +1,13 @@
--- `try_sheets::number_to` meets its contract: the end of the number lies behind its beginning, and what was read is small.
-use mathlib.Core.Path.{sym, ◌∙◌}
-use native.Mathlib.Omega.{arith}
-use Rattle.text.proofs.Digits.{read_written}
-use Rattle.text.proofs.Finds.{find_ge}
+-- `try_sheets::number_to` meets its contract: where no number is told, the end of all lies behind the beginning.
+use Rattle.std.proofs.Common.{ℕ, ◌≤◌, Option, Some, None, length, sym, subst, arith}
+use Rattle.std.specs.Prelude.{IfSome, unwrap_or}
+use Rattle.try_sheets.specs.declared.Told.{Told}
+use Rattle.try_sheets.specs.Steps.{Step}
 use Rattle.try_sheets.proofs.number_to.Goals as goal
 
-pub slice_bounds-read_number-count : goal.slice_bounds-read_number-count
-slice_bounds-read_number-count c =
-    let a = c.args in
-    omega (arith, c.find-stop.ensures, find_ge a.end a.s.now a.at)
-
-pub slice_bounds-read_number-start : goal.slice_bounds-read_number-start
-slice_bounds-read_number-start c =
-    let a = c.args in
-    omega (arith, c.find-stop.ensures, find_ge a.end a.s.now a.at)
+told_or : (o : Option Told) (at end : ℕ) → at ≤ end → IfSome o (λ r. Step r at end) → Step (unwrap_or o (record { number = 0; next = end })) at end
+told_or (Some r) at end h s = s
+told_or None at end h s = record { small = omega arith; within = omega arith; on = omega arith; further = λ l. omega arith }
 
 pub returns : goal.returns
-returns c =
-    let a = c.args in
-    record {
-      small = (read_written _ 65536 _ (sym c.read_number.ensures ∙ c.in_ok-number.was)).1;
-      within = omega arith;
-      further = omega (arith, c.find-stop.ensures, find_ge a.end a.s.now a.at);
-    }
+returns c = subst (λ (r : Told). Step r c.args.at (length c.args.s.now)) (sym c.unwrap_or.ensures) (told_or c.number_at.result _ _ c.requires c.number_at.ensures)
