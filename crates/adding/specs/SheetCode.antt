@@ -1,5 +1,6 @@
 -- FOR THE CODE ALONE: a text read as a sheet that may be added, and the places of its rows.
-use Rattle.std.specs.Prelude.{◌≡◌, Bool, true, false, ◌||◌, List, map, ℕ, ◌-◌, ◌≤◌, length, take, None, Some}
+use Rattle.std.specs.Prelude.{◌≡◌, Bool, true, false, ◌||◌, List, map, ℕ, ◌-◌, ◌≤◌, length, take, None, Some, Option}
+use Rattle.std.specs.Option.{option_map}
 use Rattle.text.specs.Sizes.{name_limit, core_limit}
 use Rattle.bill.specs.declared.section.Section.{Section}
 use Rattle.bill.specs.declared.section.Section.TheVariants.{Cores, Processes}
@@ -63,12 +64,13 @@ pub record Booked (text : List ℕ) (x : Sheet) : Type 0 where
   pub rows : (section : Section) → rows_at text (places_of section x) ≡ sorted_by by_name (rows_in section bill)
   pub in_order : (section : Section) → InOrder section text (places_of section x)
 
-abbrev pub ReadAs : Bool → List ℕ → Sheet → Type 0
-ReadAs true text x = Booked text x
-ReadAs false text x = sound_sheet text ≡ None
+-- .. or the text may not be added
+abbrev pub ReadAs : List ℕ → Option Sheet → Type 0
+ReadAs text (Some x) = Booked text x
+ReadAs text None = sound_sheet text ≡ None
 
 -- what is read, and that the entries are as many as they were
-pub record Read (text cores processes : List ℕ) (f : Form) : Type 0 where
+pub record Read (text cores processes : List ℕ) (r : Option Form) : Type 0 where
   pub cores_sized : length cores ≡ core_limit
   pub processes_sized : length processes ≡ name_limit
-  pub told : ReadAs f.ok text (record { form = f; cores = cores; processes = processes })
+  pub told : ReadAs text (option_map (λ f. record { form = f; cores = cores; processes = processes }) r)

@@ -82,13 +82,7 @@ fn add_read(a: &[u8], x: &Sheet, b: &[u8], y: &Sheet, out: &mut [u8]) -> Result<
 pub fn add(a: &[u8], b: &[u8], out: &mut [u8]) -> Result<usize, Refusal>
     ensures { told_as result out.new ≡ add_into a.now b.now out.old }
 {
-    let x = read_sheet(a);
-    if !x.form.ok {
-        return Err(Refusal::Malformed);
-    }
-    let y = read_sheet(b);
-    if !y.form.ok {
-        return Err(Refusal::Malformed);
-    }
+    let x = read_sheet(a).ok_or(Refusal::Malformed)?;
+    let y = read_sheet(b).ok_or(Refusal::Malformed)?;
     add_read(a, &x, b, &y, out)
 }

@@ -5,7 +5,7 @@ ghost use Rattle.adding.specs.FormCode.{core_places, process_places, Sized};
 ghost use Rattle.adding.specs.SheetCode.{places_of, NamesOnce, RowsRight, ReadAs, Read};
 
 use crate::apart::meet;
-use crate::form::{Form, no_form, read_form};
+use crate::form::{Form, read_form};
 use crate::places::LINES_MOST;
 use crate::rows::sums_right;
 use crate::sort::sort;
@@ -80,34 +80,31 @@ fn rows_right(
 }
 
 // Reads the text, and stores the places of its rows.
-fn read_places(text: &[u8], cores: &mut [u32], processes: &mut [u32]) -> Form
+fn read_places(text: &[u8], cores: &mut [u32], processes: &mut [u32]) -> Option<Form>
     requires { (length cores.old ≡ core_limit) × (length processes.old ≡ name_limit) }
     ensures { Read text.now cores.new processes.new result }
 {
     if SHEET_MOST < text.len() {
-        return no_form();
+        return None;
     }
     let mut starts = [0u32; LINES_MOST];
-    let form = read_form(text, &mut starts);
-    if !form.ok {
-        return no_form();
-    }
+    let form = read_form(text, &mut starts)?;
     if !rows_right(text, &starts, form, cores, processes) {
-        return no_form();
+        return None;
     }
-    form
+    Some(form)
 }
 
-// Reads the text.
-pub(crate) fn read_sheet(text: &[u8]) -> Sheet
-    ensures { ReadAs result.form.ok text.now result }
+// Reads the text; nothing where it may not be added.
+pub(crate) fn read_sheet(text: &[u8]) -> Option<Sheet>
+    ensures { ReadAs text.now result }
 {
     let mut cores = [0u32; CORES_MOST];
     let mut processes = [0u32; NAMES_MOST];
-    let form = read_places(text, &mut cores, &mut processes);
-    Sheet {
+    let form = read_places(text, &mut cores, &mut processes)?;
+    Some(Sheet {
         form,
         cores,
         processes,
-    }
+    })
 }
