@@ -13,7 +13,7 @@ use Rattle.adding.specs.declared.refusal.Refusal.{Refusal as Why}
 use Rattle.adding.specs.declared.refusal.Refusal.TheVariants.{Malformed}
 use Rattle.adding.specs.declared.sheet.Sheet.{Sheet}
 use Rattle.adding.specs.Adding.{summed, into_output, add_into}
-use Rattle.adding.specs.SheetCode.{Booked, ReadAs}
+use Rattle.adding.specs.SheetCode.{WasRead, ReadAs}
 
 -- a sheet read is told, and a text that is none is 21
 module _ (text : List ℕ) (r : Option Sheet) (k : ReadAs text r) {q : Result Sheet Why} (e : q ≡ ok_or r Malformed) where
@@ -24,11 +24,11 @@ module _ (text : List ℕ) (r : Option Sheet) (k : ReadAs text r) {q : Result Sh
       by (Some x) k d = absurd (cc)
       by None k d = (cc, k)
 
-  pub booked : (x : Sheet) → q ≡ Ok x → Booked text x
+  pub booked : (x : Sheet) → q ≡ Ok x → (x.text.now ≡ text) × WasRead x
   booked x d = by r k (sym e ∙ d)
     where
-      by : (r : Option Sheet) → ReadAs text r → ok_or r Malformed ≡ Ok x → Booked text x
-      by (Some z) k d = let s : z ≡ x = cc in subst (λ t. Booked text t) s k
+      by : (r : Option Sheet) → ReadAs text r → ok_or r Malformed ≡ Ok x → (x.text.now ≡ text) × WasRead x
+      by (Some z) k d = let s : z ≡ x = cc in subst (λ x. (x.text.now ≡ text) × WasRead x) s k
       by None k d = absurd (cc)
 
 -- ---- 21 of either

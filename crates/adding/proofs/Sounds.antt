@@ -9,5 +9,5 @@ use Rattle.adding.specs.SheetCode.{ReadAs}
 
 pub sound_told : (text : List ℕ) (r : Option Sheet) → ReadAs text r → is_some r ≡ is_sound text
 unfolding is_sound
-sound_told text (Some x) w = rw w.sound
+sound_told text (Some x) w = rw (← w.0, w.1.sound)
 sound_told text None w = rw w

@@ -1,4 +1,5 @@
 -- `adding::add::add` meets its contract: each text that may not be added is 21, and else both are added by the places of their rows.
+use mathlib.Core.Path.{◌∙◌}
 use Rattle.std.proofs.lemmas.Result.{err_from_is_err_and}
 use Rattle.adding.proofs.Books.{not_read, booked, first_unsound, second_unsound}
 use Rattle.adding.proofs.add.add.Goals as goal
@@ -17,6 +18,12 @@ returns-in_err-y c =
 
 pub add_read-requires : goal.add_read-requires
 add_read-requires c = record {
-  first = booked _ _ c.read_sheet.ensures c.ok_or.ensures.value _ c.in_ok-x.was;
-  second = booked _ _ c.read_sheet-2.ensures c.ok_or-2.ensures.value _ c.in_ok-y.was;
+  first = (booked _ _ c.read_sheet.ensures c.ok_or.ensures.value _ c.in_ok-x.was).1;
+  second = (booked _ _ c.read_sheet-2.ensures c.ok_or-2.ensures.value _ c.in_ok-y.was).1;
 }
+
+pub returns : goal.returns
+returns c =
+    let a = (booked _ _ c.read_sheet.ensures c.ok_or.ensures.value _ c.in_ok-x.was).0 in
+    let b = (booked _ _ c.read_sheet-2.ensures c.ok_or-2.ensures.value _ c.in_ok-y.was).0 in
+    c.add_read.ensures ∙ rw (a, b)
