@@ -15,6 +15,7 @@ pub(crate) fn line_starts(text: &[u8], starts: &mut [u32]) -> Option<usize>
 {
     let mut at = 0;
     let mut n = 0;
+    // not a `for` over the entries: behind it the test whether the text is through would stand once more
     while at < text.len() {
         let e = find(text, 10, at);
         if text.len() <= e {
