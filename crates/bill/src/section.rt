@@ -5,7 +5,7 @@ ghost use Rattle.bill.specs.Text.{title};
 
 use text::put::put_bytes;
 
-#[derive(Clone, Copy)]
+#[derive(Clone, Copy, Debug, PartialEq, Eq)]
 pub enum Section {
     Cores,
     Processes,

@@ -7,7 +7,7 @@ use crate::scale::scale_word;
 use text::put::{digit_count, put_bytes, put_number, room};
 
 // The verdict, with the time scale's number and the span.
-#[derive(Clone, Copy)]
+#[derive(Clone, Copy, Debug, PartialEq, Eq)]
 pub struct Verdict {
     pub number: u32,
     pub line: u32,
