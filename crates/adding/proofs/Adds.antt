@@ -28,7 +28,7 @@ use Rattle.adding.specs.declared.sheet.Sheet.{Sheet}
 use Rattle.adding.specs.declared.whole.Made.{Made}
 use Rattle.adding.specs.Adding.{number_of, summed, into_output, add_into}
 use Rattle.adding.specs.MergeCode.{sum_rows, Merging}
-use Rattle.adding.specs.SheetCode.{places_of, Booked}
+use Rattle.adding.specs.SheetCode.{places_of, WasRead}
 use Rattle.adding.specs.AddCode.{counted_text, made_text, own_refusal, Paired, sums_of, room_of}
 use Rattle.adding.proofs.Pairs.{comes_to}
 
@@ -66,7 +66,7 @@ in_front {k = k} l t p h =
     let z : k - 0 ≡ k = omega arith in
     (rw z at w.0, omega (arith, w.1))
 
-module _ {s : List ℕ} {x : Sheet} {t : List ℕ} {y : Sheet} (p : Paired s x t y) where
+module _ {x y : Sheet} (p : Paired x y) where
   abbrev first : Bill
   first = p.both.first.bill
 
@@ -74,22 +74,22 @@ module _ {s : List ℕ} {x : Sheet} {t : List ℕ} {y : Sheet} (p : Paired s x t
   second = p.both.second.bill
 
   fine_first : Fine first
-  fine_first = (sound_is s first p.both.first.sound).1
+  fine_first = (sound_is x.text.now first p.both.first.sound).1
 
   fine_second : Fine second
-  fine_second = (sound_is t second p.both.second.sound).1
+  fine_second = (sound_is y.text.now second p.both.second.sound).1
 
-  sums_merged : (section : Section) → sums_of section s x t y ≡ rows_in section (sum first second)
+  sums_merged : (section : Section) → sums_of section x y ≡ rows_in section (sum first second)
   unfolding sum
   sums_merged section = by section
     where
-      u : Booked s x
+      u : WasRead x
       u = p.both.first
 
-      v : Booked t y
+      v : WasRead y
       v = p.both.second
 
-      by : (section : Section) → sums_of section s x t y ≡ rows_in section (sum first second)
+      by : (section : Section) → sums_of section x y ≡ rows_in section (sum first second)
       by Cores = merged Cores first.sheet.cores second.sheet.cores (u.rows Cores) (v.rows Cores) u.span v.span fine_first.cores_once fine_second.cores_once
       by Processes = merged Processes first.sheet.processes second.sheet.processes (u.rows Processes) (v.rows Processes) u.span v.span fine_first.processes_once fine_second.processes_once
 
@@ -108,10 +108,10 @@ module _ {s : List ℕ} {x : Sheet} {t : List ℕ} {y : Sheet} (p : Paired s x t
   rows_room Cores = core_rows_most first second fine_first fine_second
   rows_room Processes = process_rows_most first second fine_first fine_second
 
-  pub sums_room : (section : Section) → length (rows_text (sums_of section s x t y)) ≤ room_of section
+  pub sums_room : (section : Section) → length (rows_text (sums_of section x y)) ≤ room_of section
   sums_room section = rw (sums_merged section) (rows_room section)
 
-  pub merging : (section : Section) {n : ℕ} → n ≡ room_of section → Merging section s (places_of section x) x.form.span t (places_of section y) y.form.span n
+  pub merging : (section : Section) {n : ℕ} → n ≡ room_of section → Merging section x.text.now (places_of section x) x.form.span y.text.now (places_of section y) y.form.span n
   merging section e = record {
     first = p.both.first.in_order section;
     second = p.both.second.in_order section;
@@ -123,7 +123,7 @@ module _ {s : List ℕ} {x : Sheet} {t : List ℕ} {y : Sheet} (p : Paired s x t
   -- ---- what the merged rows come to
 
   -- k and m count the rows
-  module _ {k m : ℕ} (cores : k ≡ length (sums_of Cores s x t y)) (processes : m ≡ length (sums_of Processes s x t y)) where
+  module _ {k m : ℕ} (cores : k ≡ length (sums_of Cores x y)) (processes : m ≡ length (sums_of Processes x y)) where
     k_is : k ≡ length (sum first second).sheet.cores
     k_is = cores ∙ ap length (sums_merged Cores)
 
@@ -152,14 +152,14 @@ module _ {s : List ℕ} {x : Sheet} {t : List ℕ} {y : Sheet} (p : Paired s x t
     own_is : own_refusal k m (x.form.span + y.form.span) ≡ refusal first second
     own_is = own_by first second k_is m_is spans p.one_scale p.no_clash
 
-    pub sum_refused : (r : Why) (out : List ℕ) → number_of r ≡ own_refusal k m (x.form.span + y.form.span) → summed (Err (number_of r)) out ≡ add_into s t out
+    pub sum_refused : (r : Why) (out : List ℕ) → number_of r ≡ own_refusal k m (x.form.span + y.form.span) → summed (Err (number_of r)) out ≡ add_into x.text.now y.text.now out
     unfolding add_into
     sum_refused r out e =
         refused_as r (sum first second) out ∙ ap (λ r. into_output (total_by r (sum first second)) out) (e ∙ own_is) ∙ ap (λ r. into_output r out) (sym (comes_to p.both))
 
     pub sum_made : (d : Made) (out : List ℕ) → own_refusal k m (x.form.span + y.form.span) ≡ 0 → d.scale ≡ x.form.scale → d.span ≡ x.form.span + y.form.span
-        → d.cores ≡ k → d.core_lines.now ≡ rows_text (sums_of Cores s x t y) → d.processes ≡ m → d.process_lines.now ≡ rows_text (sums_of Processes s x t y)
-        → into_output (Text (made_text d)) out ≡ add_into s t out
+        → d.cores ≡ k → d.core_lines.now ≡ rows_text (sums_of Cores x y) → d.processes ≡ m → d.process_lines.now ≡ rows_text (sums_of Processes x y)
+        → into_output (Text (made_text d)) out ≡ add_into x.text.now y.text.now out
     unfolding add_into
     sum_made d out z e1 e2 e3 e4 e5 e6 =
         ap (λ r. into_output (Text r) out)

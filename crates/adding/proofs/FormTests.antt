@@ -1,14 +1,13 @@
 -- The form of a sheet by its lines: what is told so far, and at each exit that the text may not be added.
 use Rattle.std.proofs.Common.{None, Some, Option}
 use mathlib.Core.Path.{◌≡◌, sym, ap, ◌∙◌}
-use mathlib.Core.Bool.{Bool, true, false}
+use mathlib.Core.Bool.{true, false}
 use mathlib.Core.List.{List, []}
-use Prim.Native.Nat.{ℕ, zero, suc, ◌+◌, ◌-◌, ◌≤◌, ◌<◌}
+use Prim.Native.Nat.{ℕ, ◌+◌, ◌-◌, ◌≤◌, ◌<◌}
 use native.Mathlib.Omega.{arith}
-use lib.Dec.{eqb}
 use lib.ListN.{length, get_or, drop}
 use lib.Seq.{drop-drop, get_or-drop}
-use borrow.Author.Tests.{eqb-true, eqb-false, le-leb, lt-ltb}
+use borrow.Author.Tests.{le-leb}
 use Rattle.text.specs.Pieces.{pieces, ended}
 use Rattle.text.specs.Sizes.{name_limit, core_limit}
 use Rattle.text.proofs.Bools.{clash}
@@ -18,15 +17,11 @@ use Rattle.bill.specs.Reading.{from_processes, at_end}
 use Rattle.shifts.specs.Sound.{sound_sheet}
 use Rattle.adding.specs.declared.form.Form.{Form}
 use Rattle.paper.specs.Lines.{line_from}
-use Rattle.adding.specs.PlaceCode.{lines_most, few_lines, Placed, Lined}
+use Rattle.adding.specs.PlaceCode.{lines_most, few_lines, Placed}
 use Rattle.paper.specs.Heads.{head_of, count_of}
-use Rattle.adding.specs.FormCode.{Begun, Formed, FormedAs}
+use Rattle.adding.specs.FormCode.{Begun, Formed}
 use Rattle.adding.proofs.SheetLines.{line_count, line_is, part_is, end_is}
 use Rattle.adding.proofs.SheetTests.{CountTold, count_told, Passing, not_passing}
-
--- no form
-pub unformed : (text starts : List ℕ) (f : Form) → f.ok ≡ false → sound_sheet text ≡ None → FormedAs f.ok text starts f
-unformed text starts f e s = rw e s
 
 -- ---- the lines
 
@@ -34,19 +29,17 @@ few_lines_lem : (text : List ℕ) → Passing text → few_lines text ≡ true
 unfolding few_lines
 few_lines_lem text p =
     let n = length (ended (pieces 10 text)) in
-    rw (p.rest, lt-ltb 0 n (omega (arith, p.whole)), le-leb n lines_most (omega (arith, p.whole, p.few)))
+    rw (p.rest, le-leb n lines_most (omega (arith, p.whole, p.few)))
 
-pub too_few : (text starts : List ℕ) (n : ℕ) → Lined text starts n → n < 3 → sound_sheet text ≡ None
-too_few text starts zero e h = not_passing text (λ p. clash (few_lines text) (few_lines_lem text p) e)
-too_few text starts (suc n) k h = not_passing text (λ p. omega (arith, p.whole, line_count k))
+pub unlined : (text : List ℕ) → few_lines text ≡ false → sound_sheet text ≡ None
+unlined text e = not_passing text (λ p. clash (few_lines text) (few_lines_lem text p) e)
 
-placed : (text starts : List ℕ) (n : ℕ) → Lined text starts n → 3 ≤ n → Placed text starts n
-placed text starts zero k h = absurd (omega arith)
-placed text starts (suc n) k h = k
+pub too_few : (text starts : List ℕ) (n : ℕ) → Placed text starts n → n < 3 → sound_sheet text ≡ None
+too_few text starts n k h = not_passing text (λ p. omega (arith, p.whole, line_count k))
 
-module _ (text starts : List ℕ) (n : ℕ) (l : Lined text starts n) (h : 3 ≤ n) where
+module _ (text starts : List ℕ) (n : ℕ) (l : Placed text starts n) (h : 3 ≤ n) where
   first_line : get_or (pieces 10 text) 0 [] ≡ line_from text (get_or starts 0 0)
-  first_line = line_is (placed text starts n l h) 0 (omega arith)
+  first_line = line_is l 0 (omega arith)
 
   pub no_head : head_of (line_from text (get_or starts 0 0)) ≡ None → sound_sheet text ≡ None
   no_head e = not_passing text (λ p.
@@ -54,7 +47,7 @@ module _ (text starts : List ℕ) (n : ℕ) (l : Lined text starts n) (h : 3 ≤
       let z : ◌≡◌ {A = ℕ} 0 1 = cc in omega arith)
 
   pub begun : (scale span : ℕ) → head_of (line_from text (get_or starts 0 0)) ≡ Some (scale, span) → Begun text starts n scale span
-  begun scale span e = record { placed = placed text starts n l h; three = h; head = ap head_of first_line ∙ e }
+  begun scale span e = record { placed = l; three = h; head = ap head_of first_line ∙ e }
 
 -- ---- the counts
 
@@ -96,16 +89,16 @@ module _ (text starts : List ℕ) (n scale span : ℕ) (b : Begun text starts n 
         pub processes_told : CountTold (title Processes) (get_or (from_processes (pieces 10 text)) 0 []) (name_limit - k) m
         processes_told = count_told (title Processes) (get_or (from_processes (pieces 10 text)) 0 []) (name_limit - k) m (second (Some m) d)
 
-        abbrev form : Bool → Form
-        form t = record { ok = t; scale = scale; span = span; cores = k; processes = m }
+        abbrev form : Form
+        form = record { scale = scale; span = span; cores = k; processes = m }
 
         from_rows : drop 1 (from_processes (pieces 10 text)) ≡ drop (3 + k) (pieces 10 text)
         from_rows =
             let y : 2 + (k + 1) ≡ 3 + k = omega arith in
             rw (cores_told.count_is, drop-drop 1 k, drop-drop (k + 1) 2, y)
 
-        formed : (t : Bool) → n ≡ 3 + k + m → Formed text starts (form t)
-        formed t s = record {
+        pub formed : n ≡ 3 + k + m → Formed text starts form
+        formed s = record {
           sized = b.placed.sized;
           head = b.head;
           first = first;
@@ -115,6 +108,5 @@ module _ (text starts : List ℕ) (n scale span : ℕ) (b : Begun text starts n 
           process_lines_told = part_is b.placed (3 + k) m (omega arith) ∙ rw (processes_told.count_is, from_rows);
         }
 
-        pub counts_told : (t : Bool) → t ≡ eqb n (3 + k + m) → FormedAs t text starts (form t)
-        counts_told true q = formed true (eqb-true n (3 + k + m) (sym q))
-        counts_told false q = not_passing text (λ p. eqb-false n (3 + k + m) (sym q) (omega (arith, p.whole, line_count b.placed, cores_told.count_is, processes_told.count_is)))
+        pub not_as_told : (n ≡ 3 + k + m → ⊥) → sound_sheet text ≡ None
+        not_as_told q = not_passing text (λ p. q (omega (arith, p.whole, line_count b.placed, cores_told.count_is, processes_told.count_is)))

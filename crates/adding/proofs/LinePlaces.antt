@@ -2,20 +2,20 @@
 use mathlib.Core.Path.{◌≡◌, refl, sym, ap, ◌∙◌}
 use mathlib.Core.Bool.{Bool, true, false, ◌&&◌}
 use mathlib.Core.List.{List, [], ◌∷◌, ◌++◌, map, append-nil, append_assoc, map-append}
-use Prim.Native.Nat.{ℕ, zero, suc, ◌+◌, ◌≤◌, ◌<◌}
+use Prim.Native.Nat.{ℕ, suc, ◌+◌, ◌≤◌, ◌<◌}
 use native.Mathlib.Numerals.{add-one}
 use native.Mathlib.Omega.{arith}
-use lib.Dec.{leb, ltb}
+use lib.Dec.{leb}
 use lib.ListN.{length, take, drop, set, length-drop, length-set, length-append, length-map, drop_of_length-le}
 use lib.Seq.{take-suc-set, length-take-le}
-use borrow.Author.Tests.{le-leb, lt-leb, lt-ltb}
+use borrow.Author.Tests.{le-leb, lt-leb}
 use Rattle.text.specs.Bytes.{find_from}
 use Rattle.text.specs.Pieces.{pieces, ended, unended}
 use Rattle.text.specs.Lists.{is_empty}
 use Rattle.text.proofs.Pieces.{pieces_cut, pieces_one, pieces_some, ended_cons, unended_cons}
 use Rattle.text.proofs.PiecesFrom.{after_found}
 use Rattle.paper.specs.Lines.{line_from}
-use Rattle.adding.specs.PlaceCode.{lines_most, few_lines, Lined}
+use Rattle.adding.specs.PlaceCode.{lines_most, few_lines, Placed}
 
 pub record Placing (text starts : List ℕ) (at n : ℕ) : Type 0 where
   pub here : at ≤ length text
@@ -27,7 +27,7 @@ pub record Placing (text starts : List ℕ) (at n : ℕ) : Type 0 where
 pub placing_start : (text starts : List ℕ) → length starts ≡ lines_most → Placing text starts 0 0
 placing_start text starts h = record { here = omega arith; sized = h; room = omega arith; last = refl; done = refl }
 
-few_is : (text u : List ℕ) (n : ℕ) → unended (pieces 10 text) ≡ u → length (ended (pieces 10 text)) ≡ n → few_lines text ≡ is_empty u && (ltb 0 n && leb n lines_most)
+few_is : (text u : List ℕ) (n : ℕ) → unended (pieces 10 text) ≡ u → length (ended (pieces 10 text)) ≡ n → few_lines text ≡ is_empty u && leb n lines_most
 unfolding few_lines
 few_is text u n p q = rw (p, q)
 
@@ -35,10 +35,9 @@ not_empty : (s : List ℕ) (t : Bool) → 1 ≤ length s → is_empty s && t ≡
 not_empty [] t h = absurd (omega arith)
 not_empty (x ∷ s) t h = refl
 
-too_many : (a b : Bool) (n : ℕ) → lines_most < n → a && (b && leb n lines_most) ≡ false
-too_many false b n h = refl
-too_many true false n h = refl
-too_many true true n h = lt-leb n lines_most h
+too_many : (a : Bool) (n : ℕ) → lines_most < n → a && leb n lines_most ≡ false
+too_many false n h = refl
+too_many true n h = lt-leb n lines_most h
 
 module _ (text starts : List ℕ) (at n : ℕ) (k : Placing text starts at n) where
   -- the lines stored are n
@@ -74,7 +73,7 @@ module _ (text starts : List ℕ) (at n : ℕ) (k : Placing text starts at n) wh
     pub placing_full : n ≡ lines_most → few_lines text ≡ false
     placing_full g =
         few_is text (unended (pieces 10 text)) (length (ended (pieces 10 text))) refl refl
-        ∙ too_many (is_empty (unended (pieces 10 text))) (ltb 0 (length (ended (pieces 10 text)))) (length (ended (pieces 10 text))) (omega (arith, stored, ap length ended_is))
+        ∙ too_many (is_empty (unended (pieces 10 text))) (length (ended (pieces 10 text))) (omega (arith, stored, ap length ended_is))
 
     pub placing_turn : n < lines_most → Placing text (set starts n at) (find_from 10 text at + 1) (n + 1)
     placing_turn g =
@@ -95,15 +94,14 @@ module _ (text starts : List ℕ) (at n : ℕ) (k : Placing text starts at n) wh
     unfolding pieces ended
     done_is = rw (drop_of_length-le text h, append-nil) at k.done
 
-    few_end : few_lines text ≡ ltb 0 n && leb n lines_most
+    few_end : few_lines text ≡ leb n lines_most
     unfolding pieces unended ended
     few_end = few_is text [] n (rw (drop_of_length-le text h) at k.last) (rw (drop_of_length-le text h) at stored ∙ omega arith)
 
-pub placing_end : (text starts : List ℕ) (at n : ℕ) → Placing text starts at n → length text ≤ at → Lined text starts n
-placing_end text starts at zero k h = few_end text starts at zero k h
-placing_end text starts at (suc n) k h = record {
-  few = few_end text starts at (suc n) k h ∙ rw (lt-ltb 0 (suc n) (omega arith)) (le-leb (suc n) lines_most k.room);
+pub placing_end : (text starts : List ℕ) (at n : ℕ) → Placing text starts at n → length text ≤ at → Placed text starts n
+placing_end text starts at n k h = record {
+  few = few_end text starts at n k h ∙ le-leb n lines_most k.room;
   sized = k.sized;
   count = k.room;
-  lines = sym (done_is text starts at (suc n) k h);
+  lines = sym (done_is text starts at n k h);
 }

@@ -34,27 +34,27 @@ by_clash : (a b : Bill) → eqb a.scale b.scale ≡ true → clash a b ≡ true 
 unfolding refusal
 by_clash a b e h = rw (e, h)
 
-module _ {s : List ℕ} {x : Sheet} {t : List ℕ} {y : Sheet} (p : BothRead s x t y) where
+module _ {x y : Sheet} (p : BothRead x y) where
   abbrev a : Bill
   a = p.first.bill
 
   abbrev b : Bill
   b = p.second.bill
 
-  pub comes_to : add_texts s t ≡ total_by (refusal a b) (sum a b)
+  pub comes_to : add_texts x.text.now y.text.now ≡ total_by (refusal a b) (sum a b)
   unfolding add_texts
   comes_to = rw (p.first.sound, p.second.sound)
 
-  clash_is : clash a b ≡ cores_met s x t y || cores_met t y s x
+  clash_is : clash a b ≡ cores_met x y || cores_met y x
   unfolding clash
   clash_is =
       let u = p.first.rows in
       let v = p.second.rows in
       sym (ap₂ ◌||◌
-      (ap₂ meets (in_order s (places_of Cores x) _ (u Cores)) (in_order t (places_of Processes y) _ (v Processes)) ∙ meets_sorted _ _)
-      (ap₂ meets (in_order t (places_of Cores y) _ (v Cores)) (in_order s (places_of Processes x) _ (u Processes)) ∙ meets_sorted _ _))
+      (ap₂ meets (in_order x.text.now (places_of Cores x) _ (u Cores)) (in_order y.text.now (places_of Processes y) _ (v Processes)) ∙ meets_sorted _ _)
+      (ap₂ meets (in_order y.text.now (places_of Cores y) _ (v Cores)) (in_order x.text.now (places_of Processes x) _ (u Processes)) ∙ meets_sorted _ _))
 
-  pub scales_differ : (x.form.scale ≡ y.form.scale → ⊥) → add_texts s t ≡ Refusal 22
+  pub scales_differ : (x.form.scale ≡ y.form.scale → ⊥) → add_texts x.text.now y.text.now ≡ Refusal 22
   scales_differ h =
       let e = ne_eqb a.scale b.scale (λ q. h (p.first.scale ∙ q ∙ sym p.second.scale)) in
       comes_to ∙ ap (λ n. total_by n (sum a b)) (by_scale a b e)
@@ -63,14 +63,14 @@ module _ {s : List ℕ} {x : Sheet} {t : List ℕ} {y : Sheet} (p : BothRead s x
     one_scale : eqb a.scale b.scale ≡ true
     one_scale = eq-eqb a.scale b.scale (sym p.first.scale ∙ e ∙ p.second.scale)
 
-    names_clash : cores_met s x t y || cores_met t y s x ≡ true → add_texts s t ≡ Refusal 23
+    names_clash : cores_met x y || cores_met y x ≡ true → add_texts x.text.now y.text.now ≡ Refusal 23
     names_clash h = comes_to ∙ ap (λ n. total_by n (sum a b)) (by_clash a b one_scale (clash_is ∙ h))
 
-    pub clash_here : {r : Bool} → r ≡ cores_met s x t y → r ≡ true → add_texts s t ≡ Refusal 23
+    pub clash_here : {r : Bool} → r ≡ cores_met x y → r ≡ true → add_texts x.text.now y.text.now ≡ Refusal 23
     clash_here q h = names_clash (rw (sym q ∙ h))
 
-    pub clash_there : {r : Bool} → r ≡ cores_met t y s x → r ≡ true → cores_met s x t y ≡ false → add_texts s t ≡ Refusal 23
+    pub clash_there : {r : Bool} → r ≡ cores_met y x → r ≡ true → cores_met x y ≡ false → add_texts x.text.now y.text.now ≡ Refusal 23
     clash_there q h k = names_clash (rw (k, sym q ∙ h))
 
-    pub paired : cores_met s x t y ≡ false → cores_met t y s x ≡ false → Paired s x t y
+    pub paired : cores_met x y ≡ false → cores_met y x ≡ false → Paired x y
     paired h k = record { both = p; one_scale = one_scale; no_clash = clash_is ∙ rw (h, k) }

@@ -24,13 +24,12 @@ use Rattle.shifts.specs.Sum.{by_name}
 use Rattle.shifts.proofs.Fine.{Fine, is_sound_lem}
 use Rattle.shifts.proofs.Small.{above, small}
 use Rattle.adding.specs.declared.form.Form.{Form}
-use Rattle.adding.specs.declared.sheet.Sheet.{Sheet}
 use Rattle.paper.specs.Lines.{line_from, row_at, name_at}
 use Rattle.paper.specs.Rows.{row_of, core_ok}
 use Rattle.adding.specs.RowCode.{charges_make, sums_right}
 use Rattle.adding.specs.MergeCode.{width, all_small, fine_row, rows_at, InOrder}
 use Rattle.adding.specs.FormCode.{core_places, process_places, Formed, Sized}
-use Rattle.adding.specs.SheetCode.{Ordered, places_of, Booked}
+use Rattle.adding.specs.SheetCode.{Ordered, places_in, Booked}
 use Rattle.adding.proofs.SectionPlaces.{core_count_lem, process_count}
 use Rattle.adding.proofs.SheetTests.{HeadTold, head_told, CountTold, count_told, rows_tests, cores_tests}
 
@@ -163,26 +162,23 @@ module _ {text starts : List ℕ} {f : Form} (k : Formed text starts f) where
 
     -- ---- the sheet, with the places of its rows
 
-    abbrev sheet : Sheet
-    sheet = record { form = f; cores = cores; processes = processes }
-
-    core_order : places_of Cores sheet ≡ sorted_by (name_at text) (core_places starts f)
+    core_order : places_in Cores f cores processes ≡ sorted_by (name_at text) (core_places starts f)
     core_order = let n : f.cores - 0 ≡ length (core_places starts f) = omega (arith, core_count_lem starts f formed_sized) in rw n o.core_order
 
-    process_order : places_of Processes sheet ≡ sorted_by (name_at text) (process_places starts f)
+    process_order : places_in Processes f cores processes ≡ sorted_by (name_at text) (process_places starts f)
     process_order = let n : f.processes - 0 ≡ length (process_places starts f) = omega (arith, process_count starts f formed_sized) in rw n o.process_order
 
-    sheet_rows : (section : Section) → rows_at text (places_of section sheet) ≡ sorted_by by_name (rows_in section (bill_from ls))
+    sheet_rows : (section : Section) → rows_at text (places_in section f cores processes) ≡ sorted_by by_name (rows_in section (bill_from ls))
     unfolding bill_from
-    sheet_rows Cores = rw (← k.core_lines_told) (sorted_rows Cores text (core_places starts f) (places_of Cores sheet) core_order)
-    sheet_rows Processes = rw (← k.process_lines_told) (sorted_rows Processes text (process_places starts f) (places_of Processes sheet) process_order)
+    sheet_rows Cores = rw (← k.core_lines_told) (sorted_rows Cores text (core_places starts f) (places_in Cores f cores processes) core_order)
+    sheet_rows Processes = rw (← k.process_lines_told) (sorted_rows Processes text (process_places starts f) (places_in Processes f cores processes) process_order)
 
-    sheet_in_order : (section : Section) → InOrder section text (places_of section sheet)
+    sheet_in_order : (section : Section) → InOrder section text (places_in section f cores processes)
     unfolding bill_from
-    sheet_in_order Cores = in_order Cores text (core_places starts f) (places_of Cores sheet) core_order (rw k.core_lines_told (fine_rows Cores (core_lines ls) sums.core_rows (small (bill_from ls) fine).0))
-    sheet_in_order Processes = in_order Processes text (process_places starts f) (places_of Processes sheet) process_order (rw k.process_lines_told (fine_rows Processes (process_lines ls) sums.process_rows (small (bill_from ls) fine).1))
+    sheet_in_order Cores = in_order Cores text (core_places starts f) (places_in Cores f cores processes) core_order (rw k.core_lines_told (fine_rows Cores (core_lines ls) sums.core_rows (small (bill_from ls) fine).0))
+    sheet_in_order Processes = in_order Processes text (process_places starts f) (places_in Processes f cores processes) process_order (rw k.process_lines_told (fine_rows Processes (process_lines ls) sums.process_rows (small (bill_from ls) fine).1))
 
-    pub booked : length cores ≡ core_limit → length processes ≡ name_limit → Booked text sheet
+    pub booked : length cores ≡ core_limit → length processes ≡ name_limit → Booked text f cores processes
     unfolding bill_from
     booked h g = record {
       bill = bill_from ls;

@@ -18,7 +18,7 @@ use Rattle.adding.specs.declared.whole.Made.{Made}
 use Rattle.adding.specs.declared.refusal.Refusal.{Refusal as Why}
 use Rattle.adding.specs.Adding.{number_of}
 use Rattle.adding.specs.MergeCode.{rows_at, sum_rows}
-use Rattle.adding.specs.SheetCode.{places_of, Booked}
+use Rattle.adding.specs.SheetCode.{places_of, WasRead}
 
 -- a section's text, with the lines of its rows as they stand
 unfoldable pub counted_text : List ℕ → ℕ → List ℕ → List ℕ
@@ -51,28 +51,28 @@ refused_by (Ok u) = 0
 refused_by (Err r) = number_of r
 
 -- two sheets that were read
-pub record BothRead (s : List ℕ) (x : Sheet) (t : List ℕ) (y : Sheet) : Type 0 where
-  pub first : Booked s x
-  pub second : Booked t y
+pub record BothRead (x y : Sheet) : Type 0 where
+  pub first : WasRead x
+  pub second : WasRead y
 
 -- whether a core of the first is a process of the second
-abbrev pub cores_met : List ℕ → Sheet → List ℕ → Sheet → Bool
-cores_met s x t y = meets (map (name_at s) (places_of Cores x)) (map (name_at t) (places_of Processes y))
+abbrev pub cores_met : Sheet → Sheet → Bool
+cores_met x y = meets (map (name_at x.text.now) (places_of Cores x)) (map (name_at y.text.now) (places_of Processes y))
 
 -- .. of which 22 and 23 don't hold
-pub record Paired (s : List ℕ) (x : Sheet) (t : List ℕ) (y : Sheet) : Type 0 where
-  pub both : BothRead s x t y
+pub record Paired (x y : Sheet) : Type 0 where
+  pub both : BothRead x y
   pub one_scale : eqb both.first.bill.scale both.second.bill.scale ≡ true
   pub no_clash : clash both.first.bill both.second.bill ≡ false
 
 -- .. or the one that does
-abbrev pub Judged : List ℕ → Sheet → List ℕ → Sheet → Result (Unit {0}) Why → Type 0
-Judged s x t y (Ok u) = Paired s x t y
-Judged s x t y (Err r) = add_texts s t ≡ Refusal (number_of r)
+abbrev pub Judged : Sheet → Sheet → Result (Unit {0}) Why → Type 0
+Judged x y (Ok u) = Paired x y
+Judged x y (Err r) = add_texts x.text.now y.text.now ≡ Refusal (number_of r)
 
 -- the rows of a section of their sum
-abbrev pub sums_of : Section → List ℕ → Sheet → List ℕ → Sheet → List Row
-sums_of section s x t y = sum_rows section (rows_at s (places_of section x)) x.form.span (rows_at t (places_of section y)) y.form.span
+abbrev pub sums_of : Section → Sheet → Sheet → List Row
+sums_of section x y = sum_rows section (rows_at x.text.now (places_of section x)) x.form.span (rows_at y.text.now (places_of section y)) y.form.span
 
 -- the room that its rows have
 abbrev pub room_of : Section → ℕ

@@ -1,5 +1,5 @@
 -- FOR THE CODE ALONE: the form of a text by its lines that are no rows, and the places of its rows.
-use Rattle.std.specs.Prelude.{◌≡◌, Bool, true, false, List, [], map, ℕ, ◌+◌, ◌-◌, ◌≤◌, length, get_or, take, drop, Some, None}
+use Rattle.std.specs.Prelude.{◌≡◌, true, List, [], map, ℕ, ◌+◌, ◌-◌, ◌≤◌, length, get_or, take, drop, Some, None, Option}
 use Rattle.text.specs.Pieces.{pieces}
 use Rattle.text.specs.Sizes.{max_time, name_limit, core_limit}
 use Rattle.bill.specs.declared.section.Section.TheVariants.{Cores, Processes}
@@ -34,9 +34,10 @@ pub record Formed (text starts : List ℕ) (f : Form) : Type 0 where
   pub core_lines_told : map (line_from text) (core_places starts f) ≡ core_lines (pieces 10 text)
   pub process_lines_told : map (line_from text) (process_places starts f) ≡ process_lines (pieces 10 text)
 
-abbrev pub FormedAs : Bool → List ℕ → List ℕ → Form → Type 0
-FormedAs true text starts f = Formed text starts f
-FormedAs false text starts f = sound_sheet text ≡ None
+-- .. or the text may not be added
+abbrev pub FormedAs : List ℕ → List ℕ → Option Form → Type 0
+FormedAs text starts (Some f) = Formed text starts f
+FormedAs text starts None = sound_sheet text ≡ None
 
 -- the places of both sections are there, and the span is one
 pub record Sized (starts : List ℕ) (f : Form) : Type 0 where

@@ -1,5 +1,5 @@
 -- FOR THE CODE ALONE: the places where the lines of a text begin.
-use Rattle.std.specs.Prelude.{◌≡◌, Bool, true, false, ◌&&◌, List, map, ℕ, zero, suc, ◌+◌, ◌≤◌, leb, ltb, length, take}
+use Rattle.std.specs.Prelude.{◌≡◌, Bool, true, false, ◌&&◌, List, map, ℕ, ◌+◌, ◌≤◌, leb, length, take, Some, None, Option}
 use Rattle.text.specs.Pieces.{pieces, ended, unended}
 use Rattle.text.specs.Lists.{is_empty}
 use Rattle.text.specs.Sizes.{name_limit}
@@ -9,10 +9,9 @@ use Rattle.paper.specs.Lines.{line_from}
 abbrev pub lines_most : ℕ
 lines_most = name_limit + 3
 
--- every line has its end, and there are from 1 to that many
+-- every line has its end, and there are at most that many
 unfoldable pub few_lines : List ℕ → Bool
-few_lines text =
-    is_empty (unended (pieces 10 text)) && (ltb 0 (length (ended (pieces 10 text))) && leb (length (ended (pieces 10 text))) lines_most)
+few_lines text = is_empty (unended (pieces 10 text)) && leb (length (ended (pieces 10 text))) lines_most
 
 -- the places of the lines, in the first n entries
 pub record Placed (text starts : List ℕ) (n : ℕ) : Type 0 where
@@ -21,6 +20,6 @@ pub record Placed (text starts : List ℕ) (n : ℕ) : Type 0 where
   pub count : n ≤ lines_most
   pub lines : map (line_from text) (take n starts) ≡ ended (pieces 10 text)
 
-abbrev pub Lined : List ℕ → List ℕ → ℕ → Type 0
-Lined text starts zero = few_lines text ≡ false
-Lined text starts (suc n) = Placed text starts (suc n)
+abbrev pub Lined : List ℕ → List ℕ → Option ℕ → Type 0
+Lined text starts (Some n) = Placed text starts n
+Lined text starts None = few_lines text ≡ false

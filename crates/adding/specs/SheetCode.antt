@@ -1,5 +1,5 @@
 -- FOR THE CODE ALONE: a text read as a sheet that may be added, and the places of its rows.
-use Rattle.std.specs.Prelude.{◌≡◌, Bool, true, false, ◌||◌, List, map, ℕ, ◌-◌, ◌≤◌, length, take, None, Some}
+use Rattle.std.specs.Prelude.{◌≡◌, Bool, true, false, ◌||◌, List, map, ℕ, ◌-◌, ◌≤◌, length, take, None, Some, Option}
 use Rattle.text.specs.Sizes.{name_limit, core_limit}
 use Rattle.bill.specs.declared.section.Section.{Section}
 use Rattle.bill.specs.declared.section.Section.TheVariants.{Cores, Processes}
@@ -48,27 +48,40 @@ pub record RowsRight (text cs ps : List ℕ) (span : ℕ) (cores processes : Lis
 -- ---- the whole
 
 -- the places of a section's rows, as a part from 0 on is told
-abbrev pub places_of : Section → Sheet → List ℕ
-places_of Cores x = take (x.form.cores - 0) x.cores
-places_of Processes x = take (x.form.processes - 0) x.processes
+abbrev pub places_in : Section → Form → List ℕ → List ℕ → List ℕ
+places_in Cores f cores processes = take (f.cores - 0) cores
+places_in Processes f cores processes = take (f.processes - 0) processes
 
--- the sheet of a text, with the places of its rows in the order of their names
-pub record Booked (text : List ℕ) (x : Sheet) : Type 0 where
+abbrev pub places_of : Section → Sheet → List ℕ
+places_of section x = places_in section x.form x.cores x.processes
+
+-- the form of a text that may be added, with the places of its rows in the order of their names
+pub record Booked (text : List ℕ) (f : Form) (cores processes : List ℕ) : Type 0 where
   pub bill : Bill
   pub sound : sound_sheet text ≡ Some bill
-  pub scale : x.form.scale ≡ bill.scale
-  pub span : x.form.span ≡ bill.sheet.span
-  pub cores_fit : x.form.cores ≤ length x.cores
-  pub processes_fit : x.form.processes ≤ length x.processes
-  pub rows : (section : Section) → rows_at text (places_of section x) ≡ sorted_by by_name (rows_in section bill)
-  pub in_order : (section : Section) → InOrder section text (places_of section x)
+  pub scale : f.scale ≡ bill.scale
+  pub span : f.span ≡ bill.sheet.span
+  pub cores_fit : f.cores ≤ length cores
+  pub processes_fit : f.processes ≤ length processes
+  pub rows : (section : Section) → rows_at text (places_in section f cores processes) ≡ sorted_by by_name (rows_in section bill)
+  pub in_order : (section : Section) → InOrder section text (places_in section f cores processes)
 
-abbrev pub ReadAs : Bool → List ℕ → Sheet → Type 0
-ReadAs true text x = Booked text x
-ReadAs false text x = sound_sheet text ≡ None
+-- .. or the text may not be added
+abbrev pub BookedAs : List ℕ → List ℕ → List ℕ → Option Form → Type 0
+BookedAs text cores processes (Some f) = Booked text f cores processes
+BookedAs text cores processes None = sound_sheet text ≡ None
 
 -- what is read, and that the entries are as many as they were
-pub record Read (text cores processes : List ℕ) (f : Form) : Type 0 where
+pub record Read (text cores processes : List ℕ) (r : Option Form) : Type 0 where
   pub cores_sized : length cores ≡ core_limit
   pub processes_sized : length processes ≡ name_limit
-  pub told : ReadAs f.ok text (record { form = f; cores = cores; processes = processes })
+  pub told : BookedAs text cores processes r
+
+-- a sheet that was read, of its own text
+abbrev pub WasRead : Sheet → Type 0
+WasRead x = Booked x.text.now x.form x.cores x.processes
+
+-- .. which is this one
+abbrev pub ReadAs : List ℕ → Option Sheet → Type 0
+ReadAs text (Some x) = (x.text.now ≡ text) × WasRead x
+ReadAs text None = sound_sheet text ≡ None

@@ -26,14 +26,14 @@ fn own_refusal(cores: usize, processes: usize, span: u64) -> Result<(), Refusal>
 }
 
 // The sum of two sheets in one scale, where no name is a core in one and a process in the other.
-fn add_rows(a: &[u8], x: &Sheet, b: &[u8], y: &Sheet, out: &mut [u8]) -> Result<usize, Refusal>
-    requires { Paired a.now x.now b.now y.now }
-    ensures { told_as result out.new ≡ add_into a.now b.now out.old }
+fn add_rows(x: &Sheet, y: &Sheet, out: &mut [u8]) -> Result<usize, Refusal>
+    requires { Paired x.now y.now }
+    ensures { told_as result out.new ≡ add_into x.now.text.now y.now.text.now out.old }
 {
     let mut core_lines = [0u8; CORE_ROWS_MOST];
-    let cores = put_section_rows(Section::Cores, a, x, b, y, &mut core_lines);
+    let cores = put_section_rows(Section::Cores, x, y, &mut core_lines);
     let mut process_lines = [0u8; PROCESS_ROWS_MOST];
-    let processes = put_section_rows(Section::Processes, a, x, b, y, &mut process_lines);
+    let processes = put_section_rows(Section::Processes, x, y, &mut process_lines);
     let span = x.form.span + y.form.span;
     own_refusal(cores.count, processes.count, span)?;
     let made = Made {
@@ -48,47 +48,46 @@ fn add_rows(a: &[u8], x: &Sheet, b: &[u8], y: &Sheet, out: &mut [u8]) -> Result<
 }
 
 // Whether a core of the first sheet is a process of the second.
-fn cores_met(a: &[u8], x: &Sheet, b: &[u8], y: &Sheet) -> bool
-    requires { BothRead a.now x.now b.now y.now }
-    ensures { result ≡ cores_met a.now x.now b.now y.now }
+fn cores_met(x: &Sheet, y: &Sheet) -> bool
+    requires { BothRead x.now y.now }
+    ensures { result ≡ cores_met x.now y.now }
 {
-    meet(a, x.places(Section::Cores), b, y.places(Section::Processes))
+    meet(
+        x.text,
+        x.places(Section::Cores),
+        y.text,
+        y.places(Section::Processes),
+    )
 }
 
 // 22 or 23 of two sheets that may be added.
-fn pair_refusal(a: &[u8], x: &Sheet, b: &[u8], y: &Sheet) -> Result<(), Refusal>
-    requires { BothRead a.now x.now b.now y.now }
-    ensures { Judged a.now x.now b.now y.now result }
+fn pair_refusal(x: &Sheet, y: &Sheet) -> Result<(), Refusal>
+    requires { BothRead x.now y.now }
+    ensures { Judged x.now y.now result }
 {
     if x.form.scale != y.form.scale {
         return Err(Refusal::Scales);
     }
-    if cores_met(a, x, b, y) || cores_met(b, y, a, x) {
+    if cores_met(x, y) || cores_met(y, x) {
         return Err(Refusal::Names);
     }
     Ok(())
 }
 
 // The sum of two sheets that may be added.
-fn add_read(a: &[u8], x: &Sheet, b: &[u8], y: &Sheet, out: &mut [u8]) -> Result<usize, Refusal>
-    requires { BothRead a.now x.now b.now y.now }
-    ensures { told_as result out.new ≡ add_into a.now b.now out.old }
+fn add_read(x: &Sheet, y: &Sheet, out: &mut [u8]) -> Result<usize, Refusal>
+    requires { BothRead x.now y.now }
+    ensures { told_as result out.new ≡ add_into x.now.text.now y.now.text.now out.old }
 {
-    pair_refusal(a, x, b, y)?;
-    add_rows(a, x, b, y, out)
+    pair_refusal(x, y)?;
+    add_rows(x, y, out)
 }
 
 // Puts the sum of the two texts at the front of out, and tells how many bytes it takes; the rest of out stays as it is, and all of it where the sum is refused.
 pub fn add(a: &[u8], b: &[u8], out: &mut [u8]) -> Result<usize, Refusal>
     ensures { told_as result out.new ≡ add_into a.now b.now out.old }
 {
-    let x = read_sheet(a);
-    if !x.form.ok {
-        return Err(Refusal::Malformed);
-    }
-    let y = read_sheet(b);
-    if !y.form.ok {
-        return Err(Refusal::Malformed);
-    }
-    add_read(a, &x, b, &y, out)
+    let x = read_sheet(a).ok_or(Refusal::Malformed)?;
+    let y = read_sheet(b).ok_or(Refusal::Malformed)?;
+    add_read(&x, &y, out)
 }

@@ -14,6 +14,7 @@ pub(crate) fn meet(s: &[u8], left: &[u32], t: &[u8], right: &[u32]) -> bool
 {
     let mut i = 0;
     let mut j = 0;
+    // not a `for`: a turn goes on in one section or in the other, by what is found there
     while i < left.len() && j < right.len() {
         match compare(name_at(s, left[i]), name_at(t, right[j])) {
             Ordering::Less => i += 1,

@@ -13,14 +13,14 @@ use sorting::order::compare;
 use std::cmp::Ordering;
 
 // How many rows there are, and where the output goes on behind them.
-#[derive(Clone, Copy)]
+#[derive(Clone, Copy, Debug, PartialEq, Eq)]
 pub(crate) struct Merged {
     pub count: usize,
     pub next: usize,
 }
 
 // A section of one sheet: its text, the places of the rows in the order of their names, and the sheet's span.
-#[derive(Clone, Copy)]
+#[derive(Clone, Copy, Debug, PartialEq, Eq)]
 pub(crate) struct Side<'a> {
     pub text: &'a [u8],
     pub places: &'a [u32],
@@ -90,6 +90,7 @@ pub(crate) fn put_sums(section: Section, left: &Side, right: &Side, out: &mut [u
     let mut j = 0;
     let mut count = 0;
     let mut at = 0;
+    // not a `for`: how many turns there are is known once the names are compared, since a turn goes on in one section or in both
     while i + j < left.places.len() + right.places.len() {
         let o = next_of(left, i, right, j);
         at = put_next(section, left, i, right, j, o, out, at);

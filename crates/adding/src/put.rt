@@ -10,7 +10,7 @@ use paper::line::{amount, line_at};
 use text::put::put_bytes;
 
 // The figures of a row: held, idle and unknown of a core, the charge of a process and nothing more.
-#[derive(Clone, Copy)]
+#[derive(Clone, Copy, Debug, PartialEq, Eq)]
 pub(crate) struct Figures {
     pub first: u64,
     pub second: u64,

@@ -13,10 +13,8 @@ fn all_held(text: &[u8], places: &[u32], span: u64) -> Option<u64>
     ensures { result ≡ all_held span (map (line_from text.now) places.now) }
 {
     let mut total: u64 = 0;
-    let mut i = 0;
-    while i < places.len() {
-        total += held_in(line_at(text, places[i] as usize), span)?;
-        i += 1;
+    for &p in places {
+        total += held_in(line_at(text, p as usize), span)?;
     }
     Some(total)
 }
@@ -26,14 +24,11 @@ fn charges_make(text: &[u8], places: &[u32], held: u64) -> bool
     ensures { result ≡ charges_make held (map (line_from text.now) places.now) }
 {
     let mut left = held;
-    let mut i = 0;
-    while i < places.len() {
-        let charge = charge_in(line_at(text, places[i] as usize), left);
-        let Some(c) = charge else {
+    for &p in places {
+        let Some(charge) = charge_in(line_at(text, p as usize), left) else {
             return false;
         };
-        left -= c;
-        i += 1;
+        left -= charge;
     }
     left == 0
 }
@@ -43,8 +38,7 @@ pub(crate) fn sums_right(text: &[u8], cores: &[u32], processes: &[u32], span: u6
     requires { (length cores.now ≤ core_limit) × (span ≤ max_time) }
     ensures { result ≡ sums_right span (map (line_from text.now) cores.now) (map (line_from text.now) processes.now) }
 {
-    let held = all_held(text, cores, span);
-    let Some(total) = held else {
+    let Some(total) = all_held(text, cores, span) else {
         return false;
     };
     charges_make(text, processes, total)

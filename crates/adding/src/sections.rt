@@ -4,7 +4,7 @@ ghost use Rattle.text.specs.Put.{put, after};
 ghost use Rattle.bill.specs.Text.{rows_text};
 ghost use Rattle.adding.specs.AddCode.{Paired, sums_of, room_of};
 
-use crate::merge::{Merged, Side, put_sums};
+use crate::merge::{Merged, put_sums};
 use crate::sheet::Sheet;
 use bill::section::Section;
 
@@ -14,27 +14,12 @@ pub(crate) const CORE_ROWS_MOST: usize = 16384;
 pub(crate) const PROCESS_ROWS_MOST: usize = 44032;
 
 // Puts the rows of a section.
-pub(crate) fn put_section_rows(
-    section: Section,
-    a: &[u8],
-    x: &Sheet,
-    b: &[u8],
-    y: &Sheet,
-    out: &mut [u8],
-) -> Merged
-    requires { Paired a.now x.now b.now y.now × (length out.old ≡ room_of section) }
-    ensures { (result.count ≡ length (sums_of section a.now x.now b.now y.now))
-        × (after result.next out.new ≡ put out.old 0 (rows_text (sums_of section a.now x.now b.now y.now))) }
+pub(crate) fn put_section_rows(section: Section, x: &Sheet, y: &Sheet, out: &mut [u8]) -> Merged
+    requires { Paired x.now y.now × (length out.old ≡ room_of section) }
+    ensures { (result.count ≡ length (sums_of section x.now y.now))
+        × (after result.next out.new ≡ put out.old 0 (rows_text (sums_of section x.now y.now))) }
 {
-    let left = Side {
-        text: a,
-        places: x.places(section),
-        span: x.form.span,
-    };
-    let right = Side {
-        text: b,
-        places: y.places(section),
-        span: y.form.span,
-    };
+    let left = x.side(section);
+    let right = y.side(section);
     put_sums(section, &left, &right, out)
 }

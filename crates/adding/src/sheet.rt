@@ -5,7 +5,8 @@ ghost use Rattle.adding.specs.FormCode.{core_places, process_places, Sized};
 ghost use Rattle.adding.specs.SheetCode.{places_of, NamesOnce, RowsRight, ReadAs, Read};
 
 use crate::apart::meet;
-use crate::form::{Form, no_form, read_form};
+use crate::form::{Form, read_form};
+use crate::merge::Side;
 use crate::places::LINES_MOST;
 use crate::rows::sums_right;
 use crate::sort::sort;
@@ -20,15 +21,16 @@ pub(crate) const CORES_MOST: usize = CORE_LIMIT as usize;
 
 pub(crate) const NAMES_MOST: usize = NAME_LIMIT as usize;
 
-// The form, and the places in the first entries.
+// The text, its form, and the places in the first entries.
 #[derive(Clone, Copy)]
-pub(crate) struct Sheet {
+pub(crate) struct Sheet<'a> {
+    pub text: &'a [u8],
     pub form: Form,
     pub cores: [u32; CORES_MOST],
     pub processes: [u32; NAMES_MOST],
 }
 
-impl Sheet {
+impl Sheet<'_> {
     // The places of a section's rows, in the order of their names.
     pub(crate) fn places(&self, section: Section) -> &[u32]
         requires { (self.now.form.cores ≤ core_limit) × (self.now.form.processes ≤ name_limit) }
@@ -37,6 +39,18 @@ impl Sheet {
         match section {
             Section::Cores => &self.cores[0..self.form.cores],
             Section::Processes => &self.processes[0..self.form.processes],
+        }
+    }
+
+    // A section with its text and the span.
+    pub(crate) fn side(&self, section: Section) -> Side<'_>
+        requires { (self.now.form.cores ≤ core_limit) × (self.now.form.processes ≤ name_limit) }
+        ensures { (result.text.now ≡ self.now.text.now) × (result.places.now ≡ places_of section self.now) × (result.span ≡ self.now.form.span) }
+    {
+        Side {
+            text: self.text,
+            places: self.places(section),
+            span: self.form.span,
         }
     }
 }
@@ -80,34 +94,32 @@ fn rows_right(
 }
 
 // Reads the text, and stores the places of its rows.
-fn read_places(text: &[u8], cores: &mut [u32], processes: &mut [u32]) -> Form
+fn read_places(text: &[u8], cores: &mut [u32], processes: &mut [u32]) -> Option<Form>
     requires { (length cores.old ≡ core_limit) × (length processes.old ≡ name_limit) }
     ensures { Read text.now cores.new processes.new result }
 {
     if SHEET_MOST < text.len() {
-        return no_form();
+        return None;
     }
     let mut starts = [0u32; LINES_MOST];
-    let form = read_form(text, &mut starts);
-    if !form.ok {
-        return no_form();
-    }
+    let form = read_form(text, &mut starts)?;
     if !rows_right(text, &starts, form, cores, processes) {
-        return no_form();
+        return None;
     }
-    form
+    Some(form)
 }
 
-// Reads the text.
-pub(crate) fn read_sheet(text: &[u8]) -> Sheet
-    ensures { ReadAs result.form.ok text.now result }
+// Reads the text; nothing where it may not be added.
+pub(crate) fn read_sheet(text: &[u8]) -> Option<Sheet<'_>>
+    ensures { ReadAs text.now result }
 {
     let mut cores = [0u32; CORES_MOST];
     let mut processes = [0u32; NAMES_MOST];
-    let form = read_places(text, &mut cores, &mut processes);
-    Sheet {
+    let form = read_places(text, &mut cores, &mut processes)?;
+    Some(Sheet {
+        text,
         form,
         cores,
         processes,
-    }
+    })
 }

@@ -7,6 +7,5 @@ use crate::sheet::read_sheet;
 pub fn sound(text: &[u8]) -> bool
     ensures { result ≡ is_sound text.now }
 {
-    let x = read_sheet(text);
-    x.form.ok
+    read_sheet(text).is_some()
 }

@@ -31,7 +31,7 @@ fn put_section(section: Section, count: usize, rows: &[u8], out: &mut [u8], at: 
 }
 
 // A bill with the lines of its rows as they stand.
-#[derive(Clone, Copy)]
+#[derive(Clone, Copy, Debug, PartialEq, Eq)]
 pub(crate) struct Made<'a> {
     pub scale: u32,
     pub span: u64,

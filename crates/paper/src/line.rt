@@ -28,34 +28,22 @@ pub(crate) fn word(line: &[u8], k: usize) -> &[u8]
 {
     let n = line.len();
     let mut at = 0;
-    let mut i = 0;
-    while i < k {
+    for _ in 0..k {
         let e = find(line, 32, at);
         if n <= e {
             return &line[0..0];
         }
         at = e + 1;
-        i += 1;
     }
     let e = find(line, 32, at);
     &line[at..e]
 }
 
-// How many words a line has.
+// How many words a line has: one more than the blanks between them.
 pub(crate) fn word_count(line: &[u8]) -> usize
     ensures { result ≡ length (pieces 32 line.now) }
 {
-    let n = line.len();
-    let mut at = 0;
-    let mut k = 1;
-    loop {
-        let e = find(line, 32, at);
-        if n <= e {
-            return k;
-        }
-        at = e + 1;
-        k += 1;
-    }
+    line.iter().filter(|b| **b == b' ').count() + 1
 }
 
 // Word k as a figure of at most max.

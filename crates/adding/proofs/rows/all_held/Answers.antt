@@ -7,30 +7,29 @@ use Rattle.paper.proofs.RowTests.{held_small}
 use Rattle.adding.proofs.RowWalks.{held_with, held_start, held_bad, held_turn, held_end, rows_next}
 use Rattle.adding.proofs.rows.all_held.Goals as goal
 
-pub loop-i-init : goal.loop-i-init
-loop-i-init c = (omega arith, omega arith, held_start _ _)
+pub loop-p-init : goal.loop-p-init
+loop-p-init c = (omega arith, held_start _ _)
 
 pub returns-in_err-total : goal.returns-in_err-total
 returns-in_err-total c =
     c.from_residual.ensures
     ∙ sym
-    (c.loop-i.invariant.2
-    ∙ ap (held_with c.args.span c.loop-i.total) (rows_next _ _ _ c.loop-i-test.true)
-    ∙ held_bad _ _ _ _ (ap (core_held c.args.span) (sym c.line_at.ensures) ∙ sym c.held_in.ensures ∙ c.in_err-total.was))
+    (c.loop-p.invariant.1
+    ∙ ap (held_with c.args.span c.loop-p.total) (rows_next _ _ _ c.loop-p-test.true)
+    ∙ held_bad _ _ _ _ (ap (core_held c.args.span) (sym c.line_at.ensures) ∙ sym c.in_err-total.ensures))
 
 pub overflow_add-total : goal.overflow_add-total
 overflow_add-total c =
-    let s : c.in_ok-total.field-0 ≤ c.args.span = held_small _ _ _ (sym c.held_in.ensures ∙ c.in_ok-total.was) in search rules
+    let s : c.in_ok-total.field-0 ≤ c.args.span = held_small _ _ _ (sym c.in_ok-total.ensures) in search rules
 
-pub loop-i-preserved : goal.loop-i-preserved
-loop-i-preserved c =
-    let s : c.in_ok-total.field-0 ≤ c.args.span = held_small _ _ _ (sym c.held_in.ensures ∙ c.in_ok-total.was) in (
+pub loop-p-preserved : goal.loop-p-preserved
+loop-p-preserved c =
+    let s : c.in_ok-total.field-0 ≤ c.args.span = held_small _ _ _ (sym c.in_ok-total.ensures) in (
       omega arith,
-      omega arith,
-      c.loop-i.invariant.2
-          ∙ ap (held_with c.args.span c.loop-i.total) (rows_next _ _ _ c.loop-i-test.true)
-          ∙ held_turn _ _ _ _ _ (ap (core_held c.args.span) (sym c.line_at.ensures) ∙ sym c.held_in.ensures ∙ c.in_ok-total.was),
+      c.loop-p.invariant.1
+          ∙ ap (held_with c.args.span c.loop-p.total) (rows_next _ _ _ c.loop-p-test.true)
+          ∙ held_turn _ _ _ _ _ (ap (core_held c.args.span) (sym c.line_at.ensures) ∙ sym c.in_ok-total.ensures),
     )
 
 pub returns : goal.returns
-returns c = sym (c.loop-i.invariant.2 ∙ held_end _ _ _ _ _ c.loop-i-test.false)
+returns c = sym (c.loop-p.invariant.1 ∙ held_end _ _ _ _ _ c.loop-p-test.false)

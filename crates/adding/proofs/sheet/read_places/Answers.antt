@@ -1,23 +1,22 @@
 -- `adding::sheet::read_places` meets its contract: at each exit the text is none that may be added, or all is found of one that may.
 use borrow.Author.Rules.{rules}
-use Rattle.adding.proofs.SheetExits.{too_long, unread, sheet_sized, rows_wrong, sheet_read}
+use Rattle.adding.proofs.Sheets.{formed_sized}
+use Rattle.adding.proofs.SheetExits.{too_long, unread, rows_wrong, sheet_read}
 use Rattle.adding.proofs.sheet.read_places.Goals as goal
 
 pub returns-then-text-gt-SHEET_MOST : goal.returns-then-text-gt-SHEET_MOST
-returns-then-text-gt-SHEET_MOST c = unread _ _ _ _ (search rules) (search rules) c.no_form.ensures (too_long _ c.if-text-gt-SHEET_MOST.true)
+returns-then-text-gt-SHEET_MOST c = unread _ _ _ (search rules) (search rules) (too_long _ c.if-text-gt-SHEET_MOST.true)
+
+pub returns-in_err-form : goal.returns-in_err-form
+returns-in_err-form c = rw c.from_residual.ensures (unread _ _ _ (search rules) (search rules) c.in_err-form.ensures)
 
 pub rows_right-requires : goal.rows_right-requires
-rows_right-requires c =
-    let r = c.read_form-form in
-    (sheet_sized _ _ r.result r.ensures c.if-not-form.false, search rules, search rules)
+rows_right-requires c = (formed_sized c.in_ok-form.ensures, search rules, search rules)
 
 pub returns-then-not-rows_right : goal.returns-then-not-rows_right
 returns-then-not-rows_right c =
-    let r = c.read_form-form in
     let s = c.rows_right.ensures in
-    unread _ _ _ _ s.cores_sized s.processes_sized c.no_form-then-not-rows_right.ensures (rows_wrong _ _ r.result r.ensures c.if-not-form.false _ _ c.rows_right.result s (rw c.if-not-rows_right.true))
+    unread _ _ _ s.cores_sized s.processes_sized (rows_wrong _ _ _ c.in_ok-form.ensures _ _ c.rows_right.result s (rw c.if-not-rows_right.true))
 
 pub returns : goal.returns
-returns c =
-    let r = c.read_form-form in
-    sheet_read _ _ r.result r.ensures c.if-not-form.false _ _ c.rows_right.result c.rows_right.ensures (rw c.if-not-rows_right.false)
+returns c = sheet_read _ _ _ c.in_ok-form.ensures _ _ c.rows_right.result c.rows_right.ensures (rw c.if-not-rows_right.false)

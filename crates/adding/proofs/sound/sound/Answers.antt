@@ -1,6 +1,7 @@
 -- `adding::sound::sound` meets its contract: it answers what the reading says.
+use mathlib.Core.Path.{◌∙◌}
 use Rattle.adding.proofs.Sounds.{sound_told}
 use Rattle.adding.proofs.sound.sound.Goals as goal
 
 pub returns : goal.returns
-returns c = sound_told _ _ _ c.read_sheet-x.ensures
+returns c = c.is_some.ensures ∙ sound_told _ _ c.read_sheet.ensures

@@ -1,11 +1,8 @@
--- `paper::line::word` meets its contract. The invariant: `i` words stand before the index `at`.
-use Prim.Native.Nat.{◌≤◌, ◌-◌}
+-- `paper::line::word` meets its contract. The invariant: as many words as were passed stand before the index `at`.
+use Prim.Native.Nat.{◌≤◌}
 use lib.ListN.{length}
 use Rattle.text.proofs.PiecesFrom.{From}
 use Rattle.paper.proofs.line.word.Given as goal
 
-abbrev pub invariant-loop-i : goal.invariant-loop-i
-invariant-loop-i l = (l.i ≤ l.k) × (l.at ≤ length l.line) × From 32 l.line l.i l.at
-
-abbrev pub decreases-loop-i : goal.decreases-loop-i
-decreases-loop-i l = l.k - l.i
+abbrev pub invariant-loop : goal.invariant-loop
+invariant-loop l = (l.at ≤ length l.line) × From 32 l.line l.counter l.at
