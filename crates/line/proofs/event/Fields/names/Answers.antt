@@ -1,6 +1,6 @@
--- `line::event::names` meets its contract: its tests are the definition's.
+-- `line::event::Fields::names` meets its contract: its tests are the definition's.
 use Rattle.line.specs.Event.{has_names}
-use Rattle.line.proofs.event.names.Goals as goal
+use Rattle.line.proofs.event.Fields.names.Goals as goal
 
 pub returns : goal.returns
 unfolding has_names

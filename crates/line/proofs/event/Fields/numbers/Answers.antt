@@ -1,9 +1,9 @@
--- `line::event::read_numbers` meets its contract: the numbers are read in turn, and the first that is none decides. An instance is at most
+-- `line::event::Fields::numbers` meets its contract: the numbers are read in turn, and the first that is none decides. An instance is at most
 -- the greatest one, so that the cast keeps it.
 use Rattle.std.proofs.Common.{sym, ◌∙◌, arith}
 use Rattle.text.proofs.Digits.{read_written}
 use Rattle.line.specs.Event.{numbers_of}
-use Rattle.line.proofs.event.read_numbers.Goals as goal
+use Rattle.line.proofs.event.Fields.numbers.Goals as goal
 
 pub returns-in_err-time : goal.returns-in_err-time
 unfolding numbers_of

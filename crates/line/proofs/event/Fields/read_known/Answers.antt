@@ -1,6 +1,6 @@
--- `line::event::read_known` meets its contract: the note's form, then the rules.
+-- `line::event::Fields::read_known` meets its contract: the note's form, then the rules.
 use Rattle.line.specs.Event.{known_reading}
-use Rattle.line.proofs.event.read_known.Goals as goal
+use Rattle.line.proofs.event.Fields.read_known.Goals as goal
 
 pub returns-in_default : goal.returns-in_default
 unfolding known_reading
