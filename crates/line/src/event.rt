@@ -57,6 +57,7 @@ struct Fields<'a> {
     ghost plain_bytes: { plain ≡ true → PlainFields source.now target.now note.now },
 }
 
+#[tactic(auto, unfolding(crate::specs::Event::has_names, crate::specs::Event::numbers_of, crate::specs::Event::known_reading, crate::specs::Event::fields_reading))]
 impl<'a> Fields<'a> {
     // Whether source and target are names, and so is the note where there is one.
     fn names(self) -> bool
@@ -124,6 +125,7 @@ impl<'a> Fields<'a> {
 }
 
 // The part of a line after one comma and before another.
+#[tactic(auto, unfolding(fields::specs::Part::part_from))]
 fn part(line: &[u8], a: usize, b: usize) -> &[u8]
     requires { (a < b) × (b ≤ length line.now) }
     ensures { result.now ≡ part_from line.now (suc a) b }
