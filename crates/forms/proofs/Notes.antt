@@ -1,7 +1,7 @@
 -- Laws of notes: where a value's dot stands, what its first byte says, and that an empty note is no note.
 use Rattle.std.proofs.Common.{Some}
 use mathlib.Core.Path.{◌≡◌, refl}
-use mathlib.Core.Bool.{false, ◌&&◌}
+use mathlib.Core.Bool.{◌&&◌}
 use mathlib.Core.List.{List, [], ◌∷◌}
 use Prim.Native.Nat.{ℕ, ◌+◌, ◌-◌, ◌≤◌, ◌<◌}
 use native.Mathlib.Nat.{suc-ne-zero, zero-add, sub-zero}
@@ -30,8 +30,8 @@ at_dot s dot e h = let d = first_dot s dot e in rw (← d, lt-leb (length s) dot
 
 -- ---- the first byte
 
-pub empty_signal : (s : List ℕ) → length s ≡ 0 → is_signal s ≡ false
-unfolding is_signal
+pub empty_signal : (s : List ℕ) → length s ≡ 0 → is_decimal s ≡ is_signal s
+unfolding is_signal is_decimal are_digits to_byte
 empty_signal [] e = refl
 empty_signal (x ∷ s) e = absurd (suc-ne-zero _ e)
 
@@ -52,7 +52,7 @@ unfolding note_of
 empty_note k [] e = refl
 empty_note k (x ∷ s) e = absurd (suc-ne-zero _ e)
 
-pub some_note : (k : Kind) (s : List ℕ) → (length s ≡ 0 → ⊥) → note_at k s ≡ note_of k s
+pub some_note : (k : Kind) (s : List ℕ) → (length s ≡ 0 → ⊥) → note_of k s ≡ note_at k s
 unfolding note_of
 some_note k [] n = absurd (n refl)
 some_note k (x ∷ s) n = refl

@@ -1,4 +1,6 @@
 // What a note means: a semaphore's count, a signal's value.
+#![tactic(auto, unfolding(crate::specs::Note::signal_note))]
+
 ghost use Rattle.std.specs.Prelude.{◌≡◌};
 ghost use Rattle.forms.specs.Note.{note_of, count_note, signal_note, is_decimal, is_signal};
 
@@ -33,37 +35,29 @@ fn decimal(s: &[u8]) -> bool
 fn signal(s: &[u8]) -> bool
     ensures { result ≡ is_signal s.now }
 {
-    if s.len() == 0 {
-        return false;
+    match s {
+        [b'-', rest @ ..] => decimal(rest),
+        _ => decimal(s),
     }
-    if s[0] == b'-' {
-        return decimal(&s[1..]);
-    }
-    decimal(s)
 }
 
 // A signal's note, which means no count.
 fn signal_note(s: &[u8]) -> Option<u32>
     ensures { result ≡ signal_note s.now }
 {
-    if signal(s) { Some(0) } else { None }
+    signal(s).then_some(0)
 }
 
 // The count that a note means at a type, 0 for a note that is no count; nothing where it has not the form its type asks. An empty note is no note.
 pub fn note_of(kind: Kind, note: &[u8]) -> Option<u32>
     ensures { result ≡ note_of kind note.now }
 {
-    if note.len() == 0 {
+    if note.is_empty() {
         return Some(0);
     }
     match kind {
-        Kind::Stimulus => Some(0),
-        Kind::Task => Some(0),
-        Kind::Interrupt => Some(0),
-        Kind::Runnable => Some(0),
-        Kind::Scheduler => Some(0),
-        Kind::OsEvent => Some(0),
         Kind::Signal => signal_note(note),
         Kind::Semaphore => count_note(note),
+        _ => Some(0),
     }
 }

@@ -1,4 +1,6 @@
 // The rules on sources, instances and the presence of a note.
+#![tactic(auto, unfolding(crate::specs::Rule::is_process, crate::specs::Rule::zero_target, crate::specs::Rule::source_broken, crate::specs::Rule::target_broken, crate::specs::Rule::own_broken, crate::specs::Rule::rule_broken))]
+
 ghost use Rattle.std.specs.Prelude.{◌≡◌};
 ghost use Rattle.forms.specs.Rule.{is_process, zero_source, zero_target, is_own, source_broken, target_broken, own_broken, note_broken, rule_broken};
 
@@ -11,16 +13,7 @@ use words::kind::Kind;
 fn process(kind: Kind) -> bool
     ensures { result ≡ is_process kind }
 {
-    match kind {
-        Kind::Stimulus => false,
-        Kind::Task => true,
-        Kind::Interrupt => true,
-        Kind::Runnable => false,
-        Kind::Scheduler => false,
-        Kind::OsEvent => false,
-        Kind::Signal => false,
-        Kind::Semaphore => false,
-    }
+    matches!(kind, Kind::Task | Kind::Interrupt)
 }
 
 // Whether the source instance has to be 0.
@@ -36,16 +29,10 @@ fn zero_source(kind: Kind, action: Action) -> bool
 fn zero_target(kind: Kind) -> bool
     ensures { result ≡ zero_target kind }
 {
-    match kind {
-        Kind::Stimulus => false,
-        Kind::Task => false,
-        Kind::Interrupt => false,
-        Kind::Runnable => false,
-        Kind::Scheduler => true,
-        Kind::OsEvent => true,
-        Kind::Signal => true,
-        Kind::Semaphore => true,
-    }
+    matches!(
+        kind,
+        Kind::Scheduler | Kind::OsEvent | Kind::Signal | Kind::Semaphore
+    )
 }
 
 // Whether the event is one of its target's own: schedule, and a semaphore's state events.
@@ -80,16 +67,7 @@ fn own_broken(
 ) -> bool
     ensures { result ≡ own_broken action source.now source_instance target.now target_instance }
 {
-    if !targets_own(action) {
-        return false;
-    }
-    if source_instance != 0 {
-        return true;
-    }
-    if target_instance != 0 {
-        return true;
-    }
-    !same(source, target)
+    targets_own(action) && (source_instance != 0 || target_instance != 0 || !same(source, target))
 }
 
 // Whether a note is missing where one is required, or there where none may be; n is its length, and 0 where there is none.
@@ -100,14 +78,9 @@ fn note_broken(kind: Kind, action: Action, n: usize) -> bool
         return n == 0;
     }
     match kind {
-        Kind::Stimulus => n != 0,
-        Kind::Task => n != 0,
-        Kind::Interrupt => n != 0,
-        Kind::Runnable => n != 0,
-        Kind::Scheduler => n != 0,
-        Kind::OsEvent => n != 0,
         Kind::Signal => false,
         Kind::Semaphore => n == 0,
+        _ => n != 0,
     }
 }
 

@@ -1,6 +1,6 @@
 -- Laws of the line as a whole: what `has_break` is by a test of each byte, what the first byte says, and the next line of a chunk.
-use Rattle.std.proofs.Common.{None, Some, Option, false, subst}
-use mathlib.Core.Path.{◌≡◌, refl, sym}
+use Rattle.std.proofs.Common.{None, Some, Option, subst}
+use mathlib.Core.Path.{◌≡◌, refl}
 use mathlib.Core.Bool.{Bool, true, not, ◌||◌}
 use mathlib.Core.List.{List, [], ◌∷◌}
 use Prim.Native.Nat.{ℕ, ◌≤◌}

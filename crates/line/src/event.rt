@@ -18,23 +18,13 @@ use words::kind::Kind;
 use words::pair::named;
 
 // What an event line says, but for its source, target and note, which are the parts 2, 5 and 8 of the line itself.
-#[derive(Clone, Copy)]
+#[derive(Clone, Copy, Debug, PartialEq, Eq)]
 pub struct Event {
     pub time: u64,
     pub source_instance: u32,
     pub kind: Kind,
     pub target_instance: u32,
     pub action: Action,
-}
-
-// The time and the two instances of an event line; nothing where one of them is no number of its size.
-fn read_numbers(time: &[u8], source_instance: &[u8], target_instance: &[u8]) -> Option<(u64, u32, u32)>
-    ensures { result ≡ numbers_of time.now source_instance.now target_instance.now }
-{
-    let time = read_number(time, MAX_TIME)?;
-    let source = read_number(source_instance, 4294967295)?;
-    let target = read_number(target_instance, 4294967295)?;
-    Some((time, source as u32, target as u32))
 }
 
 // Whether a field is a name. Of a plain line's field only its length is left to be looked at.
@@ -51,92 +41,91 @@ fn field_name(s: &[u8], plain: bool) -> bool
     s.len() <= NAME_MOST
 }
 
-// Whether source and target are names, and so is the note where there is one.
-fn names(source: &[u8], target: &[u8], note: &[u8], noted: bool, plain: bool) -> bool
-    requires { plain ≡ true → PlainFields source.now target.now note.now }
-    ensures { result ≡ has_names source.now target.now note.now noted }
-{
-    field_name(source, plain) & (field_name(target, plain) & (!noted | field_name(note, plain)))
-}
-
-// What an event line says whose fields have their form and whose type and event are known.
-fn read_known(
-    kind: Kind,
-    action: Action,
-    time: u64,
-    source: &[u8],
-    source_instance: u32,
-    target: &[u8],
-    target_instance: u32,
-    note: &[u8],
-) -> Reading
-    ensures { result ≡ known_reading kind action time
-        source.now source_instance target.now target_instance note.now }
-{
-    let Some(count) = note_of(kind, note) else {
-        return Reading::Refused(Refusal::Field);
-    };
-    if rule_broken(
-        kind,
-        action,
-        source,
-        source_instance,
-        target,
-        target_instance,
-        note,
-    ) {
-        return Reading::Refused(Refusal::Rule);
-    }
-    let event = Event {
-        time,
-        source_instance,
-        kind,
-        target_instance,
-        action,
-    };
-    Reading::EventLine(event, count)
-}
-
-// What an event line says that has these fields; `noted` tells whether it has the eighth, `plain` that their bytes are a name's.
-fn read_fields(
-    time: &[u8],
-    source: &[u8],
-    source_instance: &[u8],
-    kind: &[u8],
-    target: &[u8],
-    target_instance: &[u8],
-    action: &[u8],
-    note: &[u8],
+// The fields of an event line. `noted` tells whether it has the eighth, and `plain` that the bytes of its names and its note are a name's.
+#[derive(Clone, Copy)]
+struct Fields<'a> {
+    time: &'a [u8],
+    source: &'a [u8],
+    source_instance: &'a [u8],
+    kind: &'a [u8],
+    target: &'a [u8],
+    target_instance: &'a [u8],
+    action: &'a [u8],
+    note: &'a [u8],
     noted: bool,
     plain: bool,
-) -> Reading
-    requires { plain ≡ true → PlainFields source.now target.now note.now }
-    ensures { result ≡ fields_reading time.now source.now source_instance.now kind.now
-        target.now target_instance.now action.now note.now noted }
-{
-    if !names(source, target, note, noted, plain) {
-        return Reading::Refused(Refusal::Field);
+    ghost plain_bytes: { plain ≡ true → PlainFields source.now target.now note.now },
+}
+
+#[tactic(auto, unfolding(crate::specs::Event::has_names, crate::specs::Event::numbers_of, crate::specs::Event::known_reading, crate::specs::Event::fields_reading))]
+impl<'a> Fields<'a> {
+    // Whether source and target are names, and so is the note where there is one.
+    fn names(self) -> bool
+        ensures { result ≡ has_names self.entry.source.now self.entry.target.now self.entry.note.now self.entry.noted }
+    {
+        field_name(self.source, self.plain)
+            & (field_name(self.target, self.plain)
+                & (!self.noted | field_name(self.note, self.plain)))
     }
-    let numbers = read_numbers(time, source_instance, target_instance);
-    let Some((time, source_instance, target_instance)) = numbers else {
-        return Reading::Refused(Refusal::Field);
-    };
-    let Some((kind, action)) = named(kind, action) else {
-        return Reading::Refused(Refusal::Event);
-    };
-    read_known(
-        kind,
-        action,
-        time,
-        source,
-        source_instance,
-        target,
-        target_instance,
-        note,
-    )
+
+    // The time and the two instances; nothing where one of them is no number of its size.
+    fn numbers(self) -> Option<(u64, u32, u32)>
+        ensures { result ≡ numbers_of self.entry.time.now self.entry.source_instance.now self.entry.target_instance.now }
+    {
+        let time = read_number(self.time, MAX_TIME)?;
+        let source = read_number(self.source_instance, 4294967295)?;
+        let target = read_number(self.target_instance, 4294967295)?;
+        Some((time, source as u32, target as u32))
+    }
+
+    // What the line says where the fields have their form and make this event.
+    fn read_known(self, event: Event) -> Reading
+        ensures { result ≡ known_reading event.kind event.action event.time
+            self.entry.source.now event.source_instance self.entry.target.now event.target_instance self.entry.note.now }
+    {
+        let Some(count) = note_of(event.kind, self.note) else {
+            return Reading::Refused(Refusal::Field);
+        };
+        if rule_broken(
+            event.kind,
+            event.action,
+            self.source,
+            event.source_instance,
+            self.target,
+            event.target_instance,
+            self.note,
+        ) {
+            return Reading::Refused(Refusal::Rule);
+        }
+        Reading::EventLine(event, count)
+    }
+
+    // What the line says.
+    fn read(self) -> Reading
+        ensures { result ≡ fields_reading self.entry.time.now self.entry.source.now self.entry.source_instance.now self.entry.kind.now
+            self.entry.target.now self.entry.target_instance.now self.entry.action.now self.entry.note.now self.entry.noted }
+    {
+        if !self.names() {
+            return Reading::Refused(Refusal::Field);
+        }
+        let Some((time, source_instance, target_instance)) = self.numbers() else {
+            return Reading::Refused(Refusal::Field);
+        };
+        let Some((kind, action)) = named(self.kind, self.action) else {
+            return Reading::Refused(Refusal::Event);
+        };
+        self.read_known(Event {
+            time,
+            source_instance,
+            kind,
+            target_instance,
+            action,
+        })
+    }
 }
 
 // The part of a line after one comma and before another.
+#[tactic(auto, unfolding(fields::specs::Part::part_from))]
 fn part(line: &[u8], a: usize, b: usize) -> &[u8]
     requires { (a < b) × (b ≤ length line.now) }
     ensures { result.now ≡ part_from line.now (suc a) b }
@@ -167,7 +156,7 @@ pub(crate) fn read_event(line: &[u8], c: Commas, plain: bool) -> Reading
     let action = part(line, c.c6, c.c7);
     let note = between(line, c.c7, c.c8);
     let noted = c.c7 < n;
-    read_fields(
+    let fields = Fields {
         time,
         source,
         source_instance,
@@ -178,5 +167,6 @@ pub(crate) fn read_event(line: &[u8], c: Commas, plain: bool) -> Reading
         note,
         noted,
         plain,
-    )
+    };
+    fields.read()
 }

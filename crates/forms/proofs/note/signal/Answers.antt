@@ -1,14 +1,11 @@
--- `forms::note::signal` meets its contract: the three exits are the cases of a value's first byte.
-use mathlib.Core.Path.{sym, ◌∙◌}
-use borrow.Author.Rules.{part_to_end}
+-- `forms::note::signal` meets its contract: a value whose first byte is a minus, and any other.
+use Rattle.std.proofs.lemmas.Grind.{common_steps}
+use native.Mathlib.Omega.{arith}
 use Rattle.forms.proofs.Notes.{empty_signal, minus_signal, plain_signal}
 use Rattle.forms.proofs.note.signal.Goals as goal
 
-pub returns-then-s-eq0 : goal.returns-then-s-eq0
-returns-then-s-eq0 c = sym (empty_signal _ c.if-s-eq0.true)
+pub returns-in-45 : goal.returns-in-45
+returns-in-45 c = grind (arith, common_steps, minus_signal)
 
-pub returns-then-s-eq45 : goal.returns-then-s-eq45
-returns-then-s-eq45 c = c.decimal.ensures ∙ rw part_to_end (minus_signal _ c.if-s-eq0.false c.if-s-eq45.true)
-
-pub returns : goal.returns
-returns c = c.decimal-2.ensures ∙ plain_signal _ c.if-s-eq0.false c.if-s-eq45.false
+pub returns-in_default : goal.returns-in_default
+returns-in_default c = grind (arith, common_steps, empty_signal, plain_signal)

@@ -35,17 +35,18 @@ part-target_instance-requires c = let o = in_order _ _ c.requires.0 c.if-n-c.fal
 pub part-action-requires : goal.part-action-requires
 part-action-requires c = let o = in_order _ _ c.requires.0 c.if-n-c.false in (o.seventh, o.inside)
 
-pub read_fields-requires : goal.read_fields-requires
-read_fields-requires c =
-    λ p.
-    rw (c.part-source.ensures, c.part-target.ensures, c.between-note.ensures.bytes) (plain_fields _ c.args.c c.requires.0 (c.requires.1 p))
+pub invariant_of-fields : goal.invariant_of-fields
+invariant_of-fields c = record {
+  plain_bytes = λ p.
+      rw (c.part-source.ensures, c.part-target.ensures, c.between-note.ensures.bytes) (plain_fields _ c.args.c c.requires.0 (c.requires.1 p));
+}
 
 pub returns : goal.returns
 returns c =
     let commas = c.args.c in
     let whole : commas.c1 - 0 ≡ commas.c1 = omega arith in
     rw (
-      c.read_fields.ensures,
+      c.read.ensures,
       c.part-source.ensures,
       c.part-source_instance.ensures,
       c.part-kind.ensures,
