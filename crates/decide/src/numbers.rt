@@ -9,11 +9,11 @@ use lookup::find::Found;
 use lookup::look::{LookedUp, above_all};
 use steps::kind::{numbers_instance, with_instances};
 use steps::numbers::SEMAPHORE;
+use tables::entry::*;
 use words::code::*;
 
 // Whether the process or runnable in a row has a first number, and the number is that one or above it.
-pub(crate) fn reaches_first(nums: &[u32], row: Found, number: u32) -> bool
-    requires { length nums.now ≡ nums_size }
+pub(crate) fn reaches_first(nums: &[u32; NUMS_SIZE], row: Found, number: u32) -> bool
     ensures { result ≡ reaches_first nums.now row number }
 {
     if !numbered_in(nums, row) {
@@ -23,8 +23,7 @@ pub(crate) fn reaches_first(nums: &[u32], row: Found, number: u32) -> bool
 }
 
 // Whether a number is one that the next activation has to bear: the last one plus 1, and of the first activation one above all seen.
-pub(crate) fn is_next(nums: &[u32], row: Found, number: u32) -> bool
-    requires { length nums.now ≡ nums_size }
+pub(crate) fn is_next(nums: &[u32; NUMS_SIZE], row: Found, number: u32) -> bool
     ensures { result ≡ is_next_in nums.now row number }
 {
     if !numbered_in(nums, row) {
@@ -34,8 +33,13 @@ pub(crate) fn is_next(nums: &[u32], row: Found, number: u32) -> bool
 }
 
 // 11: whether this is the first event of an instance, numbered as the first activation or higher, and does not activate it.
-pub(crate) fn never_activated(nums: &[u32], s: LookedUp, kind: u32, word: u32, number: u32) -> bool
-    requires { length nums.now ≡ nums_size }
+pub(crate) fn never_activated(
+    nums: &[u32; NUMS_SIZE],
+    s: LookedUp,
+    kind: u32,
+    word: u32,
+    number: u32,
+) -> bool
     ensures { result ≡ never_activated_in nums.now s kind word number }
 {
     let row = s.target;
@@ -52,8 +56,13 @@ pub(crate) fn never_activated(nums: &[u32], s: LookedUp, kind: u32, word: u32, n
 }
 
 // 12: whether the instance number is not the next.
-pub(crate) fn not_next(nums: &[u32], s: LookedUp, kind: u32, word: u32, number: u32) -> bool
-    requires { length nums.now ≡ nums_size }
+pub(crate) fn not_next(
+    nums: &[u32; NUMS_SIZE],
+    s: LookedUp,
+    kind: u32,
+    word: u32,
+    number: u32,
+) -> bool
     ensures { result ≡ not_next_in nums.now s kind word number }
 {
     let row = s.target;
@@ -115,8 +124,13 @@ fn count_fits(word: u32, count: u32) -> bool
 }
 
 // 14: whether a semaphore's count is broken.
-pub(crate) fn count_broken(nums: &[u32], s: LookedUp, kind: u32, word: u32, count: u32) -> bool
-    requires { length nums.now ≡ nums_size }
+pub(crate) fn count_broken(
+    nums: &[u32; NUMS_SIZE],
+    s: LookedUp,
+    kind: u32,
+    word: u32,
+    count: u32,
+) -> bool
     ensures { result ≡ count_broken_in nums.now s kind word count }
 {
     let row = s.target;

@@ -15,7 +15,6 @@ use lookup::look::{LookedUp, look};
 use steps::chart::{Move, chart_step};
 use steps::lines::kind_number;
 use tables::entry::*;
-use tables::size::sized;
 use words::code::action_code;
 
 // What becomes of an event line: it is refused, or taken with what was looked up and the state that its semaphore or instance enters.
@@ -26,8 +25,7 @@ pub enum Plan {
 }
 
 // 8: whether the time is less than that of the event line before.
-fn time_falls(nums: &[u32], ticks: &[u64], time: u64) -> bool
-    requires { (length nums.now ≡ nums_size) × (length ticks.now ≡ ticks_size) }
+fn time_falls(nums: &[u32; NUMS_SIZE], ticks: &[u64; TICKS_SIZE], time: u64) -> bool
     ensures { result ≡ time_falls_in nums.now ticks.now time }
 {
     if nums[STARTED] == 0 {
@@ -37,8 +35,14 @@ fn time_falls(nums: &[u32], ticks: &[u64], time: u64) -> bool
 }
 
 // What becomes of an event line by its chart, its number, its core and its count.
-fn decide_steps(nums: &[u32], s: LookedUp, kind: u32, word: u32, number: u32, count: u32) -> Plan
-    requires { length nums.now ≡ nums_size }
+fn decide_steps(
+    nums: &[u32; NUMS_SIZE],
+    s: LookedUp,
+    kind: u32,
+    word: u32,
+    number: u32,
+    count: u32,
+) -> Plan
     ensures { result ≡ steps_plan nums.now s kind word number count }
 {
     let m = chart_step(kind, word, state_in(nums, s, kind));
@@ -62,15 +66,14 @@ fn decide_steps(nums: &[u32], s: LookedUp, kind: u32, word: u32, number: u32, co
 
 // What becomes of an event line by tables of the right sizes: the lowest of 8 to 14 that applies, or that it is taken.
 fn decide_in(
-    names: &[u8],
-    nums: &[u32],
-    ticks: &[u64],
+    names: &[u8; NAMES_SIZE],
+    nums: &[u32; NUMS_SIZE],
+    ticks: &[u64; TICKS_SIZE],
     e: Event,
     count: u32,
     source: &[u8],
     target: &[u8],
 ) -> Plan
-    requires { (length nums.now ≡ nums_size) × (length ticks.now ≡ ticks_size) }
     ensures { result ≡ plan_of names.now nums.now ticks.now
         (event_from e source.now target.now count) }
 {
@@ -107,8 +110,12 @@ pub fn decide(
     ensures { result ≡ decided names.now nums.now ticks.now
         (event_from e source.now target.now count) }
 {
-    if !sized(names.len(), nums.len(), ticks.len()) {
+    let (Some(names), Some(nums), Some(ticks)) = (
+        names.as_array::<NAMES_SIZE>(),
+        nums.as_array::<NUMS_SIZE>(),
+        ticks.as_array::<TICKS_SIZE>(),
+    ) else {
         return Plan::Refuse(15);
-    }
+    };
     decide_in(names, nums, ticks, e, count, source, target)
 }
