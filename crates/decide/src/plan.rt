@@ -110,11 +110,13 @@ pub fn decide(
     ensures { result ≡ decided names.now nums.now ticks.now
         (event_from e source.now target.now count) }
 {
-    let (Some(names), Some(nums), Some(ticks)) = (
-        names.as_array::<NAMES_SIZE>(),
-        nums.as_array::<NUMS_SIZE>(),
-        ticks.as_array::<TICKS_SIZE>(),
-    ) else {
+    let Some(names) = names.as_array::<NAMES_SIZE>() else {
+        return Plan::Refuse(15);
+    };
+    let Some(nums) = nums.as_array::<NUMS_SIZE>() else {
+        return Plan::Refuse(15);
+    };
+    let Some(ticks) = ticks.as_array::<TICKS_SIZE>() else {
         return Plan::Refuse(15);
     };
     decide_in(names, nums, ticks, e, count, source, target)

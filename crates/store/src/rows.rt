@@ -26,8 +26,7 @@ pub(crate) fn new_name(s: LookedUp, kind: u32) -> u32
 }
 
 // The row of the line's core, found or the next one.
-pub(crate) fn core_row(nums: &[u32], s: LookedUp) -> usize
-    requires { length nums.now ≡ nums_size }
+pub(crate) fn core_row(nums: &[u32; NUMS_SIZE], s: LookedUp) -> usize
     ensures { result ≡ core_row nums.now s }
 {
     let row = s.source;
@@ -38,8 +37,7 @@ pub(crate) fn core_row(nums: &[u32], s: LookedUp) -> usize
 }
 
 // The row of the line's target, found or the next one after its core's.
-pub(crate) fn target_row(nums: &[u32], s: LookedUp) -> usize
-    requires { length nums.now ≡ nums_size }
+pub(crate) fn target_row(nums: &[u32; NUMS_SIZE], s: LookedUp) -> usize
     ensures { result ≡ target_row nums.now s }
 {
     let row = s.target;
