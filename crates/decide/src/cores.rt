@@ -1,6 +1,6 @@
 // The refusal 13 of an event line: its core.
-ghost use Rattle.std.specs.Prelude.{◌≡◌, eqb, length};
-ghost use Rattle.tables.specs.Entry.{nums_size, held_by};
+ghost use Rattle.std.specs.Prelude.{◌≡◌, eqb};
+ghost use Rattle.tables.specs.Entry.{held_by};
 ghost use Rattle.decide.specs.PlanCode.{core_serves, core_broken_in};
 ghost use Rattle.decide.specs.Known.{is_holder};
 
@@ -44,8 +44,7 @@ fn core_serves(class: u32, standing: u32, holder: bool, first: bool) -> bool
 }
 
 // 13: whether the core rule is broken.
-pub(crate) fn core_broken(nums: &[u32], s: LookedUp, kind: u32, number: u32) -> bool
-    requires { length nums.now ≡ nums_size }
+pub(crate) fn core_broken(nums: &[u32; NUMS_SIZE], s: LookedUp, kind: u32, number: u32) -> bool
     ensures { result ≡ core_broken_in nums.now s kind number }
 {
     if s.class == NO_CORE {

@@ -1,18 +1,17 @@
 // The refusals of an event line for a number: 11 and 12 for that of its instance, and 14 for a semaphore's count.
-ghost use Rattle.std.specs.Prelude.{◌≡◌, length};
+ghost use Rattle.std.specs.Prelude.{◌≡◌};
 ghost use Rattle.rules.specs.Refusals.{count_allowed};
-ghost use Rattle.tables.specs.Entry.{nums_size};
 ghost use Rattle.decide.specs.PlanCode.{reaches_first, is_next_in, never_activated_in, not_next_in, count_follows_in, least_count, count_broken_in};
 
 use crate::known::{first_number_in, number_in, numbered_in, state_in};
 use lookup::look::{LookedUp, above_all};
 use steps::kind::{numbers_instance, with_instances};
 use steps::numbers::SEMAPHORE;
+use tables::entry::*;
 use words::code::*;
 
 // Whether the process or runnable in a row has a first number, and the number is that one or above it.
-pub(crate) fn reaches_first(nums: &[u32], row: Option<usize>, number: u32) -> bool
-    requires { length nums.now ≡ nums_size }
+pub(crate) fn reaches_first(nums: &[u32; NUMS_SIZE], row: Option<usize>, number: u32) -> bool
     ensures { result ≡ reaches_first nums.now row number }
 {
     if !numbered_in(nums, row) {
@@ -22,8 +21,7 @@ pub(crate) fn reaches_first(nums: &[u32], row: Option<usize>, number: u32) -> bo
 }
 
 // Whether a number is one that the next activation has to bear: the last one plus 1, and of the first activation one above all seen.
-pub(crate) fn is_next(nums: &[u32], row: Option<usize>, number: u32) -> bool
-    requires { length nums.now ≡ nums_size }
+pub(crate) fn is_next(nums: &[u32; NUMS_SIZE], row: Option<usize>, number: u32) -> bool
     ensures { result ≡ is_next_in nums.now row number }
 {
     if !numbered_in(nums, row) {
@@ -33,8 +31,13 @@ pub(crate) fn is_next(nums: &[u32], row: Option<usize>, number: u32) -> bool
 }
 
 // 11: whether this is the first event of an instance, numbered as the first activation or higher, and does not activate it.
-pub(crate) fn never_activated(nums: &[u32], s: LookedUp, kind: u32, word: u32, number: u32) -> bool
-    requires { length nums.now ≡ nums_size }
+pub(crate) fn never_activated(
+    nums: &[u32; NUMS_SIZE],
+    s: LookedUp,
+    kind: u32,
+    word: u32,
+    number: u32,
+) -> bool
     ensures { result ≡ never_activated_in nums.now s kind word number }
 {
     let row = s.target;
@@ -51,8 +54,13 @@ pub(crate) fn never_activated(nums: &[u32], s: LookedUp, kind: u32, word: u32, n
 }
 
 // 12: whether the instance number is not the next.
-pub(crate) fn not_next(nums: &[u32], s: LookedUp, kind: u32, word: u32, number: u32) -> bool
-    requires { length nums.now ≡ nums_size }
+pub(crate) fn not_next(
+    nums: &[u32; NUMS_SIZE],
+    s: LookedUp,
+    kind: u32,
+    word: u32,
+    number: u32,
+) -> bool
     ensures { result ≡ not_next_in nums.now s kind word number }
 {
     let row = s.target;
@@ -114,8 +122,13 @@ fn count_fits(word: u32, count: u32) -> bool
 }
 
 // 14: whether a semaphore's count is broken.
-pub(crate) fn count_broken(nums: &[u32], s: LookedUp, kind: u32, word: u32, count: u32) -> bool
-    requires { length nums.now ≡ nums_size }
+pub(crate) fn count_broken(
+    nums: &[u32; NUMS_SIZE],
+    s: LookedUp,
+    kind: u32,
+    word: u32,
+    count: u32,
+) -> bool
     ensures { result ≡ count_broken_in nums.now s kind word count }
 {
     let row = s.target;

@@ -1,8 +1,7 @@
 // What becomes of an event line, from the tables as they are: the lowest of 8 to 14 that applies, or that it is taken. Nothing is stored here.
-ghost use Rattle.std.specs.Prelude.{◌≡◌, length};
+ghost use Rattle.std.specs.Prelude.{◌≡◌};
 ghost use Rattle.text.specs.Refusal.{numbered};
 ghost use Rattle.rules.specs.Lines.{event_from};
-ghost use Rattle.tables.specs.Entry.{nums_size, ticks_size};
 ghost use Rattle.decide.specs.Decide.{plan_of, decided};
 ghost use Rattle.decide.specs.PlanCode.{time_falls_in, steps_plan};
 
@@ -16,13 +15,11 @@ use lookup::look::{LookedUp, look};
 use steps::chart::chart_step;
 use steps::lines::kind_number;
 use tables::entry::*;
-use tables::size::sized;
 use text::refusal::Refusal;
 use words::code::action_code;
 
 // 8: whether the time is less than that of the event line before.
-fn time_falls(nums: &[u32], ticks: &[u64], time: u64) -> bool
-    requires { (length nums.now ≡ nums_size) × (length ticks.now ≡ ticks_size) }
+fn time_falls(nums: &[u32; NUMS_SIZE], ticks: &[u64; TICKS_SIZE], time: u64) -> bool
     ensures { result ≡ time_falls_in nums.now ticks.now time }
 {
     if nums[STARTED] == 0 {
@@ -33,8 +30,14 @@ fn time_falls(nums: &[u32], ticks: &[u64], time: u64) -> bool
 
 // What becomes of an event line by its chart, its number, its core and its count: it is taken with what was looked up for it, and with the state that its semaphore or instance
 // enters.
-fn decide_steps(nums: &[u32], s: LookedUp, kind: u32, word: u32, number: u32, count: u32) -> Result<(LookedUp, u32), Refusal>
-    requires { length nums.now ≡ nums_size }
+fn decide_steps(
+    nums: &[u32; NUMS_SIZE],
+    s: LookedUp,
+    kind: u32,
+    word: u32,
+    number: u32,
+    count: u32,
+) -> Result<(LookedUp, u32), Refusal>
     ensures { numbered result ≡ steps_plan nums.now s kind word number count }
 {
     let m = chart_step(kind, word, state_in(nums, s, kind));
@@ -58,15 +61,14 @@ fn decide_steps(nums: &[u32], s: LookedUp, kind: u32, word: u32, number: u32, co
 
 // What becomes of an event line by tables of the right sizes: the lowest of 8 to 14 that applies, or that it is taken.
 fn decide_in(
-    names: &[u8],
-    nums: &[u32],
-    ticks: &[u64],
+    names: &[u8; NAMES_SIZE],
+    nums: &[u32; NUMS_SIZE],
+    ticks: &[u64; TICKS_SIZE],
     e: Event,
     count: u32,
     source: &[u8],
     target: &[u8],
 ) -> Result<(LookedUp, u32), Refusal>
-    requires { (length nums.now ≡ nums_size) × (length ticks.now ≡ ticks_size) }
     ensures { numbered result ≡ plan_of names.now nums.now ticks.now
         (event_from e source.now target.now count) }
 {
@@ -103,8 +105,14 @@ pub fn decide(
     ensures { numbered result ≡ decided names.now nums.now ticks.now
         (event_from e source.now target.now count) }
 {
-    if !sized(names.len(), nums.len(), ticks.len()) {
+    let Some(names) = names.as_array::<NAMES_SIZE>() else {
         return Err(Refusal::Size);
-    }
+    };
+    let Some(nums) = nums.as_array::<NUMS_SIZE>() else {
+        return Err(Refusal::Size);
+    };
+    let Some(ticks) = ticks.as_array::<TICKS_SIZE>() else {
+        return Err(Refusal::Size);
+    };
     decide_in(names, nums, ticks, e, count, source, target)
 }

@@ -1,7 +1,6 @@
 // The refusal 10 of an event line: the room for what it adds.
-ghost use Rattle.std.specs.Prelude.{◌≡◌, length};
+ghost use Rattle.std.specs.Prelude.{◌≡◌};
 ghost use Rattle.rules.specs.Refusals.{exceeds_limit};
-ghost use Rattle.tables.specs.Entry.{nums_size};
 ghost use Rattle.decide.specs.PlanCode.{needs_one_in, no_room_in};
 
 use crate::numbers::{is_next, reaches_first};
@@ -21,8 +20,7 @@ fn exceeds_limit(kind: u32, word: u32) -> bool
 
 // Whether the line needs one more row for its instance. Where there is none, the instance was never seen, or it has terminated and its row was given
 // back; which of them it is its number tells.
-fn needs_one(nums: &[u32], s: LookedUp, kind: u32, word: u32, number: u32) -> bool
-    requires { length nums.now ≡ nums_size }
+fn needs_one(nums: &[u32; NUMS_SIZE], s: LookedUp, kind: u32, word: u32, number: u32) -> bool
     ensures { result ≡ needs_one_in nums.now s kind word number }
 {
     let row = s.target;
@@ -43,8 +41,13 @@ fn needs_one(nums: &[u32], s: LookedUp, kind: u32, word: u32, number: u32) -> bo
 }
 
 // 10: whether the names or instances that the line adds don't fit.
-pub(crate) fn no_room(nums: &[u32], s: LookedUp, kind: u32, word: u32, number: u32) -> bool
-    requires { length nums.now ≡ nums_size }
+pub(crate) fn no_room(
+    nums: &[u32; NUMS_SIZE],
+    s: LookedUp,
+    kind: u32,
+    word: u32,
+    number: u32,
+) -> bool
     ensures { result ≡ no_room_in nums.now s kind word number }
 {
     let source_row = s.source;

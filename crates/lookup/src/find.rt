@@ -1,8 +1,8 @@
 // Looking a name or an instance up.
-ghost use Rattle.std.specs.Prelude.{◌≡◌, ◌&&◌, cond, ◌+◌, ◌-◌, ◌%◌, ◌≤◌, ◌<◌, min, eqb, length};
+ghost use Rattle.std.specs.Prelude.{◌≡◌, ◌&&◌, cond, ◌+◌, ◌-◌, ◌%◌, ◌≤◌, ◌<◌, min, eqb};
 ghost use Rattle.std.specs.Int.Count.{count_leading_zeros};
 ghost use Rattle.marks.specs.Marks.{marks_from};
-ghost use Rattle.tables.specs.Entry.{names_size, nums_size, instance_rows, place_rows};
+ghost use Rattle.tables.specs.Entry.{instance_rows, place_rows};
 ghost use Rattle.index.specs.Index.{sought};
 ghost use Rattle.lookup.specs.Find.{ends_at, row_met, instance_is, reaches_in, find_name, find_instance, find_from, last_below};
 
@@ -11,8 +11,14 @@ use index::hash::home_of;
 use tables::entry::*;
 
 // The row of a name, by the index: from its home on up to a free place, or all around.
-fn seek(names: &[u8], nums: &[u32], index: &[u32], name: &[u8], home: usize) -> Option<usize>
-    requires { (length names.now ≡ names_size) × ((length nums.now ≡ nums_size) × ((length index.now ≡ place_rows) × (home < place_rows))) }
+fn seek(
+    names: &[u8; NAMES_SIZE],
+    nums: &[u32; NUMS_SIZE],
+    index: &[u32; PLACE_ROWS],
+    name: &[u8],
+    home: usize,
+) -> Option<usize>
+    requires { home < place_rows }
     ensures { result ≡ row_met index.now home (sought index.now home (ends_at names.now nums.now name.now)) }
 {
     let mut d = 0;
@@ -33,13 +39,16 @@ fn seek(names: &[u8], nums: &[u32], index: &[u32], name: &[u8], home: usize) -> 
 pub fn find_name(names: &[u8], nums: &[u32], name: &[u8]) -> Option<usize>
     ensures { result ≡ find_name names.now nums.now name.now }
 {
-    if names.len() != NAMES_SIZE {
+    let Some(names) = names.as_array::<NAMES_SIZE>() else {
         return None;
-    }
-    if nums.len() != NUMS_SIZE {
+    };
+    let Some(nums) = nums.as_array::<NUMS_SIZE>() else {
         return None;
-    }
-    seek(names, nums, &nums[PLACE..PLACES_END], name, home_of(name))
+    };
+    let Some(index) = nums.last_chunk::<PLACE_ROWS>() else {
+        unreachable!()
+    };
+    seek(names, nums, index, name, home_of(name))
 }
 
 // What a row with number a and owner b adds: its weight where it is the instance sought, and nothing where it is another.
@@ -51,8 +60,8 @@ fn weight(a: u32, b: u32, number: u32, owner: u32, w: u32) -> u32
 
 // Which of the sixteen rows from `at` on are the instance of an owner with a number, as marks in one number. All sixteen are looked at with no
 // exit between, so that they can be compared at once.
-fn sixteen(nums: &[u32], owner: u32, number: u32, at: usize) -> u32
-    requires { (at + 16 ≤ instance_rows) × (length nums.now ≡ nums_size) }
+fn sixteen(nums: &[u32; NUMS_SIZE], owner: u32, number: u32, at: usize) -> u32
+    requires { at + 16 ≤ instance_rows }
     ensures { result ≡ marks_from (instance_is nums.now owner number) at 16 }
 {
     let mut m: u32 = 0;
@@ -74,8 +83,8 @@ fn last_of(at: usize, m: u32) -> Option<usize>
 }
 
 // The last row of an instance below `to`, a multiple of sixteen.
-fn find_below(nums: &[u32], owner: u32, number: u32, to: usize) -> Option<usize>
-    requires { (to ≤ instance_rows) × ((to % 16 ≡ 0) × (length nums.now ≡ nums_size)) }
+fn find_below(nums: &[u32; NUMS_SIZE], owner: u32, number: u32, to: usize) -> Option<usize>
+    requires { (to ≤ instance_rows) × (to % 16 ≡ 0) }
     ensures { result ≡ last_below (instance_is nums.now owner number) to }
 {
     let mut at = to;
@@ -101,9 +110,9 @@ fn rows(n: usize) -> usize
 pub fn find_instance(nums: &[u32], owner: u32, number: u32) -> Option<usize>
     ensures { result ≡ find_instance nums.now owner number }
 {
-    if nums.len() != NUMS_SIZE {
+    let Some(nums) = nums.as_array::<NUMS_SIZE>() else {
         return None;
-    }
+    };
     let n = rows(nums[INSTANCES] as usize);
     if n == 0 {
         return None;
@@ -117,8 +126,7 @@ pub fn find_instance(nums: &[u32], owner: u32, number: u32) -> Option<usize>
 }
 
 // Whether row j is an instance of an owner with a number or a higher one.
-fn reaches(nums: &[u32], owner: u32, number: u32, j: usize) -> bool
-    requires { length nums.now ≡ nums_size }
+fn reaches(nums: &[u32; NUMS_SIZE], owner: u32, number: u32, j: usize) -> bool
     ensures { result ≡ reaches_in nums.now owner number j }
 {
     if INSTANCE_ROWS <= j {
@@ -134,9 +142,9 @@ fn reaches(nums: &[u32], owner: u32, number: u32, j: usize) -> bool
 pub(crate) fn find_from(nums: &[u32], owner: u32, number: u32) -> Option<usize>
     ensures { result ≡ find_from nums.now owner number }
 {
-    if nums.len() != NUMS_SIZE {
+    let Some(nums) = nums.as_array::<NUMS_SIZE>() else {
         return None;
-    }
+    };
     let mut j = nums[INSTANCES] as usize;
     while 0 < j {
         j -= 1;

@@ -2,7 +2,6 @@
 // it is done, whichever way a row is come upon.
 ghost use Rattle.std.specs.Prelude.{◌≡◌, true, false, ◌+◌, ◌≤◌, length, drop};
 ghost use Rattle.text.specs.Bytes.{same_bytes};
-ghost use Rattle.tables.specs.Entry.{names_size, nums_size};
 ghost use Rattle.lookup.specs.Find.{row_is};
 
 use tables::entry::*;
@@ -44,8 +43,12 @@ fn same_name(row: &[u8], name: &[u8]) -> bool
 }
 
 // Whether row i holds the name. No byte of a row of another length is looked at.
-pub(crate) fn row_is(names: &[u8], nums: &[u32], name: &[u8], i: usize) -> bool
-    requires { (length names.now ≡ names_size) × (length nums.now ≡ nums_size) }
+pub(crate) fn row_is(
+    names: &[u8; NAMES_SIZE],
+    nums: &[u32; NUMS_SIZE],
+    name: &[u8],
+    i: usize,
+) -> bool
     ensures { result ≡ row_is names.now nums.now name.now i }
 {
     if NAME_ROWS <= i {

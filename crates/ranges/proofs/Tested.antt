@@ -13,7 +13,7 @@ use Rattle.text.specs.Bytes.{same_bytes}
 use Rattle.text.proofs.Bools.{and_l, and_r, or_l, or_r, clash}
 use Rattle.text.proofs.Words.{same_eq, eq_same}
 use Rattle.marks.proofs.Firsts.{first_at, first_is}
-use Rattle.tables.specs.Entry.{place_rows, name_count, places}
+use Rattle.tables.specs.Entry.{place_rows, nums_size, name_count, places}
 use Rattle.index.specs.Index.{entry, sought, place_found, index_of, home_at, index_from}
 use Rattle.index.specs.Taken.{taken_places}
 use Rattle.index.proofs.Folds.{home_at_lt}
@@ -128,11 +128,11 @@ module _ (l : List ℕ) (home : ℕ → ℕ) (n : ℕ) (size : length l ≡ plac
 -- ---- in lent tables
 
 -- the code tests a name's row and its place in one turn, and counts the places last: between them stand the other tests
-pub index_tested : (names nums ticks : List ℕ) → Counted nums → (others : Bool)
+pub index_tested : (names nums ticks : List ℕ) → length nums ≡ nums_size → Counted nums → (others : Bool)
     → (up_to (name_tests names nums ticks (places nums)) (name_count nums) && others) && eqb (taken_places (places nums)) (name_count nums)
     ≡ up_to (name_ok names nums ticks) (name_count nums) && (others && index_ok names nums)
 unfolding index_ok index_from
-index_tested names nums ticks s others =
+index_tested names nums ticks size s others =
     let n = name_count nums in
     let placed : ℕ → Bool = λ i. row_placed (places nums) (home_at names nums i) i in
     let ok = name_ok names nums ticks in
@@ -141,4 +141,4 @@ index_tested names nums ticks s others =
     ∙ and_assoc (up_to ok n && up_to placed n) others counted
     ∙ crossed (up_to ok n) (up_to placed n) others counted
     ∙ and_assoc (up_to ok n) others (up_to placed n && counted)
-    ∙ ap (λ b. up_to ok n && (others && b)) (tested (places nums) (home_at names nums) n (places_size nums s.size) (omega (arith, s.names)) (λ r h. home_at_lt names nums r))
+    ∙ ap (λ b. up_to ok n && (others && b)) (tested (places nums) (home_at names nums) n (places_size nums size) (omega (arith, s.names)) (λ r h. home_at_lt names nums r))

@@ -1,6 +1,6 @@
 -- 15: "lent output or table of the wrong size". 16: "table holding an index, state, kind, count, name or time outside its range, a first time
 -- above the last, or a tick sum above 2^62".
-use Rattle.std.specs.Prelude.{◌≡◌, Bool, true, ◌&&◌, ◌||◌, cond, List, ℕ, zero, suc, ◌-◌, ◌≤◌, eqb, leb, ltb, length}
+use Rattle.std.specs.Prelude.{Bool, true, ◌&&◌, ◌||◌, cond, List, ℕ, zero, suc, ◌-◌, ◌≤◌, eqb, leb, ltb, length}
 use Rattle.text.specs.Bytes.{same_bytes}
 use Rattle.text.specs.Name.{is_name}
 use Rattle.text.specs.Sizes.{max_time, core_limit}
@@ -9,7 +9,7 @@ use Rattle.rules.specs.Limits.{verdict_line_limit, line_limit, last_refusal}
 use Rattle.rules.specs.Chart.{is_state_of}
 use Rattle.rules.specs.Charts.{is_process, chart_of}
 use Rattle.rules.specs.History.{has_instances}
-use Rattle.tables.specs.Entry.{name_rows, instance_rows, name_room, nums_size, idle_core, held_from}
+use Rattle.tables.specs.Entry.{name_rows, instance_rows, name_room, idle_core, held_from}
 use Rattle.tables.specs.Entry.{verdict_number, verdict_line, line_count, scale_entry, creator_entry, date_entry, started_entry, name_count, core_count, instance_count}
 use Rattle.tables.specs.Entry.{kind_at, length_at, standing_at, numbered_at, owner_at, state_at, first_time, last_time, held_at, idle_at, unknown_at, since_at, name_at, places}
 use Rattle.tables.specs.Sized.{is_sized}
@@ -28,7 +28,6 @@ counts_ok nums = leb (started_entry nums) 1 && (leb (name_count nums) name_rows 
 
 -- what the code needs before it looks at rows: every row that is counted is there
 pub record Counted (nums : List ℕ) : Type 0 where
-  pub size : length nums ≡ nums_size
   pub names : name_count nums ≤ name_rows
   pub instances : instance_count nums ≤ instance_rows
 

@@ -1,7 +1,7 @@
 // The index of the names, 16: what tells whether it is the one that they give in order. There is no second one to compare it with: each row has to be where it belongs, and as many
 // places taken as there are rows.
-ghost use Rattle.std.specs.Prelude.{◌≡◌, ◌<◌, ◌≤◌, length};
-ghost use Rattle.tables.specs.Entry.{names_size, nums_size, name_rows, place_rows, name_room, length_at};
+ghost use Rattle.std.specs.Prelude.{◌≡◌, ◌<◌, ◌≤◌};
+ghost use Rattle.tables.specs.Entry.{name_rows, place_rows, name_room, length_at};
 ghost use Rattle.index.specs.Index.{home_at};
 ghost use Rattle.index.specs.Taken.{taken_places};
 ghost use Rattle.ranges.specs.IndexCode.{row_placed};
@@ -24,8 +24,8 @@ pub(crate) fn row_placed(index: &[u32; PLACE_ROWS], home: usize, r: usize) -> bo
 }
 
 // The home of the name in row i.
-pub(crate) fn home_at(names: &[u8], nums: &[u32], i: usize) -> usize
-    requires { (length names.now ≡ names_size) × ((length nums.now ≡ nums_size) × ((i < name_rows) × (length_at nums.now i ≤ name_room))) }
+pub(crate) fn home_at(names: &[u8; NAMES_SIZE], nums: &[u32; NUMS_SIZE], i: usize) -> usize
+    requires { (i < name_rows) × (length_at nums.now i ≤ name_room) }
     ensures { result ≡ home_at names.now nums.now i }
 {
     let n = nums[LENGTH + i] as usize;

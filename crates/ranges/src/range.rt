@@ -1,7 +1,6 @@
 // The sizes of lent tables, 15, and the ranges of their entries, 16.
-ghost use Rattle.std.specs.Prelude.{◌≡◌, ◌<◌, ◌≤◌, length};
-ghost use Rattle.tables.specs.Sized.{Sized};
-ghost use Rattle.tables.specs.Entry.{names_size, nums_size, ticks_size, name_rows, instance_rows, place_rows};
+ghost use Rattle.std.specs.Prelude.{◌≡◌, ◌<◌, ◌≤◌};
+ghost use Rattle.tables.specs.Entry.{name_rows, instance_rows};
 ghost use Rattle.ranges.specs.Range.{Counted, counts_ok, line_level_ok, times_ok, holder_ok, core_ok, standing_ok, sums_ok, bytes_ok, name_ok, instance_ok, up_to, in_range};
 ghost use Rattle.ranges.specs.Range.{table_answer};
 ghost use Rattle.ranges.specs.IndexCode.{name_tests};
@@ -11,13 +10,11 @@ use crate::state::{of_semaphore, state_ok};
 use steps::kind::is_process;
 use steps::numbers::*;
 use tables::entry::*;
-use tables::size::sized;
 use text::name::name;
 use text::size::{CORE_LIMIT, MAX_TIME, NAME_LIMIT};
 
 // The verdict and the line level's entries.
-fn line_level_ok(nums: &[u32]) -> bool
-    requires { length nums.now ≡ nums_size }
+fn line_level_ok(nums: &[u32; NUMS_SIZE]) -> bool
     ensures { result ≡ line_level_ok nums.now }
 {
     (nums[VERDICT] <= LAST_REFUSAL)
@@ -27,8 +24,7 @@ fn line_level_ok(nums: &[u32]) -> bool
 }
 
 // How many names, cores and instances there are.
-fn counts_ok(nums: &[u32]) -> bool
-    requires { length nums.now ≡ nums_size }
+fn counts_ok(nums: &[u32; NUMS_SIZE]) -> bool
     ensures { result ≡ counts_ok nums.now }
 {
     (nums[STARTED] <= 1)
@@ -37,15 +33,14 @@ fn counts_ok(nums: &[u32]) -> bool
 }
 
 // The first and the last time.
-fn times_ok(ticks: &[u64]) -> bool
-    requires { length ticks.now ≡ ticks_size }
+fn times_ok(ticks: &[u64; TICKS_SIZE]) -> bool
     ensures { result ≡ times_ok ticks.now }
 {
     (ticks[LAST] <= MAX_TIME) & (ticks[FIRST] <= ticks[LAST])
 }
 
 // Whether an instance of the name in row p can hold a core: the name is there, and a process's.
-fn holder_ok(nums: &[u32], p: u32) -> bool
+fn holder_ok(nums: &[u32; NUMS_SIZE], p: u32) -> bool
     requires { Counted nums.now }
     ensures { result ≡ holder_ok nums.now p }
 {
@@ -56,7 +51,7 @@ fn holder_ok(nums: &[u32], p: u32) -> bool
 }
 
 // The state of a core: idle (1), or held by an instance of the process in row p (2 + p).
-fn core_ok(nums: &[u32], standing: u32) -> bool
+fn core_ok(nums: &[u32; NUMS_SIZE], standing: u32) -> bool
     requires { Counted nums.now }
     ensures { result ≡ core_ok nums.now standing }
 {
@@ -68,7 +63,7 @@ fn core_ok(nums: &[u32], standing: u32) -> bool
 
 // The state of a name by its kind: a core's; of a semaphore none yet (0) or one of its chart's; any other name has none. Most names have none,
 // so that is asked first.
-fn standing_ok(nums: &[u32], kind: u32, standing: u32) -> bool
+fn standing_ok(nums: &[u32; NUMS_SIZE], kind: u32, standing: u32) -> bool
     requires { Counted nums.now }
     ensures { result ≡ standing_ok nums.now kind standing }
 {
@@ -85,8 +80,8 @@ fn standing_ok(nums: &[u32], kind: u32, standing: u32) -> bool
 }
 
 // The tick sums and the time since of name i.
-fn sums_ok(ticks: &[u64], i: usize) -> bool
-    requires { (i < name_rows) × (length ticks.now ≡ ticks_size) }
+fn sums_ok(ticks: &[u64; TICKS_SIZE], i: usize) -> bool
+    requires { i < name_rows }
     ensures { result ≡ sums_ok ticks.now i }
 {
     (ticks[HELD + i] <= 0x4000_0000_0000_0000)
@@ -95,8 +90,8 @@ fn sums_ok(ticks: &[u64], i: usize) -> bool
 }
 
 // Whether the bytes of row i are a name of its length.
-fn bytes_ok(names: &[u8], nums: &[u32], i: usize) -> bool
-    requires { (i < name_rows) × ((length names.now ≡ names_size) × (length nums.now ≡ nums_size)) }
+fn bytes_ok(names: &[u8; NAMES_SIZE], nums: &[u32; NUMS_SIZE], i: usize) -> bool
+    requires { i < name_rows }
     ensures { result ≡ bytes_ok names.now nums.now i }
 {
     let n = nums[LENGTH + i] as usize;
@@ -109,8 +104,13 @@ fn bytes_ok(names: &[u8], nums: &[u32], i: usize) -> bool
 }
 
 // The whole row of name i.
-fn name_ok(names: &[u8], nums: &[u32], ticks: &[u64], i: usize) -> bool
-    requires { (i < name_rows) × (Sized names.now nums.now ticks.now × Counted nums.now) }
+fn name_ok(
+    names: &[u8; NAMES_SIZE],
+    nums: &[u32; NUMS_SIZE],
+    ticks: &[u64; TICKS_SIZE],
+    i: usize,
+) -> bool
+    requires { (i < name_rows) × Counted nums.now }
     ensures { result ≡ name_ok names.now nums.now ticks.now i }
 {
     let kind = nums[KIND + i];
@@ -122,7 +122,7 @@ fn name_ok(names: &[u8], nums: &[u32], ticks: &[u64], i: usize) -> bool
 }
 
 // The whole row of instance j.
-fn instance_ok(nums: &[u32], j: usize) -> bool
+fn instance_ok(nums: &[u32; NUMS_SIZE], j: usize) -> bool
     requires { (j < instance_rows) × Counted nums.now }
     ensures { result ≡ instance_ok nums.now j }
 {
@@ -134,8 +134,14 @@ fn instance_ok(nums: &[u32], j: usize) -> bool
 }
 
 // Whether the row of each of n names is in its range and is where it belongs in the index: in one loop, which is quicker than two.
-fn names_ok(names: &[u8], nums: &[u32], ticks: &[u64], index: &[u32; PLACE_ROWS], n: usize) -> bool
-    requires { (n ≤ name_rows) × (Sized names.now nums.now ticks.now × Counted nums.now) }
+fn names_ok(
+    names: &[u8; NAMES_SIZE],
+    nums: &[u32; NUMS_SIZE],
+    ticks: &[u64; TICKS_SIZE],
+    index: &[u32; PLACE_ROWS],
+    n: usize,
+) -> bool
+    requires { (n ≤ name_rows) × Counted nums.now }
     ensures { result ≡ up_to (name_tests names.now nums.now ticks.now index.now) n }
 {
     for i in 0..n {
@@ -150,7 +156,7 @@ fn names_ok(names: &[u8], nums: &[u32], ticks: &[u64], index: &[u32; PLACE_ROWS]
     true
 }
 
-fn instances_ok(nums: &[u32], n: usize) -> bool
+fn instances_ok(nums: &[u32; NUMS_SIZE], n: usize) -> bool
     requires { (n ≤ instance_rows) × Counted nums.now }
     ensures { result ≡ up_to (instance_ok nums.now) n }
 {
@@ -164,8 +170,7 @@ fn instances_ok(nums: &[u32], n: usize) -> bool
 
 // Whether every entry is in its range. The counts are tested first, since they tell how many rows there are to test. The index is right where each row is where it belongs and as many
 // places are taken as there are rows.
-fn in_range(names: &[u8], nums: &[u32], ticks: &[u64]) -> bool
-    requires { Sized names.now nums.now ticks.now }
+fn in_range(names: &[u8; NAMES_SIZE], nums: &[u32; NUMS_SIZE], ticks: &[u64; TICKS_SIZE]) -> bool
     ensures { result ≡ in_range names.now nums.now ticks.now }
 {
     if !counts_ok(nums) {
@@ -184,8 +189,14 @@ fn in_range(names: &[u8], nums: &[u32], ticks: &[u64]) -> bool
 pub fn table_answer(names: &[u8], nums: &[u32], ticks: &[u64]) -> u32
     ensures { result ≡ table_answer names.now nums.now ticks.now }
 {
-    if !sized(names.len(), nums.len(), ticks.len()) {
+    let Some(names) = names.as_array::<NAMES_SIZE>() else {
         return 15;
-    }
+    };
+    let Some(nums) = nums.as_array::<NUMS_SIZE>() else {
+        return 15;
+    };
+    let Some(ticks) = ticks.as_array::<TICKS_SIZE>() else {
+        return 15;
+    };
     if in_range(names, nums, ticks) { 0 } else { 16 }
 }

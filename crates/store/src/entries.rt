@@ -1,14 +1,12 @@
 // Single stores: the entries of a name, of an instance, of a core or semaphore. A row past the end of its column is not stored.
-ghost use Rattle.std.specs.Prelude.{◌≡◌, length};
-ghost use Rattle.tables.specs.Entry.{names_size, nums_size, ticks_size};
+ghost use Rattle.std.specs.Prelude.{◌≡◌};
 ghost use Rattle.store.specs.Store.{store_name, store_row, store_sums, store_instance, store_standing, store_holder, store_number, store_activation};
 
 use tables::entry::*;
 use text::put::put_bytes;
 
 // The bytes of a new name.
-pub(crate) fn store_name(names: &mut [u8], i: usize, name: &[u8])
-    requires { length names.old ≡ names_size }
+pub(crate) fn store_name(names: &mut [u8; NAMES_SIZE], i: usize, name: &[u8])
     ensures { names.new ≡ store_name names.old i name.now }
 {
     if NAME_ROWS <= i {
@@ -18,8 +16,7 @@ pub(crate) fn store_name(names: &mut [u8], i: usize, name: &[u8])
 }
 
 // The numbers of a new name.
-pub(crate) fn store_row(nums: &mut [u32], i: usize, kind: u32, n: usize)
-    requires { length nums.old ≡ nums_size }
+pub(crate) fn store_row(nums: &mut [u32; NUMS_SIZE], i: usize, kind: u32, n: usize)
     ensures { nums.new ≡ store_row nums.old i kind n }
 {
     if NAME_ROWS <= i {
@@ -34,8 +31,7 @@ pub(crate) fn store_row(nums: &mut [u32], i: usize, kind: u32, n: usize)
 }
 
 // The ticks of a new name.
-pub(crate) fn store_sums(ticks: &mut [u64], i: usize, unknown: u64, since: u64)
-    requires { length ticks.old ≡ ticks_size }
+pub(crate) fn store_sums(ticks: &mut [u64; TICKS_SIZE], i: usize, unknown: u64, since: u64)
     ensures { ticks.new ≡ store_sums ticks.old i unknown since }
 {
     if NAME_ROWS <= i {
@@ -48,8 +44,13 @@ pub(crate) fn store_sums(ticks: &mut [u64], i: usize, unknown: u64, since: u64)
 }
 
 // An instance.
-pub(crate) fn store_instance(nums: &mut [u32], j: usize, owner: usize, number: u32, state: u32)
-    requires { length nums.old ≡ nums_size }
+pub(crate) fn store_instance(
+    nums: &mut [u32; NUMS_SIZE],
+    j: usize,
+    owner: usize,
+    number: u32,
+    state: u32,
+)
     ensures { nums.new ≡ store_instance nums.old j owner number state }
 {
     if INSTANCE_ROWS <= j {
@@ -64,8 +65,7 @@ pub(crate) fn store_instance(nums: &mut [u32], j: usize, owner: usize, number: u
 }
 
 // A state of a semaphore or core.
-pub(crate) fn store_standing(nums: &mut [u32], i: usize, standing: u32)
-    requires { length nums.old ≡ nums_size }
+pub(crate) fn store_standing(nums: &mut [u32; NUMS_SIZE], i: usize, standing: u32)
     ensures { nums.new ≡ store_standing nums.old i standing }
 {
     if NAME_ROWS <= i {
@@ -75,8 +75,7 @@ pub(crate) fn store_standing(nums: &mut [u32], i: usize, standing: u32)
 }
 
 // The holder of a core: the row of its name, and its number.
-pub(crate) fn store_holder(nums: &mut [u32], i: usize, p: usize, number: u32)
-    requires { length nums.old ≡ nums_size }
+pub(crate) fn store_holder(nums: &mut [u32; NUMS_SIZE], i: usize, p: usize, number: u32)
     ensures { nums.new ≡ store_holder nums.old i p number }
 {
     if NAME_ROWS <= i {
@@ -90,8 +89,7 @@ pub(crate) fn store_holder(nums: &mut [u32], i: usize, p: usize, number: u32)
 }
 
 // A last number or count.
-pub(crate) fn store_number(nums: &mut [u32], i: usize, n: u32)
-    requires { length nums.old ≡ nums_size }
+pub(crate) fn store_number(nums: &mut [u32; NUMS_SIZE], i: usize, n: u32)
     ensures { nums.new ≡ store_number nums.old i n }
 {
     if NAME_ROWS <= i {
@@ -102,8 +100,7 @@ pub(crate) fn store_number(nums: &mut [u32], i: usize, n: u32)
 }
 
 // The number of an activation or start, the first one too.
-pub(crate) fn store_activation(nums: &mut [u32], i: usize, n: u32)
-    requires { length nums.old ≡ nums_size }
+pub(crate) fn store_activation(nums: &mut [u32; NUMS_SIZE], i: usize, n: u32)
     ensures { nums.new ≡ store_activation nums.old i n }
 {
     if NAME_ROWS <= i {

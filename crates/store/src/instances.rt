@@ -1,6 +1,5 @@
 // What is kept of an event's instance: its row is stored, or given back once it has terminated and its number alone tells that.
-ghost use Rattle.std.specs.Prelude.{◌≡◌, length};
-ghost use Rattle.tables.specs.Entry.{nums_size};
+ghost use Rattle.std.specs.Prelude.{◌≡◌};
 ghost use Rattle.store.specs.Store.{needs_row, put_row, given_back, with_entry};
 
 use crate::entries::store_instance;
@@ -9,8 +8,7 @@ use steps::numbers::*;
 use tables::entry::*;
 
 // Whether an instance of the name in row i needs a row: not where it is TERMINATED and numbered as the first activation or above it.
-fn needs_row(nums: &[u32], i: usize, number: u32, state: u32) -> bool
-    requires { length nums.now ≡ nums_size }
+fn needs_row(nums: &[u32; NUMS_SIZE], i: usize, number: u32, state: u32) -> bool
     ensures { result ≡ needs_row nums.now i number state }
 {
     if state != IS_TERMINATED {
@@ -26,8 +24,7 @@ fn needs_row(nums: &[u32], i: usize, number: u32, state: u32) -> bool
 }
 
 // An instance in the row found, or in the next one, which is counted where there is one.
-fn put_row(nums: &mut [u32], row: Option<usize>, i: usize, number: u32, state: u32)
-    requires { length nums.old ≡ nums_size }
+fn put_row(nums: &mut [u32; NUMS_SIZE], row: Option<usize>, i: usize, number: u32, state: u32)
     ensures { nums.new ≡ put_row nums.old row i number state }
 {
     if let Some(j) = row {
@@ -43,8 +40,7 @@ fn put_row(nums: &mut [u32], row: Option<usize>, i: usize, number: u32, state: u
 }
 
 // The row j given back: the last row moves into it. A core names its holder by name and number, so nothing else moves.
-fn give_back(nums: &mut [u32], j: usize)
-    requires { length nums.old ≡ nums_size }
+fn give_back(nums: &mut [u32; NUMS_SIZE], j: usize)
     ensures { nums.new ≡ given_back nums.old j }
 {
     let n = nums[INSTANCES];
@@ -69,14 +65,13 @@ fn give_back(nums: &mut [u32], j: usize)
 
 // What is kept of the event's instance, of the name in row i.
 pub(crate) fn store_entry(
-    nums: &mut [u32],
+    nums: &mut [u32; NUMS_SIZE],
     row: Option<usize>,
     i: usize,
     kind: u32,
     number: u32,
     state: u32,
 )
-    requires { length nums.old ≡ nums_size }
     ensures { nums.new ≡ with_entry nums.old row i kind number state }
 {
     if !with_instances(kind) {

@@ -1,7 +1,6 @@
 // The numbers and states after an event line.
-ghost use Rattle.std.specs.Prelude.{◌≡◌, length};
+ghost use Rattle.std.specs.Prelude.{◌≡◌};
 ghost use Rattle.rules.specs.Lines.{event_from};
-ghost use Rattle.tables.specs.Entry.{nums_size};
 ghost use Rattle.store.specs.Store.{with_rows, with_target, with_core, with_counts, taken_entries, taken_nums};
 
 use crate::entries::{store_activation, store_holder, store_number, store_row, store_standing};
@@ -18,8 +17,7 @@ use tables::entry::*;
 use words::code::action_code;
 
 // The numbers of the names that the line adds; n and m are the lengths of its source and target.
-fn store_rows(nums: &mut [u32], s: LookedUp, kind: u32, n: usize, m: usize)
-    requires { length nums.old ≡ nums_size }
+fn store_rows(nums: &mut [u32; NUMS_SIZE], s: LookedUp, kind: u32, n: usize, m: usize)
     ensures { nums.new ≡ with_rows nums.old s kind n m }
 {
     let at = nums[NAMES] as usize;
@@ -34,7 +32,7 @@ fn store_rows(nums: &mut [u32], s: LookedUp, kind: u32, n: usize, m: usize)
 
 // What the event's target is from now on: a semaphore's state and count, the number of an activation.
 fn store_target(
-    nums: &mut [u32],
+    nums: &mut [u32; NUMS_SIZE],
     i: usize,
     state: u32,
     kind: u32,
@@ -42,7 +40,6 @@ fn store_target(
     number: u32,
     count: u32,
 )
-    requires { length nums.old ≡ nums_size }
     ensures { nums.new ≡ with_target nums.old i state kind word number count }
 {
     if kind == SEMAPHORE {
@@ -56,8 +53,7 @@ fn store_target(
 }
 
 // What the core is from now on.
-fn store_core(nums: &mut [u32], class: u32, i: usize, p: usize, number: u32)
-    requires { length nums.old ≡ nums_size }
+fn store_core(nums: &mut [u32; NUMS_SIZE], class: u32, i: usize, p: usize, number: u32)
     ensures { nums.new ≡ with_core nums.old class i p number }
 {
     if class == NO_CORE {
@@ -71,8 +67,7 @@ fn store_core(nums: &mut [u32], class: u32, i: usize, p: usize, number: u32)
 }
 
 // One line and so many names and cores more, and an event was taken.
-fn store_counts(nums: &mut [u32], names: u32, cores: u32)
-    requires { length nums.old ≡ nums_size }
+fn store_counts(nums: &mut [u32; NUMS_SIZE], names: u32, cores: u32)
     ensures { nums.new ≡ with_counts nums.old names cores }
 {
     nums[LINES] = wrapping_add_u32(nums[LINES], 1);
@@ -83,7 +78,7 @@ fn store_counts(nums: &mut [u32], names: u32, cores: u32)
 
 // All after an event line but the places of new names.
 fn take_entries(
-    nums: &mut [u32],
+    nums: &mut [u32; NUMS_SIZE],
     s: LookedUp,
     state: u32,
     e: Event,
@@ -91,7 +86,6 @@ fn take_entries(
     source: &[u8],
     target: &[u8],
 )
-    requires { length nums.old ≡ nums_size }
     ensures { nums.new ≡ taken_entries nums.old s state (event_from e source.now target.now count) }
 {
     let e_kind = e.kind;
@@ -112,7 +106,7 @@ fn take_entries(
 
 // The numbers and states after an event line.
 pub(crate) fn take_nums(
-    nums: &mut [u32],
+    nums: &mut [u32; NUMS_SIZE],
     s: LookedUp,
     state: u32,
     e: Event,
@@ -120,7 +114,6 @@ pub(crate) fn take_nums(
     source: &[u8],
     target: &[u8],
 )
-    requires { length nums.old ≡ nums_size }
     ensures { nums.new ≡ taken_nums nums.old s state (event_from e source.now target.now count) }
 {
     let e_kind = e.kind;

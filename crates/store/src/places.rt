@@ -1,6 +1,6 @@
 // The places of new names in the index.
 ghost use Rattle.std.specs.Prelude.{◌≡◌, ◌<◌, length, MatchOption};
-ghost use Rattle.tables.specs.Entry.{nums_size, place_rows};
+ghost use Rattle.tables.specs.Entry.{place_rows};
 ghost use Rattle.index.specs.Index.{free};
 ghost use Rattle.store.specs.Store.{store_place, with_places};
 
@@ -24,8 +24,8 @@ fn free_place(index: &[u32], home: usize) -> Option<usize>
 }
 
 // The row of a new name goes into the index.
-fn store_place(nums: &mut [u32], i: usize, home: usize)
-    requires { (length nums.old ≡ nums_size) × (home < place_rows) }
+fn store_place(nums: &mut [u32; NUMS_SIZE], i: usize, home: usize)
+    requires { home < place_rows }
     ensures { nums.new ≡ store_place nums.old i home }
 {
     if NAME_ROWS <= i {
@@ -38,7 +38,7 @@ fn store_place(nums: &mut [u32], i: usize, home: usize)
 
 // The places of the names that the line adds, in the rows i and p.
 pub(crate) fn store_places(
-    nums: &mut [u32],
+    nums: &mut [u32; NUMS_SIZE],
     s: LookedUp,
     kind: u32,
     i: usize,
@@ -46,7 +46,6 @@ pub(crate) fn store_places(
     source: &[u8],
     target: &[u8],
 )
-    requires { length nums.old ≡ nums_size }
     ensures { nums.new ≡ with_places nums.old s kind i p source.now target.now }
 {
     if new_core(s) == 1 {

@@ -1,6 +1,5 @@
 // The rows of an event line's names: those that were found, and otherwise the next ones.
-ghost use Rattle.std.specs.Prelude.{◌≡◌, length};
-ghost use Rattle.tables.specs.Entry.{nums_size};
+ghost use Rattle.std.specs.Prelude.{◌≡◌};
 ghost use Rattle.lookup.specs.LookedUp.{new_core, new_name};
 ghost use Rattle.store.specs.Store.{core_row, target_row};
 
@@ -25,8 +24,7 @@ pub(crate) fn new_name(s: LookedUp, kind: u32) -> u32
 }
 
 // The row of the line's core, found or the next one.
-pub(crate) fn core_row(nums: &[u32], s: LookedUp) -> usize
-    requires { length nums.now ≡ nums_size }
+pub(crate) fn core_row(nums: &[u32; NUMS_SIZE], s: LookedUp) -> usize
     ensures { result ≡ core_row nums.now s }
 {
     let row = s.source;
@@ -37,8 +35,7 @@ pub(crate) fn core_row(nums: &[u32], s: LookedUp) -> usize
 }
 
 // The row of the line's target, found or the next one after its core's.
-pub(crate) fn target_row(nums: &[u32], s: LookedUp) -> usize
-    requires { length nums.now ≡ nums_size }
+pub(crate) fn target_row(nums: &[u32; NUMS_SIZE], s: LookedUp) -> usize
     ensures { result ≡ target_row nums.now s }
 {
     let row = s.target;

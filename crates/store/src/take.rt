@@ -1,8 +1,7 @@
 // What taking an event line stores. Nothing is decided here.
-ghost use Rattle.std.specs.Prelude.{◌≡◌, length};
+ghost use Rattle.std.specs.Prelude.{◌≡◌};
 ghost use Rattle.rules.specs.Lines.{event_from};
-ghost use Rattle.tables.specs.Entry.{tables, names_size, nums_size};
-ghost use Rattle.tables.specs.Sized.{Sized};
+ghost use Rattle.tables.specs.Entry.{tables};
 ghost use Rattle.store.specs.Store.{taken_names, taken_tables, stored};
 
 use crate::entries::store_name;
@@ -13,11 +12,16 @@ use line::event::Event;
 use lookup::look::LookedUp;
 use steps::lines::kind_number;
 use tables::entry::*;
-use tables::size::sized;
 
 // The bytes of the names that the line adds.
-fn take_names(names: &mut [u8], nums: &[u32], s: LookedUp, kind: u32, source: &[u8], target: &[u8])
-    requires { (length names.old ≡ names_size) × (length nums.now ≡ nums_size) }
+fn take_names(
+    names: &mut [u8; NAMES_SIZE],
+    nums: &[u32; NUMS_SIZE],
+    s: LookedUp,
+    kind: u32,
+    source: &[u8],
+    target: &[u8],
+)
     ensures { names.new ≡ taken_names names.old nums.now s kind source.now target.now }
 {
     let at = nums[NAMES] as usize;
@@ -32,9 +36,9 @@ fn take_names(names: &mut [u8], nums: &[u32], s: LookedUp, kind: u32, source: &[
 
 // The three tables after an event line: names and ticks first, since they ask nums for the rows as they were.
 fn take_in(
-    names: &mut [u8],
-    nums: &mut [u32],
-    ticks: &mut [u64],
+    names: &mut [u8; NAMES_SIZE],
+    nums: &mut [u32; NUMS_SIZE],
+    ticks: &mut [u64; TICKS_SIZE],
     s: LookedUp,
     state: u32,
     e: Event,
@@ -42,7 +46,6 @@ fn take_in(
     source: &[u8],
     target: &[u8],
 )
-    requires { Sized names.old nums.old ticks.old }
     ensures { tables names.new nums.new ticks.new
         ≡ taken_tables (tables names.old nums.old ticks.old) s state
         (event_from e source.now target.now count) }
@@ -70,8 +73,14 @@ pub fn take(
         ≡ stored (tables names.old nums.old ticks.old) s state
         (event_from e source.now target.now count) }
 {
-    if !sized(names.len(), nums.len(), ticks.len()) {
+    let Some(names) = names.as_mut_array::<NAMES_SIZE>() else {
         return;
-    }
+    };
+    let Some(nums) = nums.as_mut_array::<NUMS_SIZE>() else {
+        return;
+    };
+    let Some(ticks) = ticks.as_mut_array::<TICKS_SIZE>() else {
+        return;
+    };
     take_in(names, nums, ticks, s, state, e, count, source, target);
 }

@@ -1,6 +1,5 @@
 // The times and ticks after an event line.
-ghost use Rattle.std.specs.Prelude.{◌≡◌, ◌-◌, length, if◌then◌else◌, nat_eq};
-ghost use Rattle.tables.specs.Entry.{nums_size, ticks_size};
+ghost use Rattle.std.specs.Prelude.{◌≡◌, ◌-◌, if◌then◌else◌, nat_eq};
 ghost use Rattle.store.specs.Store.{settled, with_times, with_sums, taken_ticks};
 
 use crate::entries::store_sums;
@@ -31,8 +30,13 @@ fn before_tracked(started: u32, first: u64, time: u64) -> u64
 }
 
 // The ticks of the names that the line adds: those of a core before it was tracked are unknown.
-fn store_all_sums(ticks: &mut [u64], nums: &[u32], s: LookedUp, kind: u32, time: u64)
-    requires { (length nums.now ≡ nums_size) × (length ticks.old ≡ ticks_size) }
+fn store_all_sums(
+    ticks: &mut [u64; TICKS_SIZE],
+    nums: &[u32; NUMS_SIZE],
+    s: LookedUp,
+    kind: u32,
+    time: u64,
+)
     ensures { ticks.new ≡ with_sums ticks.old nums.now s kind time }
 {
     let at = nums[NAMES] as usize;
@@ -47,8 +51,7 @@ fn store_all_sums(ticks: &mut [u64], nums: &[u32], s: LookedUp, kind: u32, time:
 }
 
 // The ticks since a core's last change go to its sum, and those it was held to its holder's charge.
-fn settle(ticks: &mut [u64], class: u32, i: usize, p: usize, time: u64)
-    requires { length ticks.old ≡ ticks_size }
+fn settle(ticks: &mut [u64; TICKS_SIZE], class: u32, i: usize, p: usize, time: u64)
     ensures { ticks.new ≡ settled ticks.old class i p time }
 {
     if NAME_ROWS <= i {
@@ -72,8 +75,7 @@ fn settle(ticks: &mut [u64], class: u32, i: usize, p: usize, time: u64)
 }
 
 // The last time, and at the first event the first.
-fn store_times(ticks: &mut [u64], started: u32, time: u64)
-    requires { length ticks.old ≡ ticks_size }
+fn store_times(ticks: &mut [u64; TICKS_SIZE], started: u32, time: u64)
     ensures { ticks.new ≡ with_times ticks.old started time }
 {
     if started == 0 {
@@ -83,8 +85,13 @@ fn store_times(ticks: &mut [u64], started: u32, time: u64)
 }
 
 // The times and ticks after an event line.
-pub(crate) fn take_ticks(ticks: &mut [u64], nums: &[u32], s: LookedUp, kind: u32, time: u64)
-    requires { (length nums.now ≡ nums_size) × (length ticks.old ≡ ticks_size) }
+pub(crate) fn take_ticks(
+    ticks: &mut [u64; TICKS_SIZE],
+    nums: &[u32; NUMS_SIZE],
+    s: LookedUp,
+    kind: u32,
+    time: u64,
+)
     ensures { ticks.new ≡ taken_ticks ticks.old nums.now s kind time }
 {
     let i = core_row(nums, s);

@@ -9,25 +9,31 @@ use Rattle.lookup.proofs.Found.{last_end}
 use Rattle.lookup.proofs.Gathered.{front_marked, last_marked, last_unmarked, instance_below}
 use Rattle.lookup.proofs.find.find_instance.Goals as goal
 
-pub returns-then-nums-ne-NUMS_SIZE : goal.returns-then-nums-ne-NUMS_SIZE
+pub returns-in_default : goal.returns-in_default
 unfolding find_instance
-returns-then-nums-ne-NUMS_SIZE c = rw (ne_eqb _ _ c.if-nums-ne-NUMS_SIZE.true)
+returns-in_default c = rw (ne_eqb _ _ c.in_default.ensures.cases)
 
 pub returns-then-n-eq0 : goal.returns-then-n-eq0
-returns-then-n-eq0 c = sym (instance_below _ _ _ c.rows-n.result c.if-nums-ne-NUMS_SIZE.false c.rows-n.ensures ∙ last_end _ _ (omega arith))
+returns-then-n-eq0 c =
+    let array = c.in-Some.ensures.cases in
+    rw (← array.same) (sym (instance_below c.in-Some.nums.now _ _ c.rows-n.result (omega arith) c.rows-n.ensures ∙ last_end _ _ (omega arith)))
 
 pub returns-then-m-ne0 : goal.returns-then-m-ne0
 returns-then-m-ne0 c =
+    let array = c.in-Some.ensures.cases in
     let n = c.rows-n.result in
     let at = (n - 1) / 16 * 16 in
     let marks = front_marked _ (n - at) at c.sixteen.result (omega arith) c.sixteen.ensures in
-    sym (instance_below _ _ _ n c.if-nums-ne-NUMS_SIZE.false c.rows-n.ensures
-    ∙ last_marked _ (n - at) at n _ (omega arith) marks (omega arith) c.if-m-ne0.true ∙ sym c.last_of.ensures)
+    rw (← array.same)
+    (sym (instance_below c.in-Some.nums.now _ _ n (omega arith) c.rows-n.ensures
+    ∙ last_marked _ (n - at) at n _ (omega arith) marks (omega arith) c.if-m-ne0.true ∙ sym c.last_of.ensures))
 
 pub returns : goal.returns
 returns c =
+    let array = c.in-Some.ensures.cases in
     let n = c.rows-n.result in
     let at = (n - 1) / 16 * 16 in
     let marks = front_marked _ (n - at) at c.sixteen.result (omega arith) c.sixteen.ensures in
-    sym (instance_below _ _ _ n c.if-nums-ne-NUMS_SIZE.false c.rows-n.ensures
-    ∙ last_unmarked _ (n - at) at n _ (omega arith) marks c.if-m-ne0.false ∙ sym c.find_below.ensures)
+    rw (← array.same)
+    (sym (instance_below c.in-Some.nums.now _ _ n (omega arith) c.rows-n.ensures
+    ∙ last_unmarked _ (n - at) at n _ (omega arith) marks c.if-m-ne0.false ∙ sym c.find_below.ensures))

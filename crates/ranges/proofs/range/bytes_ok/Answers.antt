@@ -1,17 +1,11 @@
 -- `ranges::range::bytes_ok` meets its contract: at each exit the tests passed say what the definition's tests say.
 use mathlib.Core.Path.{ap, ◌∙◌}
-use Prim.Native.Nat.{◌+◌}
-use native.Mathlib.Omega.{arith}
 use borrow.Author.Tests.{le-leb, lt-leb}
 use Rattle.text.specs.Name.{is_name}
-use Rattle.tables.specs.Entry.{length_column}
 use Rattle.tables.proofs.Chains.{pass, stop}
 use Rattle.tables.proofs.NameBytes.{lent_name}
 use Rattle.ranges.specs.Range.{bytes_ok}
 use Rattle.ranges.proofs.range.bytes_ok.Goals as goal
-
-pub overflow_cast-n : goal.overflow_cast-n
-overflow_cast-n c = omega (arith, c.type_inv.nums (length_column.base + c.args.i))
 
 pub returns-then-n-gt-NAME_ROOM : goal.returns-then-n-gt-NAME_ROOM
 unfolding bytes_ok

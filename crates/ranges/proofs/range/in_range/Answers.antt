@@ -3,9 +3,9 @@ use mathlib.Core.Path.{◌≡◌, sym, ap, ◌∙◌}
 use mathlib.Core.Bool.{true, ◌&&◌, and-false}
 use mathlib.Core.List.{List}
 use Prim.Native.Nat.{ℕ}
-use lib.ListN.{length}
+use native.Mathlib.Omega.{arith}
 use borrow.Author.Rules.{rules}
-use Rattle.tables.specs.Entry.{nums_size, instance_count, places}
+use Rattle.tables.specs.Entry.{instance_count, places}
 use Rattle.index.proofs.Indexes.{last_places}
 use Rattle.ranges.specs.Range.{Counted, counts_ok, line_level_ok, times_ok, instance_ok, up_to, in_range}
 use Rattle.ranges.proofs.Valid.{counts_mean}
@@ -13,8 +13,8 @@ use Rattle.ranges.proofs.Tested.{index_tested}
 use Rattle.ranges.proofs.range.in_range.Goals as goal
 
 -- how many names and instances there are, once their counts are tested
-few : (nums : List ℕ) → length nums ≡ nums_size → counts_ok nums ≡ true → Counted nums
-few nums size e = let h = (counts_mean nums).holds e in record { size = size; names = h.1.0; instances = h.1.1.1 }
+few : (nums : List ℕ) → counts_ok nums ≡ true → Counted nums
+few nums e = let h = (counts_mean nums).holds e in record { names = h.1.0; instances = h.1.1.1 }
 
 pub returns-then-not-counts_ok : goal.returns-then-not-counts_ok
 unfolding in_range
@@ -22,26 +22,26 @@ returns-then-not-counts_ok c = rw (← c.counts_ok.ensures, c.if-not-counts_ok.t
 
 pub overflow_cast-n : goal.overflow_cast-n
 overflow_cast-n c =
-    let h = few _ c.requires.nums_sized (sym c.counts_ok.ensures ∙ c.if-not-counts_ok.false) in search rules
+    let h = few _ (sym c.counts_ok.ensures ∙ c.if-not-counts_ok.false) in search rules
 
 pub overflow_cast-m : goal.overflow_cast-m
 overflow_cast-m c =
-    let h = few _ c.requires.nums_sized (sym c.counts_ok.ensures ∙ c.if-not-counts_ok.false) in search rules
+    let h = few _ (sym c.counts_ok.ensures ∙ c.if-not-counts_ok.false) in search rules
 
 pub names_ok-requires : goal.names_ok-requires
 names_ok-requires c =
-    let h = few _ c.requires.nums_sized (sym c.counts_ok.ensures ∙ c.if-not-counts_ok.false) in search rules
+    let h = few _ (sym c.counts_ok.ensures ∙ c.if-not-counts_ok.false) in search rules
 
 pub instances_ok-requires : goal.instances_ok-requires
 instances_ok-requires c =
-    let h = few _ c.requires.nums_sized (sym c.counts_ok.ensures ∙ c.if-not-counts_ok.false) in search rules
+    let h = few _ (sym c.counts_ok.ensures ∙ c.if-not-counts_ok.false) in search rules
 
 pub returns : goal.returns
 unfolding in_range
 returns c =
     let a = c.args in
     let counted = sym c.counts_ok.ensures ∙ c.if-not-counts_ok.false in
-    let index : c.in-Some.index.now ≡ places a.nums.now = last_places a.nums.now c.in-Some.index.now c.requires.nums_sized (c.in-Some.ensures.cases).1.same in
+    let index : c.in-Some.index.now ≡ places a.nums.now = last_places a.nums.now c.in-Some.index.now (omega arith) (c.in-Some.ensures.cases).1.same in
     rw (
       c.line_level_ok.ensures,
       c.times_ok.ensures,
@@ -52,4 +52,4 @@ returns c =
       counted,
     )
     (ap (λ b. line_level_ok a.nums.now && (times_ok a.ticks.now && b))
-    (index_tested a.names.now a.nums.now a.ticks.now (few _ c.requires.nums_sized counted) (up_to (instance_ok a.nums.now) (instance_count a.nums.now))))
+    (index_tested a.names.now a.nums.now a.ticks.now (omega arith) (few _ counted) (up_to (instance_ok a.nums.now) (instance_count a.nums.now))))

@@ -14,7 +14,7 @@ returns-then-not-name_ok c = sym (up_not _ _ _ c.loop-i-test.true (sym (stop _ (
 pub home_at-home-requires : goal.home_at-home-requires
 home_at-home-requires c =
     let row = (name_mean c.args.names.now c.args.nums.now c.args.ticks.now c.loop-i.i).holds (sym c.name_ok.ensures ∙ c.if-not-name_ok.false) in
-    (c.requires.1.0.names_sized, (c.requires.1.0.nums_sized, (omega (arith, c.requires.0), row.length_most)))
+    (omega (arith, c.requires.0), row.length_most)
 
 pub row_placed-requires : goal.row_placed-requires
 row_placed-requires c =

@@ -1,5 +1,5 @@
 -- `store::entries::store_number` meets its contract: two stores where the row is one of a name.
-use Rattle.std.proofs.Common.{arith, length-set, le-ltb, lt-ltb}
+use Rattle.std.proofs.Common.{le-ltb, lt-ltb}
 use Rattle.tables.specs.Entry.{name_rows}
 use Rattle.store.specs.Store.{store_number}
 use Rattle.store.proofs.entries.store_number.Goals as goal
@@ -7,10 +7,6 @@ use Rattle.store.proofs.entries.store_number.Goals as goal
 pub returns-then-i-ge-NAME_ROWS : goal.returns-then-i-ge-NAME_ROWS
 unfolding store_number
 returns-then-i-ge-NAME_ROWS c = rw (le-ltb _ name_rows c.if-i-ge-NAME_ROWS.true)
-
-pub bounds-nums-i-2 : goal.bounds-nums-i-2
-unfolding store_number
-bounds-nums-i-2 c = simp length-set (omega arith)
 
 pub returns : goal.returns
 unfolding store_number

@@ -7,11 +7,11 @@ use Rattle.store.proofs.places.store_places.Goals as goal
 use Rattle.store.proofs.places.store_places.Goals.{then-new_core-eq1, else-new_core-eq1}
 
 pub store_place-requires : goal.store_place-requires
-store_place-requires c = (c.requires, omega (arith, c.home_of.ensures, home_lt c.args.source.now))
+store_place-requires c = omega (arith, c.home_of.ensures, home_lt c.args.source.now)
 
 pub store_place-requires-then-new_name-eq1 : goal.store_place-requires-then-new_name-eq1
 store_place-requires-then-new_name-eq1 c =
-    (c.if-new_core-eq1.auto.nums ∙ c.requires, omega (arith, c.home_of-then-new_name-eq1.ensures, home_lt c.args.target.now))
+    omega (arith, c.home_of-then-new_name-eq1.ensures, home_lt c.args.target.now)
 
 pub returns-then-new_name-eq1 : goal.returns-then-new_name-eq1
 unfolding with_places
