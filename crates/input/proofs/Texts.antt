@@ -1,5 +1,5 @@
 -- The text of what came in reads is at the front of the output, and it always fits.
-use mathlib.Core.Path.{◌≡◌, sym, ap, subst, ◌∙◌}
+use mathlib.Core.Path.{◌≡◌, refl, sym, ap, subst, ◌∙◌}
 use mathlib.Core.List.{List}
 use Rattle.std.specs.Prelude.{Some, Result, Ok, Err}
 use Prim.Native.Nat.{ℕ, ◌≤◌}
@@ -42,7 +42,16 @@ module _ {t : Tables} (b : List ℕ) (u : Tables) (c : List ℕ) (start : t ≡ 
   pub all_came : {n : ℕ} → i ≡ Ok n → Came n fresh_tables u
   all_came e = rw e at from_fresh.leaves
 
-  -- a read failed: fresh tables are in range, and the buffer has its size, so that nothing is refused
+  -- fresh tables are in range, and the buffer has its size, so that nothing is refused: whatever error there is, a read failed
+  pub none_refused : length b ≡ buffer_size → (e : ReadError) → i ≡ Err e → e ≡ Failed
+  none_refused sized e q = by_error e (subst (λ (x : Result ℕ ReadError). Taken x fresh_tables b u c) q from_fresh)
+    where
+      by_error : (e : ReadError) → Taken (Err e) fresh_tables b u c → e ≡ Failed
+      by_error Failed v = refl
+      by_error WrongSize v = absurd (omega (arith, v.number, fresh_taken b sized))
+      by_error OutOfRange v = absurd (omega (arith, v.number, fresh_taken b sized))
+
+  -- so it is answered
   pub not_read : {e : ReadError} {l m : Lent} → length b ≡ buffer_size → lent_refusal l ≡ 0 → m.tables ≡ u → m.output ≡ l.output → i ≡ Err e → Answered (Err e) l m
   not_read {e} {l} {m} sized right same out q = by_error e (subst (λ (x : Result ℕ ReadError). Taken x fresh_tables b u c) q from_fresh)
     where

@@ -1,5 +1,6 @@
 -- The tables start fresh, so nothing is refused; where all reads went well, the text fits.
-use Rattle.std.proofs.Common.{refl}
+use Rattle.std.proofs.Common.{refl, ap}
+use Rattle.text.specs.Refusal.{numbered}
 use Rattle.input.specs.Whole.{lent}
 use Rattle.input.proofs.Sizes.{sizes_right, handed_on}
 use Rattle.input.proofs.Texts.{fresh_start, all_came, not_read, told, always_fits, answered_text}
@@ -19,11 +20,11 @@ returns-in_default g c =
     let a = c.args in
     let sizes = sizes_right (lent a.names.now a.nums.now a.ticks.now a.buf.now a.out.now) c.requires in
     let came = all_came _ _ _ (fresh_start sizes.0 c.fresh.ensures) c.read_all.ensures c.in_ok-bytes.was in
-    absurd (always_fits came _ sizes.1.1 c.report.ensures c.in_default.is)
+    absurd (always_fits came _ sizes.1.1 c.report.ensures (ap numbered c.in_default.is))
 
 pub returns : goal.returns
 returns g c =
     let a = c.args in
     let sizes = sizes_right (lent a.names.now a.nums.now a.ticks.now a.buf.now a.out.now) c.requires in
     let came = all_came _ _ _ (fresh_start sizes.0 c.fresh.ensures) c.read_all.ensures c.in_ok-bytes.was in
-    answered_text c.requires (told came _ sizes.1.1 c.report.ensures refl c.in-Ok.is)
+    answered_text c.requires (told came _ sizes.1.1 c.report.ensures refl (ap numbered c.in-Ok.is))
