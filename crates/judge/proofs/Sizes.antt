@@ -95,7 +95,3 @@ judged_lines_alike t (l ∷ ls) = chain (judged_line_alike t l) (judged_lines_al
 
 pub fresh_sized : {t : Tables} → t ≡ fresh_tables → Sized t.names t.nums t.ticks
 fresh_sized e = rw e fresh_valid.sizes
-
--- what a call left is as its contract says
-pub left_alike : {t : Tables} {x y : After} → x ≡ y → Alike t y.left → Alike t x.left
-left_alike e a = rw e a

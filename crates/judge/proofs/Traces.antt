@@ -7,13 +7,11 @@ use Rattle.walk.proofs.Nexts.{Stepped, Rested, line_step, rest_step}
 use Rattle.fields.specs.Part.{part_from}
 use Rattle.scan.specs.Ahead.{line_from}
 use Rattle.judge.specs.Feed.{Tables, After, AfterChunk, judged_line, fed_next, judged_lines, fed_lines}
-use Rattle.judge.proofs.Sizes.{Alike, chain, left_alike, judged_line_alike}
 
 -- ---- the loop over the lines of a chunk: what is left to do from the index on gives what all lines give; where all of it is one line, nothing is done before
 
 pub record Going (whole : Bool) (t u : Tables) (s : List ℕ) (at : ℕ) : Type 0 where
   pub inside : at ≤ length s
-  pub alike : Alike t u
   pub used : at + used_up (drop at s) ≡ used_up s
   pub lines : judged_lines u (whole_lines (drop at s)) ≡ judged_lines t (whole_lines s)
   pub first : whole ≡ true → (at ≡ 0) × (u ≡ t)
@@ -24,7 +22,6 @@ unfolding judged_lines
 going_on {t} {u} {s} {at} {e} {n} {x} g d p =
     record {
       inside = d.within;
-      alike = chain g.alike (left_alike p (judged_line_alike u (take (e - at) (drop at s))));
       used = sym d.used ∙ g.used;
       lines = rw p (sym (ap (judged_lines u) d.whole) ∙ g.lines);
       first = λ e. absurd (clash false e refl);
@@ -43,12 +40,12 @@ fed_whole t s =
 
 -- a turn of the loop: it ends where all of it is one line, and where the place stays, since nothing is left; else one line more is done
 module _ {t u : Tables} {s : List ℕ} {at : ℕ} {x : AfterChunk} where
-  ends_by : Going false t u s at → (n : Option (ℕ × ℕ)) → next_from s at ≡ n → x ≡ fed_next u s at n → x.fed.used ≡ at → Alike t x.left × (x ≡ fed_lines false t s)
+  ends_by : Going false t u s at → (n : Option (ℕ × ℕ)) → next_from s at ≡ n → x ≡ fed_next u s at n → x.fed.used ≡ at → x ≡ fed_lines false t s
   ends_by g (Some (e, n)) q p h =
       let d = line_step s at e n q in
       let k : n ≡ at = rw p at h in
       let on : ⊥ = omega arith in absurd on
-  ends_by g None q p h = let e = going_end g (rest_step s at q) in (rw p g.alike, rw (p, e.0, e.1))
+  ends_by g None q p h = let e = going_end g (rest_step s at q) in rw (p, e.0, e.1)
 
   goes_by : Going false t u s at → (n : Option (ℕ × ℕ)) → next_from s at ≡ n → x ≡ fed_next u s at n → (x.fed.used ≡ at → ⊥)
       → (at < x.fed.used) × Going false t x.left s x.fed.used
@@ -59,12 +56,11 @@ module _ {t u : Tables} {s : List ℕ} {at : ℕ} {x : AfterChunk} where
       rw p (less, going_on {x = judged_line u (take (e - at) (drop at s))} g d refl)
   goes_by g None q p h = absurd (h (rw p))
 
-  pub loop-ends : (whole : Bool) → Going whole t u s at → x ≡ fed_next u s at (line_from whole s at) → whole || eqb x.fed.used at ≡ true
-      → Alike t x.left × (x ≡ fed_lines whole t s)
+  pub loop-ends : (whole : Bool) → Going whole t u s at → x ≡ fed_next u s at (line_from whole s at) → whole || eqb x.fed.used at ≡ true → x ≡ fed_lines whole t s
   unfolding line_from
   loop-ends true g p h =
       let one = g.first refl in
-      let e : x ≡ fed_lines true t s = p ∙ rw (one.0, one.1) (fed_whole t s) in (rw e (judged_line_alike t s), e)
+      p ∙ rw (one.0, one.1) (fed_whole t s)
   loop-ends false g p h = ends_by g (next_from s at) refl p (eqb-true x.fed.used at h)
 
   pub loop-goes : (whole : Bool) → Going whole t u s at → x ≡ fed_next u s at (line_from whole s at) → whole || eqb x.fed.used at ≡ false

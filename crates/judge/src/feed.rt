@@ -1,7 +1,6 @@
 // What the judge is asked over lent tables, whatever they hold: one line, and the lines of a chunk.
 ghost use Rattle.std.specs.Prelude.{◌≡◌};
 ghost use Rattle.scan.specs.Ahead.{line_from};
-ghost use Rattle.tables.specs.Sized.{Sized};
 ghost use Rattle.judge.specs.Feed.{tables, after, fed_line, fed_next, chunked, fed_lines, fed_chunk};
 
 use crate::one_line::line_in;
@@ -18,14 +17,13 @@ pub struct Fed {
 
 // The next line of a chunk from an index on, and where what stands after it begins; where `whole`, what is left is one line as it stands.
 fn next_in(
-    names: &mut [u8],
-    nums: &mut [u32],
-    ticks: &mut [u64],
+    names: &mut [u8; NAMES_SIZE],
+    nums: &mut [u32; NUMS_SIZE],
+    ticks: &mut [u64; TICKS_SIZE],
     s: &[u8],
     at: usize,
     whole: bool,
 ) -> Fed
-    requires { Sized names.old nums.old ticks.old }
     ensures { chunked result names.new nums.new ticks.new
         ≡ fed_next (tables names.old nums.old ticks.old) s.now at (line_from whole s.now at) }
 {
@@ -45,8 +43,13 @@ fn next_in(
 
 // Every whole line of a chunk in turn, and how many bytes they took; where `whole`, the chunk is one line as it stands, and the answer is the one to it. Reading and judging is
 // called from here alone, so that the compiler can put all of it into this loop.
-fn lines_in(names: &mut [u8], nums: &mut [u32], ticks: &mut [u64], s: &[u8], whole: bool) -> Fed
-    requires { Sized names.old nums.old ticks.old }
+fn lines_in(
+    names: &mut [u8; NAMES_SIZE],
+    nums: &mut [u32; NUMS_SIZE],
+    ticks: &mut [u64; TICKS_SIZE],
+    s: &[u8],
+    whole: bool,
+) -> Fed
     ensures { chunked result names.new nums.new ticks.new
         ≡ fed_lines whole (tables names.old nums.old ticks.old) s.now }
 {
@@ -69,6 +72,15 @@ pub fn feed(names: &mut [u8], nums: &mut [u32], ticks: &mut [u64], l: &[u8]) -> 
     if t != 0 {
         return t;
     }
+    let Some(names) = names.as_mut_array::<NAMES_SIZE>() else {
+        unreachable!()
+    };
+    let Some(nums) = nums.as_mut_array::<NUMS_SIZE>() else {
+        unreachable!()
+    };
+    let Some(ticks) = ticks.as_mut_array::<TICKS_SIZE>() else {
+        unreachable!()
+    };
     let fed = lines_in(names, nums, ticks, l, true);
     fed.answer
 }
@@ -82,6 +94,15 @@ pub fn feed_chunk(names: &mut [u8], nums: &mut [u32], ticks: &mut [u64], chunk: 
     if t != 0 {
         return Fed { answer: t, used: 0 };
     }
+    let Some(names) = names.as_mut_array::<NAMES_SIZE>() else {
+        unreachable!()
+    };
+    let Some(nums) = nums.as_mut_array::<NUMS_SIZE>() else {
+        unreachable!()
+    };
+    let Some(ticks) = ticks.as_mut_array::<TICKS_SIZE>() else {
+        unreachable!()
+    };
     let fed = lines_in(names, nums, ticks, chunk, false);
     Fed {
         answer: nums[VERDICT],

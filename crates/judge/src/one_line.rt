@@ -1,9 +1,8 @@
 // One line against tables of the right sizes: answered in its place, and then counted, stored or remembered as refused.
-ghost use Rattle.std.specs.Prelude.{◌≡◌, ◌<◌, length, slice_set};
+ghost use Rattle.std.specs.Prelude.{◌≡◌, ◌<◌, slice_set};
 ghost use Rattle.fields.specs.Part.{commas_of};
 ghost use Rattle.line.specs.Reading.{read_line, split_line};
 ghost use Rattle.tables.specs.Entry.{nums_size};
-ghost use Rattle.tables.specs.Sized.{Sized};
 ghost use Rattle.judge.specs.Feed.{tables, after, place_in, remembered, counted, judged_event, judged_reading, judged_line};
 
 use bill::scale::scale_number;
@@ -17,8 +16,7 @@ use store::take::take;
 use tables::entry::*;
 
 // What the lines taken say of the next line's place.
-fn place_in(nums: &[u32]) -> Place
-    requires { length nums.now ≡ nums_size }
+fn place_in(nums: &[u32; NUMS_SIZE]) -> Place
     ensures { result ≡ place_in nums.now }
 {
     Place {
@@ -31,8 +29,7 @@ fn place_in(nums: &[u32]) -> Place
 }
 
 // Remembers a refusal with its line.
-fn remember(nums: &mut [u32], n: u32) -> u32
-    requires { length nums.old ≡ nums_size }
+fn remember(nums: &mut [u32; NUMS_SIZE], n: u32) -> u32
     ensures { (result ≡ n) × (nums.new ≡ remembered nums.old n) }
 {
     let line = nums[LINES].wrapping_add(1);
@@ -42,8 +39,7 @@ fn remember(nums: &mut [u32], n: u32) -> u32
 }
 
 // One line more.
-fn count_line(nums: &mut [u32]) -> u32
-    requires { length nums.old ≡ nums_size }
+fn count_line(nums: &mut [u32; NUMS_SIZE]) -> u32
     ensures { (result ≡ 0) × (nums.new ≡ counted nums.old) }
 {
     nums[LINES] = nums[LINES].wrapping_add(1);
@@ -51,8 +47,8 @@ fn count_line(nums: &mut [u32]) -> u32
 }
 
 // One line more, which sets an entry of the line level.
-fn count_entry(nums: &mut [u32], at: usize, value: u32) -> u32
-    requires { (length nums.old ≡ nums_size) × (at < nums_size) }
+fn count_entry(nums: &mut [u32; NUMS_SIZE], at: usize, value: u32) -> u32
+    requires { at < nums_size }
     ensures { (result ≡ 0) × (nums.new ≡ counted (slice_set nums.old at value)) }
 {
     nums[at] = value;
@@ -61,15 +57,15 @@ fn count_entry(nums: &mut [u32], at: usize, value: u32) -> u32
 
 // An event line with its commas: decided from the tables as they are, then stored or remembered as refused.
 fn event_in(
-    names: &mut [u8],
-    nums: &mut [u32],
-    ticks: &mut [u64],
+    names: &mut [u8; NAMES_SIZE],
+    nums: &mut [u32; NUMS_SIZE],
+    ticks: &mut [u64; TICKS_SIZE],
     l: &[u8],
     c: Commas,
     e: Event,
     count: u32,
 ) -> u32
-    requires { Sized names.old nums.old ticks.old × ((c ≡ commas_of l.now) × (read_line l.now ≡ Reading.EventLine e count)) }
+    requires { (c ≡ commas_of l.now) × (read_line l.now ≡ Reading.EventLine e count) }
     ensures { after result names.new nums.new ticks.new
         ≡ judged_event (tables names.old nums.old ticks.old) l.now e count }
 {
@@ -91,14 +87,14 @@ fn event_in(
 
 // A line that none of 1 to 7 refuses, with its commas and its reading.
 fn read_in(
-    names: &mut [u8],
-    nums: &mut [u32],
-    ticks: &mut [u64],
+    names: &mut [u8; NAMES_SIZE],
+    nums: &mut [u32; NUMS_SIZE],
+    ticks: &mut [u64; TICKS_SIZE],
     l: &[u8],
     c: Commas,
     r: Reading,
 ) -> u32
-    requires { Sized names.old nums.old ticks.old × ((c ≡ commas_of l.now) × (read_line l.now ≡ r)) }
+    requires { (c ≡ commas_of l.now) × (read_line l.now ≡ r) }
     ensures { after result names.new nums.new ticks.new
         ≡ judged_reading r (tables names.old nums.old ticks.old) l.now }
 {
@@ -115,13 +111,13 @@ fn read_in(
 
 // A line that was read, against tables of the right sizes.
 pub(crate) fn line_in(
-    names: &mut [u8],
-    nums: &mut [u32],
-    ticks: &mut [u64],
+    names: &mut [u8; NAMES_SIZE],
+    nums: &mut [u32; NUMS_SIZE],
+    ticks: &mut [u64; TICKS_SIZE],
     l: &[u8],
     s: Split,
 ) -> u32
-    requires { Sized names.old nums.old ticks.old × (s ≡ split_line l.now) }
+    requires { s ≡ split_line l.now }
     ensures { after result names.new nums.new ticks.new
         ≡ judged_line (tables names.old nums.old ticks.old) l.now }
 {

@@ -1,6 +1,6 @@
 -- How tight the contracts of the question are: no second answer, and wrong answers that they shut out, whatever else they do. Sheets with wrong figures, and one of another
 -- state than the verdict's, are shut out in promises/proofs/TightSheet, over the tables of a trace.
-use Rattle.std.proofs.Common.{◌≡◌, ℕ, eqb, List, [], length, replicate, refl, ap, ◌∙◌}
+use Rattle.std.proofs.Common.{◌≡◌, ℕ, eqb, List, [], replicate, refl, ap, ◌∙◌}
 use Rattle.text.specs.Number.{digits_of}
 use Rattle.text.proofs.Tight.{unique, ShutsOut, shut_out}
 use Rattle.bill.specs.Text.{rows_text, section_text, sheet_text}

@@ -1,22 +1,20 @@
 // The verdict if the trace ended now, from tables of the right sizes.
-ghost use Rattle.std.specs.Prelude.{◌≡◌, ◌-◌, length};
-ghost use Rattle.tables.specs.Entry.{first_time, last_time, nums_size, ticks_size};
+ghost use Rattle.std.specs.Prelude.{◌≡◌, ◌-◌};
+ghost use Rattle.tables.specs.Entry.{first_time, last_time};
 ghost use Rattle.outcome.specs.AtEnd.{verdict_in};
 
 use bill::verdict::Verdict;
 use tables::entry::*;
 
 // How much later the last time is than the first.
-fn span_in(ticks: &[u64]) -> u64
-    requires { length ticks.now ≡ ticks_size }
+fn span_in(ticks: &[u64; TICKS_SIZE]) -> u64
     ensures { result ≡ last_time ticks.now - first_time ticks.now }
 {
     ticks[LAST].saturating_sub(ticks[FIRST])
 }
 
 // The verdict if the trace ended now, from tables of the right sizes.
-pub(crate) fn verdict_in(nums: &[u32], ticks: &[u64]) -> Verdict
-    requires { (length nums.now ≡ nums_size) × (length ticks.now ≡ ticks_size) }
+pub(crate) fn verdict_in(nums: &[u32; NUMS_SIZE], ticks: &[u64; TICKS_SIZE]) -> Verdict
     ensures { result ≡ verdict_in nums.now ticks.now }
 {
     let span = span_in(ticks);

@@ -11,6 +11,7 @@ use crate::tested::Tested;
 use bill::section::Section;
 use bill::verdict::Verdict;
 use ranges::range::table_answer;
+use tables::entry::*;
 
 // The verdict, and how many bytes of the output the sheet takes. 15 and 16 take the verdict's place, and then nothing was written.
 #[derive(Clone, Copy)]
@@ -56,7 +57,23 @@ fn refused(n: u32) -> Outcome
     Outcome { verdict, length: 0 }
 }
 
-// Verdict and sheet, both from these tables, which it does not change. The length comes first, so that an output that is too short is left as it is.
+impl<'a> Tested<'a> {
+    // Verdict and sheet. The length comes first, so that an output that is too short is left as it is.
+    fn outcome(self, out: &mut [u8]) -> Outcome
+        ensures { asked result out.new
+            ≡ outcome_in (tables self.entry.names.now self.entry.nums.now self.entry.ticks.now) out.old }
+    {
+        let length = self.sheet_length();
+        if out.len() < length {
+            return refused(15);
+        }
+        self.put_sheet(out);
+        let verdict = verdict_in(self.nums, self.ticks);
+        Outcome { verdict, length }
+    }
+}
+
+// Verdict and sheet, both from these tables, which it does not change.
 pub fn outcome_now(names: &[u8], nums: &[u32], ticks: &[u64], out: &mut [u8]) -> Outcome
     ensures { asked result out.new ≡ outcome_in (tables names.now nums.now ticks.now) out.old }
 {
@@ -64,12 +81,15 @@ pub fn outcome_now(names: &[u8], nums: &[u32], ticks: &[u64], out: &mut [u8]) ->
     if t != 0 {
         return refused(t);
     }
+    let Some(names) = names.as_array::<NAMES_SIZE>() else {
+        unreachable!()
+    };
+    let Some(nums) = nums.as_array::<NUMS_SIZE>() else {
+        unreachable!()
+    };
+    let Some(ticks) = ticks.as_array::<TICKS_SIZE>() else {
+        unreachable!()
+    };
     let tables = Tested { names, nums, ticks };
-    let length = tables.sheet_length();
-    if out.len() < length {
-        return refused(15);
-    }
-    tables.put_sheet(out);
-    let verdict = verdict_in(nums, ticks);
-    Outcome { verdict, length }
+    tables.outcome(out)
 }

@@ -2,7 +2,7 @@
 ghost use Rattle.std.specs.Prelude.{◌≡◌, ◌+◌, ◌<◌, ◌≤◌, length};
 ghost use Rattle.text.specs.Put.{put, after};
 ghost use Rattle.bill.specs.Text.{figures_text, row_text};
-ghost use Rattle.tables.specs.Entry.{name_count, nums_size, ticks_size, name_rows};
+ghost use Rattle.tables.specs.Entry.{name_count, name_rows};
 ghost use Rattle.sheet.specs.Sheet.{figures_in, row_in};
 
 use crate::figure::{charge, held_ticks, idle_ticks};
@@ -13,8 +13,13 @@ use tables::entry::*;
 use text::put::{digit_count, put_bytes};
 
 // How many bytes the figures of the row i take.
-fn figures_length(nums: &[u32], ticks: &[u64], section: Section, i: usize) -> usize
-    requires { (length nums.now ≡ nums_size) × ((length ticks.now ≡ ticks_size) × ((i < name_rows) × (name_count nums.now ≤ name_rows))) }
+fn figures_length(
+    nums: &[u32; NUMS_SIZE],
+    ticks: &[u64; TICKS_SIZE],
+    section: Section,
+    i: usize,
+) -> usize
+    requires { (i < name_rows) × (name_count nums.now ≤ name_rows) }
     ensures { result ≡ length (figures_text (figures_in section nums.now ticks.now i)) }
 {
     match section {
@@ -30,17 +35,16 @@ fn figures_length(nums: &[u32], ticks: &[u64], section: Section, i: usize) -> us
 
 // Writes the figures of the row i, each after a blank.
 fn put_figures(
-    nums: &[u32],
-    ticks: &[u64],
+    nums: &[u32; NUMS_SIZE],
+    ticks: &[u64; TICKS_SIZE],
     section: Section,
     i: usize,
     out: &mut [u8],
     at: usize,
 ) -> usize
-    requires { (length nums.now ≡ nums_size)
-        × ((length ticks.now ≡ ticks_size)
-        × ((i < name_rows) × ((name_count nums.now ≤ name_rows)
-        × (at + length (figures_text (figures_in section nums.now ticks.now i)) ≤ length out.old)))) }
+    requires { (i < name_rows)
+        × ((name_count nums.now ≤ name_rows)
+        × (at + length (figures_text (figures_in section nums.now ticks.now i)) ≤ length out.old)) }
     ensures { after result out.new ≡ put out.old at (figures_text (figures_in section nums.now ticks.now i)) }
 {
     match section {
@@ -73,7 +77,8 @@ impl<'a> Tested<'a> {
     {
         let start = NAME_ROOM * i;
         let end = start + self.nums[LENGTH + i] as usize;
-        let one = put_bytes(&self.names[start..end], out, at);
+        let names = self.names;
+        let one = put_bytes(&names[start..end], out, at);
         let two = put_figures(self.nums, self.ticks, section, i, out, one);
         put_bytes(b"\n", out, two)
     }

@@ -19,7 +19,7 @@ slice_bounds-line_in-end c = omega (arith, line_next _ _ _ _ (sym c.read_next-ne
 
 pub line_in-answer-requires : goal.line_in-answer-requires
 unfolding part_from
-line_in-answer-requires c = (c.requires, (line_next _ _ _ _ (sym c.read_next-next.ensures ∙ c.in-Some.is)).said)
+line_in-answer-requires c = (line_next _ _ _ _ (sym c.read_next-next.ensures ∙ c.in-Some.is)).said
 
 pub returns : goal.returns
 unfolding part_from

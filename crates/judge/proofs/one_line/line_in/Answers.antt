@@ -14,10 +14,10 @@ pub returns-in-Err : goal.returns-in-Err
 returns-in-Err c =
     let n = c.number.ensures in
     refused_in_place _ _ (number_not_0 c.in-Err.refusal) (c.remember.ensures.0 ∙ n) (c.remember.ensures.1 ∙ ap (remembered c.args.nums.now) n)
-    ∙ in_place_judged _ _ c.if-v-ne0.false c.place_in.ensures (ap (λ (s : Split). s.reading) c.requires.1) (sym (ap answer_number c.in-Err.is) ∙ c.answer_in_place.ensures)
+    ∙ in_place_judged _ _ c.if-v-ne0.false c.place_in.ensures (ap (λ (s : Split). s.reading) c.requires) (sym (ap answer_number c.in-Err.is) ∙ c.answer_in_place.ensures)
 
 pub returns : goal.returns
 returns c =
-    let reading = ap (λ (s : Split). s.reading) c.requires.1 in
+    let reading = ap (λ (s : Split). s.reading) c.requires in
     read_in_place _ _ (ap answer_number c.in_default.is) reading c.read_in.ensures
     ∙ in_place_judged _ _ c.if-v-ne0.false c.place_in.ensures reading c.answer_in_place.ensures

@@ -7,6 +7,6 @@ use Rattle.outcome.proofs.row.put_figures.Goals as goal
 pub returns-in-Cores : goal.returns-in-Cores
 returns-in-Cores c =
     let t = three_figures c.held_ticks.result c.idle_ticks.result (unknown_at c.args.ticks.now c.args.i) in
-    let room = rw (c.in-Cores.is, ← c.held_ticks.ensures, ← c.idle_ticks.ensures, t) at c.requires.1.1.1.1 in
+    let room = rw (c.in-Cores.is, ← c.held_ticks.ensures, ← c.idle_ticks.ensures, t) at c.requires.1.1 in
     rw (c.in-Cores.is, ← c.held_ticks.ensures, ← c.idle_ticks.ensures, t)
     (put_then _ _ _ _ (put_two _ _ _ _ c.put_figure-one.ensures c.put_figure-two.ensures) c.put_figure.ensures room)

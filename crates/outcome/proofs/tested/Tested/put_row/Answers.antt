@@ -15,7 +15,7 @@ put_figures-two-requires c =
     let v = valid _ _ _ c.args.self.in_range in
     let r = row_in a.section a.self.names.now a.self.nums.now a.self.ticks.now a.i in
     let name = rw (lent_name a.self.names.now a.self.nums.now a.i) at c.put_bytes-one.ensures in
-    (v.sizes.nums_sized, (v.sizes.ticks_sized, (omega (arith, v), (v.name_count_lem, first_room (next_room (row_room _ _ r c.requires.1) name)))))
+    (omega (arith, v), (v.name_count_lem, first_room (next_room (row_room _ _ r c.requires.1) name)))
 
 pub returns : goal.returns
 unfolding row_text
