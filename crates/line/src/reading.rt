@@ -17,7 +17,7 @@ use words::scale::Scale;
 pub const LINE_MOST: usize = 1023;
 
 // What a line is. An event line's count is what the note of a semaphore's line means, and 0 on any other.
-#[derive(Clone, Copy)]
+#[derive(Clone, Copy, Debug, PartialEq, Eq)]
 pub enum Reading {
     Version,
     Comment,
@@ -29,14 +29,14 @@ pub enum Reading {
 }
 
 // What a line is, and where its commas stand: so whoever asks for its parts need not look for them again.
-#[derive(Clone, Copy)]
+#[derive(Clone, Copy, Debug, PartialEq, Eq)]
 pub struct Split {
     pub reading: Reading,
     pub commas: Commas,
 }
 
 // A line of a chunk: it ends just before the index `end`, and what stands after its end begins at the index `start`.
-#[derive(Clone, Copy)]
+#[derive(Clone, Copy, Debug, PartialEq, Eq)]
 pub struct NextRead {
     pub end: usize,
     pub start: usize,
