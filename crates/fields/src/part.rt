@@ -5,7 +5,7 @@ ghost use Rattle.fields.specs.Part.{IsField, IsBetween, commas_of};
 use text::bytes::find;
 
 // The places of a line's first eight commas; where there are fewer, places past its end.
-#[derive(Clone, Copy)]
+#[derive(Clone, Copy, Debug, PartialEq, Eq)]
 pub struct Commas {
     pub c1: usize,
     pub c2: usize,

@@ -1,4 +1,6 @@
 // The moment of a creation date, YYYY-MM-DDTHH:MM:SSZ.
+#![tactic(auto, using(crate::proofs::Dates::fits_length), unfolding(crate::specs::Date::fits_byte, crate::specs::Date::digit_at, crate::specs::Date::two_at, crate::specs::Date::is_day, crate::specs::Date::is_time, crate::specs::Date::is_moment))]
+
 ghost use Rattle.std.specs.Prelude.{◌≡◌, ◌+◌, ◌<◌, length};
 ghost use Rattle.forms.specs.Date.{fits_pattern, fits_byte, digit_at, two_at, is_leap, days_in, is_day, is_time, is_moment};
 
@@ -16,13 +18,11 @@ fn fits_pattern(s: &[u8], pattern: &[u8]) -> bool
 fn fits_byte(b: u8, pattern: u8) -> bool
     ensures { result ≡ fits_byte b pattern }
 {
-    if pattern != b'0' {
-        return b == pattern;
+    if pattern == b'0' {
+        b.is_ascii_digit()
+    } else {
+        b == pattern
     }
-    if b < b'0' {
-        return false;
-    }
-    b <= b'9'
 }
 
 // The digit at an index, as a number.
@@ -30,10 +30,7 @@ fn digit_at(s: &[u8], i: usize) -> usize
     requires { i < length s.now }
     ensures { (result ≡ digit_at s.now i) × (result < 256) }
 {
-    if s[i] < b'0' {
-        return 0;
-    }
-    (s[i] - b'0') as usize
+    s[i].saturating_sub(b'0') as usize
 }
 
 // The two digits from an index on, as a number.
@@ -82,10 +79,7 @@ fn real_day(s: &[u8]) -> bool
     let year = two_at(s, 0) * 100 + two_at(s, 2);
     let days = days_in(year, two_at(s, 5));
     let day = two_at(s, 8);
-    if day < 1 {
-        return false;
-    }
-    day <= days
+    1 <= day && day <= days
 }
 
 // Whether the time of a moment is a real one.
@@ -93,24 +87,12 @@ fn real_time(s: &[u8]) -> bool
     requires { length s.now ≡ 20 }
     ensures { result ≡ is_time s.now }
 {
-    if 23 < two_at(s, 11) {
-        return false;
-    }
-    if 59 < two_at(s, 14) {
-        return false;
-    }
-    two_at(s, 17) <= 59
+    two_at(s, 11) <= 23 && two_at(s, 14) <= 59 && two_at(s, 17) <= 59
 }
 
 // Whether s is a moment: YYYY-MM-DDTHH:MM:SSZ with a real Gregorian date and time.
 pub fn moment(s: &[u8]) -> bool
     ensures { result ≡ is_moment s.now }
 {
-    if !fits_pattern(s, b"0000-00-00T00:00:00Z") {
-        return false;
-    }
-    if !real_day(s) {
-        return false;
-    }
-    real_time(s)
+    fits_pattern(s, b"0000-00-00T00:00:00Z") && real_day(s) && real_time(s)
 }

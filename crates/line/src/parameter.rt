@@ -1,4 +1,6 @@
 // Lines that start with `#`: the version, comments and parameters.
+#![tactic(auto, using(text::proofs::Words::pointwise_same), unfolding(text::specs::Bytes::starts_with, crate::specs::Parameter::is_version, crate::specs::Parameter::is_version_line, crate::specs::Parameter::is_comment, crate::specs::Parameter::time_scale, crate::specs::Parameter::is_creator, crate::specs::Parameter::is_creation_date, crate::specs::Parameter::other_reading, crate::specs::Parameter::parameter_reading))]
+
 ghost use Rattle.std.specs.Prelude.{◌≡◌};
 ghost use Rattle.line.specs.Parameter.{is_version_line, time_scale, is_creator, is_creation_date, parameter_reading, other_reading};
 
@@ -12,43 +14,34 @@ use words::scale::{Scale, scale_of};
 fn version_line(line: &[u8]) -> bool
     ensures { result ≡ is_version_line line.now }
 {
-    if same(line, b"#version") {
-        return true;
-    }
-    starts(line, b"#version ")
+    same(line, b"#version") || starts(line, b"#version ")
 }
 
 // The time scale that the line sets. 000 spells the keyword in two ways.
 fn time_scale(line: &[u8]) -> Option<Scale>
     ensures { result ≡ time_scale line.now }
 {
-    if starts(line, b"#timeScale ") {
-        return scale_of(&line[11..]);
+    if let Some(name) = line.strip_prefix(b"#timeScale ") {
+        return scale_of(name);
     }
-    if starts(line, b"#timescale ") {
-        return scale_of(&line[11..]);
-    }
-    None
+    scale_of(line.strip_prefix(b"#timescale ")?)
 }
 
 // Whether the line names a creator, with any bytes but none.
 fn creator(line: &[u8]) -> bool
     ensures { result ≡ is_creator line.now }
 {
-    if !starts(line, b"#creator ") {
-        return false;
-    }
-    9 < line.len()
+    starts(line, b"#creator ") && 9 < line.len()
 }
 
 // Whether the line gives a creation date.
 fn creation_date(line: &[u8]) -> bool
     ensures { result ≡ is_creation_date line.now }
 {
-    if !starts(line, b"#creationDate ") {
+    let Some(date) = line.strip_prefix(b"#creationDate ") else {
         return false;
-    }
-    moment(&line[14..])
+    };
+    moment(date)
 }
 
 // What a line is that starts with `#` and is no version and no comment.

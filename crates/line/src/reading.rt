@@ -17,7 +17,7 @@ use words::scale::Scale;
 pub const LINE_MOST: usize = 1023;
 
 // What a line is. An event line's count is what the note of a semaphore's line means, and 0 on any other.
-#[derive(Clone, Copy)]
+#[derive(Clone, Copy, Debug, PartialEq, Eq)]
 pub enum Reading {
     Version,
     Comment,
@@ -29,14 +29,14 @@ pub enum Reading {
 }
 
 // What a line is, and where its commas stand: so whoever asks for its parts need not look for them again.
-#[derive(Clone, Copy)]
+#[derive(Clone, Copy, Debug, PartialEq, Eq)]
 pub struct Split {
     pub reading: Reading,
     pub commas: Commas,
 }
 
 // A line of a chunk: it ends just before the index `end`, and what stands after its end begins at the index `start`.
-#[derive(Clone, Copy)]
+#[derive(Clone, Copy, Debug, PartialEq, Eq)]
 pub struct NextRead {
     pub end: usize,
     pub start: usize,
@@ -55,20 +55,14 @@ fn broken(line: &[u8], plain: bool) -> bool
     requires { plain ≡ true → all_plain line.now ≡ true }
     ensures { result ≡ has_break line.now }
 {
-    if plain {
-        return false;
-    }
-    has_break(line)
+    !plain && has_break(line)
 }
 
 // Whether the line is an event line: any that does not start with `#`, the empty one too.
 fn event_line(line: &[u8]) -> bool
     ensures { result ≡ is_event_line line.now }
 {
-    if line.len() == 0 {
-        return true;
-    }
-    line[0] != b'#'
+    !matches!(line, [b'#', ..])
 }
 
 // What a line is that has these commas and may be known to be plain.
@@ -101,8 +95,7 @@ pub fn read_split(line: &[u8]) -> Split
 pub fn read(line: &[u8]) -> Reading
     ensures { result ≡ read_line line.now }
 {
-    let s = read_split(line);
-    s.reading
+    read_split(line).reading
 }
 
 // The next line of a chunk from an index on, and what it is; nothing where no whole line is left. Where `whole`, what is left is one line as it stands.

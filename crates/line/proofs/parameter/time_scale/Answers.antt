@@ -1,30 +1,37 @@
--- `line::parameter::time_scale` meets its contract: a line with either beginning has its 11 bytes, and the rest of it is the scale's word.
-use mathlib.Core.Path.{sym, ◌∙◌}
-use borrow.Author.Rules.{part_to_end}
+-- `line::parameter::time_scale` meets its contract: what stands behind either spelling is the same part of the line.
+use lib.ListN.{take}
+use Rattle.text.specs.Literal.{bytes}
+use Rattle.text.specs.Bytes.{starts_with}
+use Rattle.text.proofs.Words.{pointwise_same}
 use Rattle.line.specs.Parameter.{time_scale}
-use Rattle.text.proofs.Words.{starts_long}
 use Rattle.line.proofs.parameter.time_scale.Goals as goal
 
-pub slice_bounds-scale_of-count : goal.slice_bounds-scale_of-count
-slice_bounds-scale_of-count c = starts_long _ _ (sym c.starts.ensures ∙ c.if-starts.true)
+pub returns-in-Some : goal.returns-in-Some
+unfolding time_scale starts_with
+returns-in-Some c =
+    let s = take 11 c.args.line.now in
+    let e = c.in-Some.ensures in
+    rw (c.scale_of.ensures, e.cases.1, ← pointwise_same s (bytes "#timeScale "), e.cases.0)
 
-pub slice_bounds-scale_of-start : goal.slice_bounds-scale_of-start
-slice_bounds-scale_of-start c = starts_long _ _ (sym c.starts.ensures ∙ c.if-starts.true)
-
-pub returns-then-starts : goal.returns-then-starts
-unfolding time_scale
-returns-then-starts c = c.scale_of.ensures ∙ rw (part_to_end, ← c.starts.ensures, c.if-starts.true)
-
-pub slice_bounds-scale_of-count-then-starts-2 : goal.slice_bounds-scale_of-count-then-starts-2
-slice_bounds-scale_of-count-then-starts-2 c = starts_long _ _ (sym c.starts-2.ensures ∙ c.if-starts-2.true)
-
-pub slice_bounds-scale_of-start-then-starts-2 : goal.slice_bounds-scale_of-start-then-starts-2
-slice_bounds-scale_of-start-then-starts-2 c = starts_long _ _ (sym c.starts-2.ensures ∙ c.if-starts-2.true)
-
-pub returns-then-starts-2 : goal.returns-then-starts-2
-unfolding time_scale
-returns-then-starts-2 c = c.scale_of-then-starts-2.ensures ∙ rw (part_to_end, ← c.starts.ensures, c.if-starts.false, ← c.starts-2.ensures, c.if-starts-2.true)
+pub returns-in_err-strip_prefix : goal.returns-in_err-strip_prefix
+unfolding time_scale starts_with
+returns-in_err-strip_prefix c =
+    let s = take 11 c.args.line.now in
+    let d = c.in_default.ensures in
+    let e = c.in_err-strip_prefix.ensures in
+    rw (c.from_residual.ensures, ← pointwise_same s (bytes "#timeScale "), d.cases, ← pointwise_same s (bytes "#timescale "), e.cases)
 
 pub returns : goal.returns
-unfolding time_scale
-returns c = rw (← c.starts.ensures, c.if-starts.false, ← c.starts-2.ensures, c.if-starts-2.false)
+unfolding time_scale starts_with
+returns c =
+    let s = take 11 c.args.line.now in
+    let d = c.in_default.ensures in
+    let e = c.in_ok-strip_prefix.ensures in
+    rw (
+      c.scale_of-2.ensures,
+      e.cases.1,
+      ← pointwise_same s (bytes "#timeScale "),
+      d.cases,
+      ← pointwise_same s (bytes "#timescale "),
+      e.cases.0,
+    )

@@ -1,7 +1,7 @@
--- `line::reading::broken` meets its contract: a plain line has no break, and any other is looked through.
+-- `line::reading::broken` meets its contract: a plain line has no break.
 use mathlib.Core.Path.{sym}
 use Rattle.line.proofs.Plain.{plain_whole}
 use Rattle.line.proofs.reading.broken.Goals as goal
 
-pub returns-then-plain : goal.returns-then-plain
-returns-then-plain c = sym (plain_whole _ (c.requires c.if-plain.true))
+pub returns-else-not-plain : goal.returns-else-not-plain
+returns-else-not-plain c = rw c.if-not-plain.false (sym (plain_whole _ (c.requires c.if-not-plain.false)))
