@@ -41,6 +41,7 @@ fn needs_one(nums: &[u32; NUMS_SIZE], s: LookedUp, kind: u32, word: u32, number:
 }
 
 // 10: whether the names or instances that the line adds don't fit.
+#[tactic(auto, unfolding(crate::specs::PlanCode::no_room_in))]
 pub(crate) fn no_room(
     nums: &[u32; NUMS_SIZE],
     s: LookedUp,

@@ -28,14 +28,12 @@ pub record Front (l : List ℕ) (n e : ℕ) : Type 0 where
   pub within : e ≤ length l
   pub front : take e l ≡ take n l
 
-pub front_all : (l : List ℕ) (n e : ℕ) → length l < n → e ≡ length l → Front l n e
-front_all l n e h q = record { within = omega arith; front = rw (q, take-length l, take_all n l (omega arith)) }
-
-pub front_some : (l : List ℕ) (n e : ℕ) → n ≤ length l → e ≡ n → Front l n e
-front_some l n e h q = record { within = omega arith; front = rw q }
-
 pub front_min : (l : List ℕ) (n e : ℕ) → e ≡ min n (length l) → Front l n e
-front_min l n e q = ⊎_elim (λ h. front_all l n e h (omega arith)) (λ h. front_some l n e h (omega arith)) (cases_lt (length l) n)
+front_min l n e q =
+    ⊎_elim
+    (λ h. let s : e ≡ length l = omega arith in record { within = omega arith; front = rw (s, take-length l, take_all n l (omega arith)) })
+    (λ h. let s : e ≡ n = omega arith in record { within = omega arith; front = rw s })
+    (cases_lt (length l) n)
 
 -- ---- what is left of a chunk is carried over
 

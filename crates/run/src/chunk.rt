@@ -51,10 +51,7 @@ pub fn take_chunk(
     ensures { turned result names.new nums.new ticks.new buf.new
         ≡ chunk_taken (tables names.old nums.old ticks.old) buf.old n }
 {
-    let mut end = n;
-    if buf.len() < n {
-        end = buf.len();
-    }
+    let end = n.min(buf.len());
     let fed = feed_chunk(names, nums, ticks, &buf[..end]);
     if fed.answer != 0 {
         return None;
