@@ -63,7 +63,7 @@ fn lines_in(
     }
 }
 
-// One line without its end.
+// One line without its end. It answers with the number, since that of an earlier refusal is told as it stands in the table.
 pub fn feed(names: &mut [u8], nums: &mut [u32], ticks: &mut [u64], l: &[u8]) -> u32
     ensures { after result names.new nums.new ticks.new
         ≡ fed_line (tables names.old nums.old ticks.old) l.now }

@@ -185,7 +185,7 @@ fn in_range(names: &[u8; NAMES_SIZE], nums: &[u32; NUMS_SIZE], ticks: &[u64; TIC
     line_level_ok(nums) & (times_ok(ticks) & (rows & (taken_places(index) == n)))
 }
 
-// 15 for tables of a wrong size, 16 for an entry out of its range, else 0.
+// 15 for tables of a wrong size, 16 for an entry out of its range, else 0. It answers with the number, since whoever asks hands it on as the own answer.
 pub fn table_answer(names: &[u8], nums: &[u32], ticks: &[u64]) -> u32
     ensures { result ≡ table_answer names.now nums.now ticks.now }
 {
