@@ -24,9 +24,6 @@ pub record Placing (text starts : List ℕ) (at n : ℕ) : Type 0 where
   pub last : unended (pieces 10 text) ≡ unended (pieces 10 (drop at text))
   pub done : ended (pieces 10 text) ≡ map (line_from text) (take n starts) ++ ended (pieces 10 (drop at text))
 
-pub placing_start : (text starts : List ℕ) → length starts ≡ lines_most → Placing text starts 0 0
-placing_start text starts h = record { here = omega arith; sized = h; room = omega arith; last = refl; done = refl }
-
 few_is : (text u : List ℕ) (n : ℕ) → unended (pieces 10 text) ≡ u → length (ended (pieces 10 text)) ≡ n → few_lines text ≡ is_empty u && leb n lines_most
 unfolding few_lines
 few_is text u n p q = rw (p, q)

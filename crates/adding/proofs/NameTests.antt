@@ -1,13 +1,13 @@
 -- The names of both sections, put in order one section after the other and then compared: what is found at each exit.
 use mathlib.Core.Path.{◌≡◌, sym, subst, ◌∙◌}
-use mathlib.Core.Bool.{Bool, true, false, not, or-true}
+use mathlib.Core.Bool.{Bool, true, false, not}
 use mathlib.Core.List.{List, map}
 use Prim.Native.Nat.{ℕ, ◌-◌}
 use native.Mathlib.Omega.{arith}
 use lib.ListN.{length, take}
-use borrow.Author.Tests.{not-true, not-false}
+use borrow.Author.Tests.{not-false}
 use Rattle.text.specs.Sizes.{name_limit, core_limit}
-use Rattle.sorting.specs.Sets.{meets, twice, sorted_by, rising}
+use Rattle.sorting.specs.Sets.{meets, sorted_by, rising}
 use Rattle.sorting.proofs.Keys.{map_sorted, rising_keys}
 use Rattle.sorting.proofs.Meets.{meets_sorted}
 use Rattle.paper.specs.Lines.{name_at}
@@ -20,13 +20,6 @@ meets_in_order text cs ps = rw (map_sorted (name_at text) cs, map_sorted (name_a
 
 module _ (text cs ps : List ℕ) where
   module _ (cores : List ℕ) (h : length cores ≡ core_limit) (r : Bool) (s : Sorting text cs cores r) where
-    pub cores_twice : (processes : List ℕ) → length processes ≡ name_limit → not r ≡ true → NamesOnce text cs ps cores processes false
-    cores_twice processes g e = record {
-      cores_sized = h;
-      processes_sized = g;
-      told = rw (subst (λ t. Sorting text cs cores t) (not-true r e) s);
-    }
-
     module _ (e : not r ≡ false) where
       core_told : SortedInto text cs cores
       core_told = subst (λ t. Sorting text cs cores t) (not-false r e) s
@@ -35,13 +28,6 @@ module _ (text cs ps : List ℕ) where
       core_front = let n : length cs - 0 ≡ length cs = omega arith in rw n core_told.rows
 
       module _ (processes : List ℕ) (g : length processes ≡ name_limit) (q : Bool) (t : Sorting text ps processes q) where
-        pub processes_twice : not q ≡ true → NamesOnce text cs ps cores processes false
-        processes_twice d = record {
-          cores_sized = h;
-          processes_sized = g;
-          told = rw (subst (λ u. Sorting text ps processes u) (not-true q d) t) (or-true (twice (map (name_at text) cs)));
-        }
-
         module _ (d : not q ≡ false) where
           process_told : SortedInto text ps processes
           process_told = subst (λ u. Sorting text ps processes u) (not-false q d) t

@@ -1,5 +1,6 @@
 -- Two texts added into a lent output. 02, No. 2: "These are 21 to 25 in this order; last of all, an output too short is 15. A refused sum writes nothing."
 use Rattle.std.specs.Prelude.{cond, List, [], ◌∷◌, ℕ, ◌≤◌, leb, length, take}
+use Rattle.std.specs.Result.{result_map_both}
 use Rattle.std.specs.declared.result.Result.{Result}
 use Rattle.std.specs.declared.result.Result.TheVariants.{Ok, Err}
 use Rattle.text.specs.Put.{written}
@@ -29,8 +30,7 @@ summed r out = record { answer = r; output = out }
 
 -- the same by what the code answers
 abbrev pub by_number : Result ℕ Why → Result ℕ ℕ
-by_number (Ok n) = Ok n
-by_number (Err r) = Err (number_of r)
+by_number = result_map_both (λ n. n) number_of
 
 abbrev pub told_as : Result ℕ Why → List ℕ → Summed
 told_as r out = summed (by_number r) out

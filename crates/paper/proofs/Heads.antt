@@ -1,6 +1,6 @@
 -- The lines of a sheet that are no rows, by the tests of the code: the verdict's, and a title with its count.
 use Rattle.std.proofs.Common.{None, Some, Option}
-use mathlib.Core.Path.{◌≡◌, refl, sym, ◌∙◌}
+use mathlib.Core.Path.{◌≡◌, refl, sym, ap, ◌∙◌}
 use mathlib.Core.Bool.{Bool, true, false, ◌&&◌}
 use mathlib.Core.List.{List}
 use Prim.Native.Nat.{ℕ, ◌+◌, ◌-◌, ◌≤◌}
@@ -14,7 +14,10 @@ use Rattle.text.specs.Bytes.{starts_with, to_byte, find_from}
 use Rattle.text.specs.Number.{is_number, value_from, number_if, number_of}
 use Rattle.text.specs.Sizes.{max_time}
 use Rattle.text.proofs.Words.{starts_long}
+use Rattle.words.specs.declared.scale.Scale.{Scale}
+use Rattle.words.specs.declared.scale.Scale.TheVariants.{Picoseconds, Nanoseconds, Microseconds, Milliseconds, Seconds}
 use Rattle.words.specs.Scale.{scale_of}
+use Rattle.bill.specs.Scale.{scale_number}
 use Rattle.bill.specs.Reading.{scale_code, from_scale, from_span, scale_in, span_in, head_exact, count_in, count_exact}
 use Rattle.paper.specs.Heads.{head_if, head_of, count_of}
 
@@ -35,6 +38,15 @@ module _ (head line : List ℕ) (max : ℕ) where
 
 -- ---- the verdict's line
 
+-- 0 is no scale's number
+from_one : (s : Scale) → 1 ≤ scale_number s
+unfolding scale_number
+from_one Picoseconds = omega arith
+from_one Nanoseconds = omega arith
+from_one Microseconds = omega arith
+from_one Milliseconds = omega arith
+from_one Seconds = omega arith
+
 -- a number told, or not, is a head told, or not
 head_bad : (t : Bool) (scale v : ℕ) → number_if t v ≡ None → None ≡ head_if t scale v
 head_bad true scale v e = cc
@@ -53,29 +65,32 @@ module _ (line : List ℕ) where
   unfolding head_of head_exact
   other_verdict e = rw e
 
-  module _ (e : starts_with line (bytes "verdict 0 line 0 scale ") ≡ true) (blank : ℕ) (found : blank ≡ find_from 32 line 23) (scale : ℕ) (told : scale ≡ scale_code (scale_of (take (blank - 23) (drop 23 line)))) where
+  module _ (e : starts_with line (bytes "verdict 0 line 0 scale ") ≡ true) (blank : ℕ) (found : blank ≡ find_from 32 line 23) (o : Option Scale) (told : o ≡ scale_of (take (blank - 23) (drop 23 line))) where
     blank_is : 23 + to_byte 32 (drop 23 line) ≡ blank
     unfolding find_from
     blank_is = sym found
 
-    scale_is : scale_in line ≡ scale
+    scale_is : scale_in line ≡ scale_code o
     unfolding scale_in
-    scale_is = let z : to_byte 32 (drop 23 line) ≡ blank - 23 = omega (arith, blank_is) in rw z (sym told)
+    scale_is = let z : to_byte 32 (drop 23 line) ≡ blank - 23 = omega (arith, blank_is) in rw z (ap scale_code (sym told))
 
     span_from : from_span (from_scale line) ≡ drop blank line
     span_from = rw (drop-drop, blank_is)
 
-    pub no_scale : scale ≡ 0 → None ≡ head_of line
+    pub no_scale : o ≡ None → None ≡ head_of line
     unfolding head_of head_exact
     no_scale z = rw (e, scale_is, z)
 
-    module _ (z : scale ≡ 0 → ⊥) where
+    module _ (s : Scale) (named : o ≡ Some s) where
+      abbrev scale : ℕ
+      scale = scale_number s
+
       low : leb 1 scale ≡ true
-      low = le-leb 1 scale (omega arith)
+      low = le-leb 1 scale (from_one s)
 
       pub no_span : starts_with (take (length line - blank) (drop blank line)) (bytes " span ") ≡ false → None ≡ head_of line
       unfolding head_of head_exact
-      no_span f = let g = rw (rest line blank) at f in rw (e, scale_is, low, span_from, g)
+      no_span f = let g = rw (rest line blank) at f in rw (e, scale_is, named, low, span_from, g)
 
       module _ (f : starts_with (take (length line - blank) (drop blank line)) (bytes " span ") ≡ true) (r : Option ℕ)
           (given : r ≡ number_of (take (length line - (blank + 6)) (drop (blank + 6) line)) max_time) where
@@ -94,7 +109,7 @@ module _ (line : List ℕ) where
 
         by_number : head_if in_range scale (value_from 0 digits) ≡ head_of line
         unfolding head_of head_exact span_in
-        by_number = let g = rw (rest line blank) at f in rw (e, scale_is, low, digits_are, span_from, g)
+        by_number = let g = rw (rest line blank) at f in rw (e, scale_is, named, low, digits_are, span_from, g)
 
         pub no_number : r ≡ None → None ≡ head_of line
         no_number p = head_bad in_range scale (value_from 0 digits) (number_is ∙ p) ∙ by_number

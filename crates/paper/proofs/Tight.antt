@@ -1,6 +1,6 @@
 -- How tight the contracts of a line's functions are: no second answer, and wrong answers that they shut out. A function that takes a line which is to
 -- be refused, or refuses one which is to be taken, is shut out whatever it tells of it and whatever else it does.
-use Rattle.std.proofs.Common.{None, Some, Option}
+use Rattle.std.proofs.Common.{None, Some, Option, is_some}
 use mathlib.Core.Path.{◌≡◌, refl}
 use mathlib.Core.Bool.{Bool, true, false, not}
 use mathlib.Core.List.{List, ◌∷◌, ◌++◌}
@@ -85,34 +85,25 @@ amount_not_the_first = shut_out (eqb 8) (bytes "c 7 8", 2) refl refl
 pub head_unique : (line : Text) (x y : Option (ℕ × ℕ)) → x ≡ head_of line → y ≡ head_of line → x ≡ y
 head_unique = unique head_of
 
-abbrev is_head : Option (ℕ × ℕ) → Bool
-is_head (Some (scale, span)) = true
-is_head None = false
-
-pub head_not_of_a_refusal : (g : Text → Option (ℕ × ℕ)) → is_head (g (bytes "verdict 9 line 3")) ≡ true → ShutsOut head_of g
+pub head_not_of_a_refusal : (g : Text → Option (ℕ × ℕ)) → is_some (g (bytes "verdict 9 line 3")) ≡ true → ShutsOut head_of g
 unfolding head_of head_exact starts_with same_bytes
-head_not_of_a_refusal g h = shut_out (λ x. not (is_head x)) (bytes "verdict 9 line 3") refl (rw h)
+head_not_of_a_refusal g h = shut_out (λ x. not (is_some x)) (bytes "verdict 9 line 3") refl (rw h)
 
-pub head_not_of_any_scale : (g : Text → Option (ℕ × ℕ)) → is_head (g (bytes "verdict 0 line 0 scale min span 9")) ≡ true → ShutsOut head_of g
+pub head_not_of_any_scale : (g : Text → Option (ℕ × ℕ)) → is_some (g (bytes "verdict 0 line 0 scale min span 9")) ≡ true → ShutsOut head_of g
 unfolding head_of head_exact starts_with same_bytes scale_in to_byte scale_of pick scale_word
-head_not_of_any_scale g h = shut_out (λ x. not (is_head x)) (bytes "verdict 0 line 0 scale min span 9") refl (rw h)
+head_not_of_any_scale g h = shut_out (λ x. not (is_some x)) (bytes "verdict 0 line 0 scale min span 9") refl (rw h)
 
 -- 2^56, one more than the largest
-pub head_not_above : (g : Text → Option (ℕ × ℕ)) → is_head (g (bytes "verdict 0 line 0 scale ns span 72057594037927936")) ≡ true → ShutsOut head_of g
+pub head_not_above : (g : Text → Option (ℕ × ℕ)) → is_some (g (bytes "verdict 0 line 0 scale ns span 72057594037927936")) ≡ true → ShutsOut head_of g
 unfolding head_of head_exact starts_with same_bytes scale_in span_in to_byte scale_of pick scale_word scale_number
-head_not_above g h = shut_out (λ x. not (is_head x)) (bytes "verdict 0 line 0 scale ns span 72057594037927936") refl (rw h)
+head_not_above g h = shut_out (λ x. not (is_some x)) (bytes "verdict 0 line 0 scale ns span 72057594037927936") refl (rw h)
 
 -- and 2^56 − 1 is taken
-pub head_not_below : (g : Text → Option (ℕ × ℕ)) → is_head (g (bytes "verdict 0 line 0 scale ns span 72057594037927935")) ≡ false → ShutsOut head_of g
+pub head_not_below : (g : Text → Option (ℕ × ℕ)) → is_some (g (bytes "verdict 0 line 0 scale ns span 72057594037927935")) ≡ false → ShutsOut head_of g
 unfolding head_of head_exact starts_with same_bytes scale_in span_in to_byte scale_of pick scale_word scale_number
-head_not_below g h = shut_out is_head (bytes "verdict 0 line 0 scale ns span 72057594037927935") refl (rw h)
+head_not_below g h = shut_out is_some (bytes "verdict 0 line 0 scale ns span 72057594037927935") refl (rw h)
 
 -- ---- `read_count`
-
--- what `held_in` and `charge_in` answer too
-abbrev is_value : Option ℕ → Bool
-is_value (Some v) = true
-is_value None = false
 
 abbrev tells : ℕ → Option ℕ → Bool
 tells n (Some v) = eqb n v
@@ -124,18 +115,18 @@ counts (line, title, max) = count_of title line max
 pub count_unique : (line title : Text) (max : ℕ) (x y : Option ℕ) → x ≡ count_of title line max → y ≡ count_of title line max → x ≡ y
 count_unique line title = unique (count_of title line)
 
-pub count_not_above : (g : Text × Text × ℕ → Option ℕ) → is_value (g (bytes "cores 65", bytes "cores ", 64)) ≡ true → ShutsOut counts g
+pub count_not_above : (g : Text × Text × ℕ → Option ℕ) → is_some (g (bytes "cores 65", bytes "cores ", 64)) ≡ true → ShutsOut counts g
 unfolding count_of count_exact count_in starts_with same_bytes
-count_not_above g h = shut_out (λ x. not (is_value x)) (bytes "cores 65", bytes "cores ", 64) refl (rw h)
+count_not_above g h = shut_out (λ x. not (is_some x)) (bytes "cores 65", bytes "cores ", 64) refl (rw h)
 
-pub count_not_of_any_title : (g : Text × Text × ℕ → Option ℕ) → is_value (g (bytes "tasks 7", bytes "cores ", 64)) ≡ true → ShutsOut counts g
+pub count_not_of_any_title : (g : Text × Text × ℕ → Option ℕ) → is_some (g (bytes "tasks 7", bytes "cores ", 64)) ≡ true → ShutsOut counts g
 unfolding count_of count_exact starts_with same_bytes
-count_not_of_any_title g h = shut_out (λ x. not (is_value x)) (bytes "tasks 7", bytes "cores ", 64) refl (rw h)
+count_not_of_any_title g h = shut_out (λ x. not (is_some x)) (bytes "tasks 7", bytes "cores ", 64) refl (rw h)
 
 -- as many as there may be
-pub count_not_below : (g : Text × Text × ℕ → Option ℕ) → is_value (g (bytes "cores 64", bytes "cores ", 64)) ≡ false → ShutsOut counts g
+pub count_not_below : (g : Text × Text × ℕ → Option ℕ) → is_some (g (bytes "cores 64", bytes "cores ", 64)) ≡ false → ShutsOut counts g
 unfolding count_of count_exact count_in starts_with same_bytes
-count_not_below g h = shut_out is_value (bytes "cores 64", bytes "cores ", 64) refl (rw h)
+count_not_below g h = shut_out is_some (bytes "cores 64", bytes "cores ", 64) refl (rw h)
 
 -- ---- `held_in`
 
@@ -146,14 +137,14 @@ pub held_unique : (line : Text) (span : ℕ) (x y : Option ℕ) → x ≡ core_h
 held_unique line span = unique (core_held span) line
 
 -- figures that make less than the span
-pub held_not_of_less : (g : Text × ℕ → Option ℕ) → is_value (g (bytes "c 5 3 1", 10)) ≡ true → ShutsOut holds g
+pub held_not_of_less : (g : Text × ℕ → Option ℕ) → is_some (g (bytes "c 5 3 1", 10)) ≡ true → ShutsOut holds g
 unfolding core_held core_ok row_of row_from row_exact is_name all_name_bytes is_name_byte pieces
-held_not_of_less g h = shut_out (λ x. not (is_value x)) (bytes "c 5 3 1", 10) refl (rw h)
+held_not_of_less g h = shut_out (λ x. not (is_some x)) (bytes "c 5 3 1", 10) refl (rw h)
 
 -- no third figure, although two make the span
-pub held_not_of_two : (g : Text × ℕ → Option ℕ) → is_value (g (bytes "c 6 4", 10)) ≡ true → ShutsOut holds g
+pub held_not_of_two : (g : Text × ℕ → Option ℕ) → is_some (g (bytes "c 6 4", 10)) ≡ true → ShutsOut holds g
 unfolding core_held core_ok row_of row_from row_exact is_name all_name_bytes is_name_byte pieces
-held_not_of_two g h = shut_out (λ x. not (is_value x)) (bytes "c 6 4", 10) refl (rw h)
+held_not_of_two g h = shut_out (λ x. not (is_some x)) (bytes "c 6 4", 10) refl (rw h)
 
 -- idle for held
 pub held_not_idle : ShutsOut holds (λ (line, span). number_of (word_of line 2) span)
@@ -168,16 +159,16 @@ charges (line, left) = process_charge left line
 pub charge_unique : (line : Text) (left : ℕ) (x y : Option ℕ) → x ≡ process_charge left line → y ≡ process_charge left line → x ≡ y
 charge_unique line left = unique (process_charge left) line
 
-pub charge_not_above : (g : Text × ℕ → Option ℕ) → is_value (g (bytes "p 5", 4)) ≡ true → ShutsOut charges g
+pub charge_not_above : (g : Text × ℕ → Option ℕ) → is_some (g (bytes "p 5", 4)) ≡ true → ShutsOut charges g
 unfolding process_charge row_of row_from row_exact is_name all_name_bytes is_name_byte pieces
-charge_not_above g h = shut_out (λ x. not (is_value x)) (bytes "p 5", 4) refl (rw h)
+charge_not_above g h = shut_out (λ x. not (is_some x)) (bytes "p 5", 4) refl (rw h)
 
 -- a core's row
-pub charge_not_of_a_core : (g : Text × ℕ → Option ℕ) → is_value (g (bytes "c 5 3 2", 10)) ≡ true → ShutsOut charges g
+pub charge_not_of_a_core : (g : Text × ℕ → Option ℕ) → is_some (g (bytes "c 5 3 2", 10)) ≡ true → ShutsOut charges g
 unfolding process_charge row_of row_from row_exact is_name all_name_bytes is_name_byte pieces
-charge_not_of_a_core g h = shut_out (λ x. not (is_value x)) (bytes "c 5 3 2", 10) refl (rw h)
+charge_not_of_a_core g h = shut_out (λ x. not (is_some x)) (bytes "c 5 3 2", 10) refl (rw h)
 
 -- all that is left
-pub charge_not_below : (g : Text × ℕ → Option ℕ) → is_value (g (bytes "p 5", 5)) ≡ false → ShutsOut charges g
+pub charge_not_below : (g : Text × ℕ → Option ℕ) → is_some (g (bytes "p 5", 5)) ≡ false → ShutsOut charges g
 unfolding process_charge row_of row_from row_exact is_name all_name_bytes is_name_byte pieces
-charge_not_below g h = shut_out is_value (bytes "p 5", 5) refl (rw h)
+charge_not_below g h = shut_out is_some (bytes "p 5", 5) refl (rw h)

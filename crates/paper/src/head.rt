@@ -1,7 +1,5 @@
 // The lines of a sheet that are no rows: the verdict's, and the titles with their counts.
 ghost use Rattle.std.specs.Prelude.{◌≡◌};
-ghost use Rattle.words.specs.Scale.{scale_of};
-ghost use Rattle.bill.specs.Reading.{scale_code};
 ghost use Rattle.paper.specs.Heads.{head_of, count_of};
 
 use bill::scale::scale_number;
@@ -9,17 +7,6 @@ use text::bytes::{find, starts};
 use text::number::read_number;
 use text::size::MAX_TIME;
 use words::scale::scale_of;
-
-// The number of the time scale that s names, 0 for none.
-fn scale_code(s: &[u8]) -> u32
-    ensures { result ≡ scale_code (scale_of s.now) }
-{
-    let found = scale_of(s);
-    match found {
-        Some(scale) => scale_number(scale),
-        None => 0,
-    }
-}
 
 // The time scale's number and the span that the verdict's line of a sheet tells; nothing where it is no line of an accepted trace.
 pub fn read_head(line: &[u8]) -> Option<(u32, u64)>
@@ -29,15 +16,12 @@ pub fn read_head(line: &[u8]) -> Option<(u32, u64)>
         return None;
     }
     let blank = find(line, 32, 23);
-    let scale = scale_code(&line[23..blank]);
-    if scale == 0 {
-        return None;
-    }
+    let named = scale_of(&line[23..blank])?;
     if !starts(&line[blank..], b" span ") {
         return None;
     }
     let span = read_number(&line[blank + 6..], MAX_TIME)?;
-    Some((scale, span))
+    Some((scale_number(named), span))
 }
 
 // The count of at most max behind the title.

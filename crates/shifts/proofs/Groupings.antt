@@ -1,6 +1,6 @@
 -- Sheets added in any grouping come to what all of them come to together (`grouped`), and have a sum exactly if all of them fit (`added_exactly`). 02, No. 12: "either way
 -- of adding three sheets gives the same bytes or both ways refuse, though perhaps with different reasons".
-use Rattle.std.proofs.Common.{Option, None, Some}
+use Rattle.std.proofs.Common.{Option, None, Some, is_some}
 use mathlib.Core.Path.{◌≡◌, refl, sym, ap, ◌∙◌}
 use mathlib.Core.Bool.{Bool, true, false}
 use mathlib.Core.Logic.{◌↔◌}
@@ -10,7 +10,7 @@ use native.Mathlib.Omega.{arith}
 use Rattle.bill.specs.Reading.{Bill, bill_text}
 use Rattle.shifts.specs.Sound.{sound_sheet}
 use Rattle.shifts.specs.Sum.{sum, refusal, Total, Text, Refusal, total_by, add_sound, add_texts, add_totals, add_next, add_all}
-use Rattle.shifts.specs.Many.{is_bill, is_sound, text_if, alone, sum_from, HasText}
+use Rattle.shifts.specs.Many.{is_sound, text_if, alone, sum_from, HasText}
 use Rattle.shifts.specs.Together.{with_next, bills_of, together}
 use Rattle.shifts.specs.Grouping.{Grouping, Sheet, Sum, sheets_of, comes_to, bytes_of, from_left}
 use Rattle.shifts.proofs.Fine.{sound_is}
@@ -41,7 +41,7 @@ of_sheet : (t : List ℕ) → Says (Sheet t) (alone t)
 unfolding alone is_sound
 of_sheet t = by_bill (sound_sheet t) refl
   where
-    by_bill : (o : Option Bill) → sound_sheet t ≡ o → Says (Sheet t) (text_if (is_bill o) t)
+    by_bill : (o : Option Bill) → sound_sheet t ≡ o → Says (Sheet t) (text_if (is_some o) t)
     by_bill None r = λ w. let e : None ≡ Some w.bills = sym (ap (λ (o : Option Bill). with_next o (Some [])) r) ∙ w.read in cc
     by_bill (Some b) r = record { first = b; others = []; read = rw r; fit = alone_fit b (sound_is t b r).1; bill = b; sound = r; sums = alone_sum b }
 
@@ -122,7 +122,7 @@ add_sheet (Text t) u = by_bill (sound_sheet u) refl
     unread None = refl
     unread (Some a) = refl
 
-    by_bill : (o : Option Bill) → sound_sheet u ≡ o → add_totals (Text t) (text_if (is_bill o) u) ≡ add_sound (sound_sheet t) o
+    by_bill : (o : Option Bill) → sound_sheet u ≡ o → add_totals (Text t) (text_if (is_some o) u) ≡ add_sound (sound_sheet t) o
     by_bill None r = unread (sound_sheet t)
     by_bill (Some b) r = rw r
 add_sheet (Refusal n) u = refl

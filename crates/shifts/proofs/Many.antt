@@ -1,6 +1,6 @@
 -- Many sheets added from the left: a refusal stays, no refusal is below 21, a sum is a sheet that may be added, and of a longer text than any sheet the
 -- rest does not matter.
-use Rattle.std.proofs.Common.{Option, None, Some}
+use Rattle.std.proofs.Common.{Option, None, Some, is_some}
 use mathlib.Core.Path.{◌≡◌, refl, ap}
 use mathlib.Core.Bool.{Bool, true, false}
 use mathlib.Core.Logic.{◌⊎◌, inl, inr}
@@ -12,7 +12,7 @@ use Rattle.bill.specs.Reading.{Bill, bill_text}
 use Rattle.shifts.specs.Sound.{sound_sheet}
 use Rattle.shifts.specs.Sum.{sum, refusal, Total, Text, Refusal, total_by, add_sound, add_texts, add_next, add_all}
 use Rattle.shifts.specs.Sizes.{sheet_most}
-use Rattle.shifts.specs.Many.{is_bill, is_sound, text_if, alone, sum_from, HasText}
+use Rattle.shifts.specs.Many.{is_sound, text_if, alone, sum_from, HasText}
 use Rattle.shifts.proofs.Fine.{Fine, sound_is, fine_printed}
 use Rattle.shifts.proofs.Refusals.{refused_from}
 use Rattle.shifts.proofs.Sizes.{sound_longest}
@@ -106,7 +106,7 @@ sum_short t u v = by_bills (sound_sheet t) (sound_sheet u) refl refl
     by_bills (Some a) None r s e = absurd (never_text e)
     by_bills (Some a) (Some b) r s e = by_number a b (refusal a b) r s refl e
 
-bill_short : (t : List ℕ) (o : Option Bill) → sound_sheet t ≡ o → is_bill o ≡ true → length t ≤ sheet_most
+bill_short : (t : List ℕ) (o : Option Bill) → sound_sheet t ≡ o → is_some o ≡ true → length t ≤ sheet_most
 bill_short t None r e = let z : ◌≡◌ {A = ℕ} 0 1 = cc in absurd (omega arith)
 bill_short t (Some b) r e = sound_longest t b r
 
@@ -135,7 +135,7 @@ pub add_alone : (t u : List ℕ) → add_next (alone t) u ≡ add_texts t u
 unfolding alone is_sound add_texts
 add_alone t u = by_bill (sound_sheet t) refl
   where
-    by_bill : (o : Option Bill) → sound_sheet t ≡ o → add_next (text_if (is_bill o) t) u ≡ add_sound o (sound_sheet u)
+    by_bill : (o : Option Bill) → sound_sheet t ≡ o → add_next (text_if (is_some o) t) u ≡ add_sound o (sound_sheet u)
     by_bill None r = refl
     by_bill (Some a) r = rw r
 

@@ -1,16 +1,11 @@
 -- Many sheets: one by itself, which is its own sum where it may be added, and the others added to it from the left.
-use Rattle.std.specs.Prelude.{Bool, true, false, List, ℕ, Option, None, Some}
-use Rattle.bill.specs.Reading.{Bill}
+use Rattle.std.specs.Prelude.{Bool, true, false, List, ℕ, is_some}
 use Rattle.shifts.specs.Sound.{sound_sheet}
 use Rattle.shifts.specs.Sum.{Total, Text, Refusal, add_all}
 
 -- whether a text may be added
-abbrev pub is_bill : Option Bill → Bool
-is_bill None = false
-is_bill (Some b) = true
-
 unfoldable pub is_sound : List ℕ → Bool
-is_sound t = is_bill (sound_sheet t)
+is_sound t = is_some (sound_sheet t)
 
 -- "malformed" is 21, of one sheet too
 abbrev pub text_if : Bool → List ℕ → Total

@@ -1,5 +1,6 @@
 -- Which sheets may be added. 02, No. 2: "malformed, or a core's three figures not making the span, or charges not making all held ticks".
-use Rattle.std.specs.Prelude.{Bool, not, ◌||◌, cond, List, [], ◌∷◌, ℕ, ◌+◌, eqb, leb, ltb, length, Option, None, Some}
+use Rattle.std.specs.Prelude.{Bool, not, ◌||◌, cond, List, [], ◌∷◌, ℕ, ◌+◌, eqb, leb, ltb, map, length, get_or, Option, None, Some}
+use Rattle.std.specs.Option.{option_and_then}
 use Rattle.text.specs.Sizes.{max_time, name_limit, core_limit}
 use Rattle.text.specs.Lists.{any, sum_over}
 use Rattle.bill.specs.Rows.{Row, all_named}
@@ -8,8 +9,7 @@ use Rattle.sorting.specs.Order.{Name}
 use Rattle.sorting.specs.Sets.{meets, twice}
 
 unfoldable pub names : List Row → List Name
-names [] = []
-names (r ∷ rs) = r.name ∷ names rs
+names = map (λ r. r.name)
 
 abbrev pub total : List ℕ → ℕ
 total [] = 0
@@ -17,8 +17,7 @@ total (x ∷ xs) = x + total xs
 
 -- a row's first figure, held or charge; and that of all rows together
 abbrev pub first : List ℕ → ℕ
-first [] = 0
-first (x ∷ xs) = x
+first fs = get_or fs 0 0
 
 abbrev pub firsts : List Row → ℕ
 firsts = sum_over (λ r. first r.figures)
@@ -66,8 +65,7 @@ unsound b = malformed b || any_of (sum_tests b)
 -- ---- the bill of a text, where the text may be added: none is 21
 
 abbrev pub sound_only : Option Bill → Option Bill
-sound_only None = None
-sound_only (Some b) = cond (unsound b) None (Some b)
+sound_only = option_and_then (λ b. cond (unsound b) None (Some b))
 
 unfoldable pub sound_sheet : List ℕ → Option Bill
 sound_sheet t = sound_only (read_sheet t)

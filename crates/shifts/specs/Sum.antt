@@ -1,5 +1,5 @@
 -- The sum of two bills, and when it is refused.
-use Rattle.std.specs.Prelude.{Bool, not, ◌||◌, cond, List, [], ◌∷◌, ◌++◌, ℕ, zero, suc, ◌+◌, eqb, ltb, Option, None, Some}
+use Rattle.std.specs.Prelude.{Bool, not, ◌||◌, cond, List, [], ◌∷◌, ◌++◌, ℕ, zero, suc, ◌+◌, eqb, ltb, map, Option, None, Some}
 use Rattle.text.specs.Sizes.{max_time}
 use Rattle.bill.specs.declared.section.Section.{Section}
 use Rattle.bill.specs.declared.section.Section.TheVariants.{Cores, Processes}
@@ -25,8 +25,7 @@ figures_of missing [] n = missing
 figures_of missing (r ∷ rs) n = cond (is_same (order n r.name)) r.figures (figures_of missing rs n)
 
 unfoldable pub rows_of : (Name → List ℕ) → List Name → List Row
-rows_of f [] = []
-rows_of f (n ∷ ns) = record { name = n; figures = f n } ∷ rows_of f ns
+rows_of f = map (λ n. record { name = n; figures = f n })
 
 -- "figures of equal names", "sorted by name bytes"; x and y for a name that is missing
 unfoldable pub add_rows : List ℕ → List ℕ → List Row → List Row → List Row

@@ -1,6 +1,8 @@
 -- Many sheets at once: what they come to, with no order and no grouping in it. `Groupings.grouped` says that sheets added in any grouping come to this, and `AnyOrder.any_order`
 -- that it is the same in any order.
-use Rattle.std.specs.Prelude.{Bool, not, cond, List, [], ◌∷◌, ◌++◌, ℕ, eqb, ltb, Option, None, Some}
+use Rattle.std.specs.Prelude.{Bool, not, cond, List, [], ◌∷◌, ℕ, eqb, ltb, Option, None, Some}
+use Rattle.std.specs.List.{flat_map}
+use Rattle.std.specs.Option.{option_and_then}
 use Rattle.text.specs.Sizes.{max_time}
 use Rattle.text.specs.Lists.{any, sum_over}
 use Rattle.bill.specs.declared.section.Section.{Section}
@@ -15,8 +17,7 @@ use Rattle.shifts.specs.Sum.{plus, figures_of, rows_of, missing}
 -- ---- a section of all: each name once, and the sum of the figures that it has in every sheet; a sheet that lacks it has `missing` for it
 
 abbrev pub names_in : Section → List Bill → List Name
-names_in s [] = []
-names_in s (b ∷ bs) = names (rows_in s b) ++ names_in s bs
+names_in s = flat_map (λ b. names (rows_in s b))
 
 abbrev pub figures_in : Section → List Bill → Name → List ℕ
 figures_in s [] n = []
@@ -66,8 +67,7 @@ bills_of [] = Some []
 bills_of (t ∷ ts) = with_next (sound_sheet t) (bills_of ts)
 
 abbrev pub text_of : Option (List Bill) → Option (List ℕ)
-text_of None = None
-text_of (Some bs) = cond (any_of (all_tests bs)) None (Some (bill_text (sum_of bs)))
+text_of = option_and_then (λ bs. cond (any_of (all_tests bs)) None (Some (bill_text (sum_of bs))))
 
 unfoldable pub together : List (List ℕ) → Option (List ℕ)
 together ts = text_of (bills_of ts)

@@ -1,11 +1,7 @@
 use native.Mathlib.Omega.{arith}
-use borrow.Author.Rules.{rules}
 use Rattle.text.proofs.Finds.{find_ge}
-use Rattle.adding.proofs.LinePlaces.{placing_start, placing_open, placing_full, placing_turn, placing_end}
+use Rattle.adding.proofs.LinePlaces.{placing_open, placing_full, placing_turn, placing_end}
 use Rattle.adding.proofs.places.line_starts.Goals as goal
-
-pub loop-at-init : goal.loop-at-init
-loop-at-init c = placing_start _ _ (search rules)
 
 pub returns-then-text-e : goal.returns-then-text-e
 returns-then-text-e c = placing_open _ _ _ _ c.loop-at.invariant (rw (← c.find-e.ensures) c.if-text-e.true) c.loop-at-test.true

@@ -1,18 +1,7 @@
 -- `adding::sheet::names_once` meets its contract: each section is put in order, and then they are compared.
 use mathlib.Core.Path.{◌∙◌}
-use borrow.Author.Rules.{rules}
-use Rattle.adding.proofs.NameTests.{cores_twice, processes_twice, both_rise, compared}
+use Rattle.adding.proofs.NameTests.{both_rise, compared}
 use Rattle.adding.proofs.sheet.names_once.Goals as goal
-
-pub returns-then-not-sort : goal.returns-then-not-sort
-returns-then-not-sort c =
-    let s = c.sort in
-    cores_twice _ _ _ _ (search rules) s.result s.ensures.1 _ (search rules) (rw c.if-not-sort.true)
-
-pub returns-then-not-sort-2 : goal.returns-then-not-sort-2
-returns-then-not-sort-2 c =
-    let s = c.sort in
-    processes_twice _ _ _ _ (search rules) s.result s.ensures.1 (rw c.if-not-sort.false) _ (search rules) c.sort-2.result c.sort-2.ensures.1 (rw c.if-not-sort-2.true)
 
 pub meet-requires : goal.meet-requires
 meet-requires c =

@@ -7,9 +7,6 @@ use Rattle.adding.proofs.sheet.read_places.Goals as goal
 pub returns-then-text-gt-SHEET_MOST : goal.returns-then-text-gt-SHEET_MOST
 returns-then-text-gt-SHEET_MOST c = unread _ _ _ (search rules) (search rules) (too_long _ c.if-text-gt-SHEET_MOST.true)
 
-pub returns-in_err-form : goal.returns-in_err-form
-returns-in_err-form c = rw c.from_residual.ensures (unread _ _ _ (search rules) (search rules) c.in_err-form.ensures)
-
 pub rows_right-requires : goal.rows_right-requires
 rows_right-requires c = (formed_sized c.in_ok-form.ensures, search rules, search rules)
 

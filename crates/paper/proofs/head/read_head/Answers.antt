@@ -23,17 +23,17 @@ blank_within line blank e f =
 pub returns-then-not-starts : goal.returns-then-not-starts
 returns-then-not-starts c = other_verdict _ (sym c.starts.ensures ∙ c.if-not-starts.true)
 
-pub slice_bounds-scale_code-count : goal.slice_bounds-scale_code-count
-slice_bounds-scale_code-count c = (blank_within _ _ (sym c.starts.ensures ∙ c.if-not-starts.false) c.find-blank.ensures).0
+pub slice_bounds-scale_of-count : goal.slice_bounds-scale_of-count
+slice_bounds-scale_of-count c = (blank_within _ _ (sym c.starts.ensures ∙ c.if-not-starts.false) c.find-blank.ensures).0
 
-pub slice_bounds-scale_code-start : goal.slice_bounds-scale_code-start
-slice_bounds-scale_code-start c = let h = blank_within c.args.line.now c.find-blank.result (sym c.starts.ensures ∙ c.if-not-starts.false) c.find-blank.ensures in search rules
+pub slice_bounds-scale_of-start : goal.slice_bounds-scale_of-start
+slice_bounds-scale_of-start c = let h = blank_within c.args.line.now c.find-blank.result (sym c.starts.ensures ∙ c.if-not-starts.false) c.find-blank.ensures in search rules
 
-pub slice_bounds-scale_code-end : goal.slice_bounds-scale_code-end
-slice_bounds-scale_code-end c = let h = blank_within c.args.line.now c.find-blank.result (sym c.starts.ensures ∙ c.if-not-starts.false) c.find-blank.ensures in search rules
+pub slice_bounds-scale_of-end : goal.slice_bounds-scale_of-end
+slice_bounds-scale_of-end c = let h = blank_within c.args.line.now c.find-blank.result (sym c.starts.ensures ∙ c.if-not-starts.false) c.find-blank.ensures in search rules
 
-pub returns-then-scale-eq0 : goal.returns-then-scale-eq0
-returns-then-scale-eq0 c = no_scale _ (sym c.starts.ensures ∙ c.if-not-starts.false) _ c.find-blank.ensures _ c.scale_code-scale.ensures c.if-scale-eq0.true
+pub returns-in_err-named : goal.returns-in_err-named
+returns-in_err-named c = c.from_residual.ensures ∙ no_scale _ (sym c.starts.ensures ∙ c.if-not-starts.false) _ c.find-blank.ensures _ c.scale_of.ensures c.in_err-named.was
 
 pub slice_bounds-starts-count : goal.slice_bounds-starts-count
 slice_bounds-starts-count c = (blank_within _ _ (sym c.starts.ensures ∙ c.if-not-starts.false) c.find-blank.ensures).1
@@ -42,7 +42,7 @@ pub slice_bounds-starts-start : goal.slice_bounds-starts-start
 slice_bounds-starts-start c = let h = blank_within c.args.line.now c.find-blank.result (sym c.starts.ensures ∙ c.if-not-starts.false) c.find-blank.ensures in search rules
 
 pub returns-then-not-starts-2 : goal.returns-then-not-starts-2
-returns-then-not-starts-2 c = no_span _ (sym c.starts.ensures ∙ c.if-not-starts.false) _ c.find-blank.ensures _ c.scale_code-scale.ensures c.if-scale-eq0.false (sym c.starts-2.ensures ∙ c.if-not-starts-2.true)
+returns-then-not-starts-2 c = no_span _ (sym c.starts.ensures ∙ c.if-not-starts.false) _ c.find-blank.ensures _ c.scale_of.ensures _ c.in_ok-named.was (sym c.starts-2.ensures ∙ c.if-not-starts-2.true)
 
 pub overflow_add-blank : goal.overflow_add-blank
 overflow_add-blank c = let h = span_room c.args.line.now c.find-blank.result (sym c.starts-2.ensures ∙ c.if-not-starts-2.false) in search rules
@@ -54,7 +54,7 @@ pub slice_bounds-read_number-start : goal.slice_bounds-read_number-start
 slice_bounds-read_number-start c = let h = span_room c.args.line.now c.find-blank.result (sym c.starts-2.ensures ∙ c.if-not-starts-2.false) in search rules
 
 pub returns-in_err-span : goal.returns-in_err-span
-returns-in_err-span c = c.from_residual.ensures ∙ no_number _ (sym c.starts.ensures ∙ c.if-not-starts.false) _ c.find-blank.ensures _ c.scale_code-scale.ensures c.if-scale-eq0.false (sym c.starts-2.ensures ∙ c.if-not-starts-2.false) _ c.read_number.ensures c.in_err-span.was
+returns-in_err-span c = c.from_residual-in_err-span.ensures ∙ no_number _ (sym c.starts.ensures ∙ c.if-not-starts.false) _ c.find-blank.ensures _ c.scale_of.ensures _ c.in_ok-named.was (sym c.starts-2.ensures ∙ c.if-not-starts-2.false) _ c.read_number.ensures c.in_err-span.was
 
 pub returns : goal.returns
-returns c = head_there _ (sym c.starts.ensures ∙ c.if-not-starts.false) _ c.find-blank.ensures _ c.scale_code-scale.ensures c.if-scale-eq0.false (sym c.starts-2.ensures ∙ c.if-not-starts-2.false) _ c.read_number.ensures _ c.in_ok-span.was
+returns c = rw c.scale_number.ensures (head_there _ (sym c.starts.ensures ∙ c.if-not-starts.false) _ c.find-blank.ensures _ c.scale_of.ensures _ c.in_ok-named.was (sym c.starts-2.ensures ∙ c.if-not-starts-2.false) _ c.read_number.ensures _ c.in_ok-span.was)
