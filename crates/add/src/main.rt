@@ -2,11 +2,13 @@
 // are only the memory that is lent, the line of a refusal, and the writing, which nobody can prove.
 #![tactic(auto)]
 
-ghost use Rattle.std.specs.Prelude.{◌≡◌, ℕ, ◌≤◌, length};
+ghost use Rattle.std.specs.Prelude.{◌≡◌, ◌≤◌, length};
 ghost use Rattle.text.specs.Put.{put, after};
+ghost use Rattle.adding.specs.Adding.{number_of};
 ghost use Rattle.ledger.specs.Totals.{IsRefusal};
 ghost use Rattle.add.specs.Line.{refused_line, line_most, IsAnswer};
 
+use adding::refusal::Refusal;
 use adding::sheet::SHEET_MOST;
 use ledger::total::{SheetError, SumError, sum_of_arguments};
 use std::env::{Env, FillError};
@@ -54,11 +56,11 @@ fn tell(stderr: Stderr, word: &[u8], sheet: usize) {
 
 // Tells why a sheet does not come to the sum: the line of its refusal, or that it could not be read.
 fn tell_sheet(stdout: Stdout, stderr: Stderr, sheet: usize, why: SheetError)
-    requires { (number : ℕ) → why ≡ SheetError.Refused number → IsRefusal number }
+    requires { (refusal : Refusal) → why ≡ SheetError.Refused refusal → IsRefusal (number_of refusal) }
 {
     match why {
-        SheetError::Refused(number) => {
-            print_refused(stdout, stderr, number);
+        SheetError::Refused(refusal) => {
+            print_refused(stdout, stderr, refusal.number());
             tell(stderr, b"sheet ", sheet);
         }
         SheetError::Unread => tell(stderr, b"unread ", sheet),

@@ -13,6 +13,7 @@ use Rattle.text.specs.Put.{Put, after, put}
 use Rattle.text.proofs.Writes.{put_fits}
 use Rattle.shifts.specs.Sizes.{sheet_most}
 use Rattle.shifts.proofs.Many.{from_21}
+use Rattle.adding.specs.Adding.{number_of}
 use Rattle.ledger.specs.declared.total.SheetError.TheVariants.{Refused, Unread}
 use Rattle.ledger.specs.declared.total.SumError.{SumError}
 use Rattle.ledger.specs.declared.total.SumError.TheVariants.{Sheet, TooFew, WrongSize}
@@ -29,7 +30,7 @@ module _ (count : ℕ) (l : List ℕ) (room : sheet_most ≤ length l) where
 
   pub answered : (r : Result ℕ SumError) (m : List ℕ) → 3 ≤ count → Ended r count l m → Answered r count l m
   answered (Ok n) m h w = record { number = long; enough = h; leaves = w.1 }
-  answered (Err (Sheet k (Refused n))) m h w = record { number = other n k w.1.1.0; enough = h; leaves = w.1 }
+  answered (Err (Sheet k (Refused r))) m h w = record { number = other (number_of r) k w.1.1.0; enough = h; leaves = w.1 }
   answered (Err (Sheet k Unread)) m h w = record { number = long; enough = h; leaves = w.1 }
   answered (Err TooFew) m h w = absurd w.0
   answered (Err WrongSize) m h w = absurd w.0

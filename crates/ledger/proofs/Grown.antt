@@ -47,7 +47,7 @@ pub holds_first : {n : ℕ} (d : List ℕ) → Stepped (Ok n) alone d → Holdin
 holds_first d h = record { fits = h.0; came = came_first h.1 }
 
 pub first_not : {count : ℕ} (l d : List ℕ) (e : SheetError) → 1 < count → Stepped (Err e) alone d → Ended (Err (Sheet 1 e)) count l l
-first_not l d (Refused n) h w = (tt, (h, (record { came = came_first w; before = λ j p. absurd (omega arith) }, refl)))
+first_not l d (Refused r) h w = (tt, (h, (record { came = came_first w; before = λ j p. absurd (omega arith) }, refl)))
 first_not l d Unread h w = (tt, (h, (record { from = omega arith; before = λ p. absurd (omega arith) }, refl)))
 
 module _ {i n : ℕ} (c : List ℕ) (from : 2 ≤ i) (s : Holding i n c) (d : List ℕ) where
@@ -65,7 +65,7 @@ module _ {i n : ℕ} (c : List ℕ) (from : 2 ≤ i) (s : Holding i n c) (d : Li
       refused_more = record { came = came_more s.came h; before = before_more s.came h }
 
   pub next_not : {count : ℕ} (l : List ℕ) (e : SheetError) → i < count → Stepped (Err e) (add_texts (take n c)) d → Ended (Err (Sheet i e)) count l l
-  next_not l (Refused k) h w = (tt, (h, (refuses_next w, refl)))
+  next_not l (Refused r) h w = (tt, (h, (refuses_next w, refl)))
   next_not l Unread h w = (tt, (h, (record { from = omega arith; before = λ p. record { text = take n c; came = s.came } }, refl)))
 
 pub holds_all : {i count n : ℕ} {c : List ℕ} → i ≡ count → Holding i n c → Holding count n c

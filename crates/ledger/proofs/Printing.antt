@@ -12,6 +12,8 @@ use Rattle.shifts.specs.Sum.{Total, Text, add_all}
 use Rattle.shifts.specs.Sizes.{sheet_most}
 use Rattle.shifts.specs.Many.{alone, sum_from}
 use Rattle.shifts.proofs.Many.{stays, add_more, all_added, total_short}
+use Rattle.adding.specs.declared.refusal.Refusal.{Refusal as Why}
+use Rattle.adding.specs.Adding.{number_of}
 use Rattle.ledger.specs.declared.total.SheetError.{SheetError}
 use Rattle.ledger.specs.declared.total.SheetError.TheVariants.{Refused}
 use Rattle.ledger.specs.declared.total.SumError.{SumError}
@@ -60,9 +62,9 @@ module _ (count : ℕ) (l m : List ℕ) (room : sheet_most ≤ length l) {r : Re
 
   -- an error is taken apart one step after the other
   module _ {y : SumError} (p : r ≡ Err y) where
-    pub refusal_told : {k n : ℕ} {e : SheetError} → y ≡ Sheet k e → e ≡ Refused n → IsRefusal n
-    refusal_told {k} {n} {e} q f =
-        let same : r ≡ Err (Sheet k (Refused n)) = cc in
+    pub refusal_told : {k : ℕ} {e : SheetError} {x : Why} → y ≡ Sheet k e → e ≡ Refused x → IsRefusal (number_of x)
+    refusal_told {k} {e} {x} q f =
+        let same : r ≡ Err (Sheet k (Refused x)) = cc in
         refusal_is (rw same at w.leaves).1.0
 
     pub size_right : y ≡ WrongSize → ⊥

@@ -13,10 +13,13 @@ use Rattle.shifts.specs.Sum.{Total, Text, Refusal, add_texts}
 use Rattle.shifts.specs.Sizes.{sheet_most}
 use Rattle.shifts.specs.Many.{is_sound, alone}
 use Rattle.shifts.proofs.Many.{sound_short, sum_short}
+use Rattle.std.specs.Prelude.{IsErrAnd, MatchResult}
 use Rattle.std.specs.declared.result.Result.{Result}
 use Rattle.std.specs.declared.result.Result.TheVariants.{Ok, Err}
 use Rattle.adding.specs.declared.refusal.Refusal.{Refusal as Why}
 use Rattle.adding.specs.Adding.{number_of, Summed, summed, told_as, into_output, add_into}
+use Rattle.ledger.specs.declared.total.SheetError.{SheetError}
+use Rattle.ledger.specs.declared.total.SheetError.TheVariants.{Refused}
 use Rattle.ledger.specs.Totals.{read_most, ASheet, Comes}
 
 -- ---- a file at the front of the buffer
@@ -108,5 +111,22 @@ module _ (l : List ℕ) (n : ℕ) (b : List ℕ) (i : ℕ) (fit : i ≤ length b
       let z : k - 0 ≡ k = omega arith in
       (q.0, to_held (v.1 ∙ ap Text (rw z at (sym q.1))))
 
-  pub more_refused : (r : Why) {k : ℕ} → x ≡ Err r → k ≡ number_of r → Comes (add_texts (take n l)) (Refusal k)
-  more_refused r a e = to_held (sum_refused (take (n - 0) l) (take (i - 0) b) out room x w r a ∙ ap Refusal (sym e))
+  pub more_refused : (r : Why) → x ≡ Err r → Comes (add_texts (take n l)) (Refusal (number_of r))
+  more_refused r a = to_held (sum_refused (take (n - 0) l) (take (i - 0) b) out room x w r a)
+
+-- ---- what `add` answers, its refusal handed on as an error
+
+abbrev Passed : Result ℕ Why → Result ℕ SheetError → Type 0
+Passed x y = MatchResult x (λ k. y ≡ Ok k) (λ r. IsErrAnd y (λ e. e ≡ Refused r))
+
+pub sum_passed : (x : Result ℕ Why) {y : Result ℕ SheetError} {k : ℕ} → Passed x y → y ≡ Ok k → x ≡ Ok k
+sum_passed (Ok j) {y} {k} h e =
+    let z : ◌≡◌ {A = Result ℕ SheetError} (Ok j) (Ok k) = sym h ∙ e in
+    cc
+sum_passed (Err r) h e = absurd (rw e at h)
+
+pub refusal_passed : (x : Result ℕ Why) {y : Result ℕ SheetError} {e : SheetError} → Passed x y → y ≡ Err e → (r : Why) × (x ≡ Err r) × (e ≡ Refused r)
+refusal_passed (Ok j) {y} {e} h q =
+    let z : ◌≡◌ {A = Result ℕ SheetError} (Ok j) (Err e) = sym h ∙ q in
+    cc
+refusal_passed (Err r) h q = (r, refl, rw q at h)

@@ -16,6 +16,7 @@ use Rattle.shifts.specs.Many.{alone, sum_from}
 use Rattle.shifts.specs.Grouping.{bytes_of}
 use Rattle.shifts.proofs.Many.{stays, add_more, from_21, ReadAs, AllReadAs, same_sum}
 use Rattle.shifts.proofs.AnyOrder.{left_any_order}
+use Rattle.adding.specs.Adding.{number_of}
 use Rattle.ledger.specs.declared.total.SheetError.TheVariants.{Refused, Unread}
 use Rattle.ledger.specs.declared.total.SumError.{SumError}
 use Rattle.ledger.specs.declared.total.SumError.TheVariants.{Sheet, TooFew, WrongSize}
@@ -30,9 +31,9 @@ never e = absurd (let z : ◌≡◌ {A = ℕ} 0 1 = cc in omega arith)
 -- an output too short: 15, and nothing changed
 pub wrong_size_unique : (r : Result ℕ SumError) (count : ℕ) (l m : List ℕ) → Answered r count l m → length l < sheet_most → (r ≡ Err WrongSize) × (m ≡ l)
 wrong_size_unique (Ok n) count l m w h = never (w.number ∙ lt-ltb (length l) sheet_most h)
-wrong_size_unique (Err (Sheet k (Refused n))) count l m w h =
+wrong_size_unique (Err (Sheet k (Refused r))) count l m w h =
     let c = w.leaves.1.0.came in
-    absurd (omega (arith, from_21 c.first c.others c.total, eqb-true n 15 (w.number ∙ lt-ltb (length l) sheet_most h)))
+    absurd (omega (arith, from_21 c.first c.others c.total, eqb-true (number_of r) 15 (w.number ∙ lt-ltb (length l) sheet_most h)))
 wrong_size_unique (Err (Sheet k Unread)) count l m w h = never (w.number ∙ lt-ltb (length l) sheet_most h)
 wrong_size_unique (Err TooFew) count l m w h = never (w.number ∙ lt-ltb (length l) sheet_most h)
 wrong_size_unique (Err WrongSize) count l m w h = (refl, w.leaves)
@@ -40,7 +41,7 @@ wrong_size_unique (Err WrongSize) count l m w h = (refl, w.leaves)
 -- one with room: too few sheets, and nothing changed
 pub too_few_unique : (r : Result ℕ SumError) (count : ℕ) (l m : List ℕ) → Answered r count l m → sheet_most ≤ length l → count < 3 → (r ≡ Err TooFew) × (m ≡ l)
 too_few_unique (Ok n) count l m w room h = absurd (omega (arith, w.enough))
-too_few_unique (Err (Sheet k (Refused n))) count l m w room h = absurd (omega (arith, w.enough))
+too_few_unique (Err (Sheet k (Refused r))) count l m w room h = absurd (omega (arith, w.enough))
 too_few_unique (Err (Sheet k Unread)) count l m w room h = absurd (omega (arith, w.enough))
 too_few_unique (Err TooFew) count l m w room h = (refl, w.leaves)
 too_few_unique (Err WrongSize) count l m w room h = never (sym (w.number ∙ le-ltb (length l) sheet_most room))

@@ -4,6 +4,7 @@ use Rattle.text.specs.Put.{written}
 use Rattle.shifts.specs.Sum.{Total, Text, Refusal, add_all}
 use Rattle.shifts.specs.Sizes.{sheet_most}
 use Rattle.shifts.specs.Many.{sum_from, HasText}
+use Rattle.adding.specs.Adding.{number_of}
 use Rattle.ledger.specs.declared.total.SheetError.{SheetError}
 use Rattle.ledger.specs.declared.total.SheetError.TheVariants.{Refused, Unread}
 use Rattle.ledger.specs.declared.total.SumError.{SumError}
@@ -55,7 +56,7 @@ pub record UnreadAt (k : ℕ) : Type 0 where
 -- The number of each answer, of 02's list, or of 01's table for an output too short. 01 and 02 have none for a sheet that can't be read or is missing.
 abbrev pub answer_number : Result ℕ SumError → Option ℕ
 answer_number (Ok n) = Some 0
-answer_number (Err (Sheet k (Refused n))) = Some n
+answer_number (Err (Sheet k (Refused r))) = Some (number_of r)
 answer_number (Err (Sheet k Unread)) = None
 answer_number (Err TooFew) = None
 answer_number (Err WrongSize) = Some 15
@@ -81,7 +82,7 @@ pub record Summed (n count : ℕ) (l m : List ℕ) : Type 0 where
 -- "A refused sum writes nothing"
 abbrev pub Leaves : Result ℕ SumError → ℕ → List ℕ → List ℕ → Type 0
 Leaves (Ok n) count l m = Summed n count l m
-Leaves (Err (Sheet k (Refused n))) count l m = (k < count) × (RefusedAt n k × (m ≡ l))
+Leaves (Err (Sheet k (Refused r))) count l m = (k < count) × (RefusedAt (number_of r) k × (m ≡ l))
 Leaves (Err (Sheet k Unread)) count l m = (k < count) × (UnreadAt k × (m ≡ l))
 Leaves (Err TooFew) count l m = m ≡ l
 Leaves (Err WrongSize) count l m = m ≡ l
@@ -119,7 +120,7 @@ pub record Comes (f : List ℕ → Total) (x : Total) : Type 0 where
 
 abbrev pub Stepped : Result ℕ SheetError → (List ℕ → Total) → List ℕ → Type 0
 Stepped (Ok k) f c = (k ≤ length c) × Comes f (Text (take k c))
-Stepped (Err (Refused n)) f c = Comes f (Refusal n)
+Stepped (Err (Refused r)) f c = Comes f (Refusal (number_of r))
 Stepped (Err Unread) f c = Unit {0}
 
 -- the total of the sheets before sheet i

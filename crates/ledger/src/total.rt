@@ -7,16 +7,17 @@ ghost use Rattle.ledger.specs.Totals.{read_most, Stepped, Holding, Ended, Answer
 
 use crate::files::read_argument;
 use adding::add::add;
+use adding::refusal::Refusal;
 use adding::sheet::SHEET_MOST;
 use adding::sound::sound;
 use std::env::Env;
 use std::rt::Files;
 use text::put::put_bytes;
 
-// Why a sheet does not come to the total: the number of its refusal, or that it could not be read.
+// Why a sheet does not come to the total: its refusal, or that it could not be read.
 #[derive(Clone, Copy, Debug, PartialEq, Eq, Hash)]
 pub enum SheetError {
-    Refused(u32),
+    Refused(Refusal),
     Unread,
 }
 
@@ -42,7 +43,7 @@ fn first_sheet<R: Env + Files>(rt: &R, held: &mut [u8], buf: &mut [u8]) -> Resul
         put_bytes(&buf[0..n], held, 0);
         return Ok(n);
     }
-    Err(SheetError::Refused(21))
+    Err(SheetError::Refused(Refusal::Malformed))
 }
 
 // Adds the sheet that argument i names to the total so far, the first n bytes held; how many bytes are held then.
@@ -58,13 +59,9 @@ fn one_more<R: Env + Files>(
 {
     let m = read_argument(rt, i, buf).ok_or(SheetError::Unread)?;
     let mut out = [0u8; SHEET_MOST];
-    match add(&held[0..n], &buf[0..m], &mut out) {
-        Ok(k) => {
-            put_bytes(&out[0..k], held, 0);
-            Ok(k)
-        }
-        Err(refusal) => Err(SheetError::Refused(refusal.number())),
-    }
+    let k = add(&held[0..n], &buf[0..m], &mut out).map_err(SheetError::Refused)?;
+    put_bytes(&out[0..k], held, 0);
+    Ok(k)
 }
 
 // Adds the sheets that the arguments from 2 on name to the first one, the first n bytes held, and puts the sum of all.
