@@ -6,7 +6,6 @@
 use intake::read_full;
 use line::event::Event;
 use line::reading::Reading;
-use line::writing::Written;
 use std::io::Stdout;
 use words::action::Action;
 use words::kind::Kind;
@@ -48,11 +47,11 @@ fn say_written(
     out: &mut [u8],
 ) {
     match line::write(event, source, target, note, out) {
-        Written::Done(n) => {
+        Ok(n) => {
             say(stdout, b"0 ");
             say_front(stdout, out, n);
         }
-        Written::NotWritten(no) => say_number(stdout, no as u64),
+        Err(refusal) => say_number(stdout, refusal.number() as u64),
     }
 }
 
@@ -88,8 +87,8 @@ fn say_line(stdout: Stdout, l: &[u8]) {
         Reading::Creator => say(stdout, b"0 creator\n"),
         Reading::CreationDate => say(stdout, b"0 creation date\n"),
         Reading::EventLine(event, count) => say_event(stdout, l, event, count),
-        Reading::Refused(no) => {
-            say_number(stdout, no as u64);
+        Reading::Refused(refusal) => {
+            say_number(stdout, refusal.number() as u64);
             say(stdout, b"\n");
         }
     }
