@@ -9,7 +9,7 @@ use ranges::range::table_answer;
 use tables::entry::*;
 
 // The answer to the lines of a chunk, and how many bytes they took.
-#[derive(Clone, Copy)]
+#[derive(Clone, Copy, Debug, PartialEq, Eq)]
 pub struct Fed {
     pub answer: u32,
     pub used: usize,
