@@ -54,6 +54,7 @@ fn lines_in(
         ≡ fed_lines whole (tables names.old nums.old ticks.old) s.now }
 {
     let mut at = 0;
+    // no `for`: a line tells where the next one begins, and the answer to the last is given
     loop {
         let fed = next_in(names, nums, ticks, s, at, whole);
         if whole | (fed.used == at) {
