@@ -82,6 +82,7 @@ fn say_traces(stdout: Stdout, s: &[u8]) -> Result<usize, Broken>
 {
     let mut at = 0;
     let mut traces = 0;
+    // no `for`: an entry tells where the next one begins
     while at < s.len() {
         let Some(entry) = entry_from(s, at) else {
             return Err(Broken { traces, at });

@@ -84,6 +84,7 @@ fn read_to_end<R: Read>(
 {
     let mut have: usize = 0;
     let mut total: u64 = 0;
+    // no `for`: the bytes that were read are counted, and how many a read brings is known once it is done
     while total < MOST {
         let step = one_read(stdin, names, nums, ticks, buf, have)?;
         total += step.bytes as u64;

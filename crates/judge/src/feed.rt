@@ -9,7 +9,7 @@ use ranges::range::table_answer;
 use tables::entry::*;
 
 // The answer to the lines of a chunk, and how many bytes they took.
-#[derive(Clone, Copy)]
+#[derive(Clone, Copy, Debug, PartialEq, Eq)]
 pub struct Fed {
     pub answer: u32,
     pub used: usize,
@@ -54,6 +54,7 @@ fn lines_in(
         ≡ fed_lines whole (tables names.old nums.old ticks.old) s.now }
 {
     let mut at = 0;
+    // no `for`: a line tells where the next one begins, and the answer to the last is given
     loop {
         let fed = next_in(names, nums, ticks, s, at, whole);
         if whole | (fed.used == at) {

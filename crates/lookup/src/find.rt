@@ -21,8 +21,7 @@ fn seek(
     requires { home < place_rows }
     ensures { result ≡ row_met index.now home (sought index.now home (ends_at names.now nums.now name.now)) }
 {
-    let mut d = 0;
-    while d < PLACE_ROWS {
+    for d in 0..PLACE_ROWS {
         let e = index[(home + d) % PLACE_ROWS] as usize;
         if e == 0 {
             return None;
@@ -30,7 +29,6 @@ fn seek(
         if row_is(names, nums, name, e - 1) {
             return Some(e - 1);
         }
-        d += 1;
     }
     None
 }
@@ -87,9 +85,8 @@ fn find_below(nums: &[u32; NUMS_SIZE], owner: u32, number: u32, to: usize) -> Op
     requires { (to ≤ instance_rows) × (to % 16 ≡ 0) }
     ensures { result ≡ last_below (instance_is nums.now owner number) to }
 {
-    let mut at = to;
-    while 0 < at {
-        at -= 16;
+    for k in (0..to / 16).rev() {
+        let at = 16 * k;
         let m = sixteen(nums, owner, number, at);
         if m != 0 {
             return last_of(at, m);
@@ -145,9 +142,7 @@ pub(crate) fn find_from(nums: &[u32], owner: u32, number: u32) -> Option<usize>
     let Some(nums) = nums.as_array::<NUMS_SIZE>() else {
         return None;
     };
-    let mut j = nums[INSTANCES] as usize;
-    while 0 < j {
-        j -= 1;
+    for j in (0..nums[INSTANCES] as usize).rev() {
         if reaches(nums, owner, number, j) {
             return Some(j);
         }

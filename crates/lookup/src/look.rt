@@ -9,7 +9,7 @@ use steps::numbers::NO_CORE;
 use tables::entry::NAME_ROWS;
 
 // What the event does to its core, and the rows of its core, its target and its instance.
-#[derive(Clone, Copy)]
+#[derive(Clone, Copy, Debug, PartialEq, Eq)]
 pub struct LookedUp {
     pub class: u32,
     pub source: Option<usize>,

@@ -31,6 +31,7 @@ fn same_name(row: &[u8], name: &[u8]) -> bool
         return same(row, name);
     }
     let mut i = name.len() - 8;
+    // no `for`: the last step, to the front, is shorter than eight where the length is no multiple of it
     loop {
         if eight_differ(row, name, i) {
             return false;

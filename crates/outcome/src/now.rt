@@ -14,7 +14,7 @@ use ranges::range::table_answer;
 use tables::entry::*;
 
 // The verdict, and how many bytes of the output the sheet takes. 15 and 16 take the verdict's place, and then nothing was written.
-#[derive(Clone, Copy)]
+#[derive(Clone, Copy, Debug, PartialEq, Eq)]
 pub struct Outcome {
     pub verdict: Verdict,
     pub length: usize,

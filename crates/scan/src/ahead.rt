@@ -9,7 +9,7 @@ use text::name::all_plain;
 use walk::reader::line_from;
 
 // A line that ends just before the index `end`; what stands after its end begins at the index `start`. Whether its bytes are all plain, and its commas.
-#[derive(Clone, Copy)]
+#[derive(Clone, Copy, Debug, PartialEq, Eq)]
 pub struct Ahead {
     pub end: usize,
     pub start: usize,

@@ -2,7 +2,7 @@
 use Rattle.std.proofs.Common.{◌≡◌, ℕ, pred, [], ◌∷◌, get_or, refl, Result, Ok, Err, sym, ap, ◌∙◌, arith}
 use Rattle.text.specs.declared.refusal.Refusal.{Refusal}
 use Rattle.text.specs.declared.refusal.Refusal.TheVariants.{Line, Version, Parameter, Scale, Field, Event, Rule, Time, Kind, Room, Chart, Instance, Core, Count, Size, Range}
-use Rattle.text.specs.Refusal.{refusal_number, answer_number, numbered}
+use Rattle.text.specs.Refusal.{refusal_number, numbered}
 
 -- the refusals in the order of their numbers
 abbrev at : ℕ → Refusal

@@ -13,7 +13,7 @@ use text::bytes::find;
 use text::number::read_number;
 
 // A number, and where it goes on behind it.
-#[derive(Clone, Copy)]
+#[derive(Clone, Copy, Debug, PartialEq, Eq)]
 struct Told {
     number: usize,
     next: usize,

@@ -4,7 +4,7 @@ use text::bytes::find;
 use text::number::read_number;
 
 // The numbers of a step, after its word.
-#[derive(Clone, Copy)]
+#[derive(Clone, Copy, Debug, PartialEq, Eq)]
 pub(crate) struct Numbers {
     pub(crate) first: u64,
     pub(crate) second: u64,

@@ -1,12 +1,8 @@
--- `lookup::find::find_below` meets its contract. The invariant: the instance's last row below `to` is its last row below `at`.
+-- `lookup::find::find_below` meets its contract. The invariant: the instance's last row below `to` is its last row below 16 * k.
 use mathlib.Core.Path.{◌≡◌}
-use Prim.Native.Nat.{◌%◌, ◌≤◌}
-use Rattle.tables.specs.Entry.{instance_rows}
+use Prim.Native.Nat.{◌*◌}
 use Rattle.lookup.specs.Find.{instance_is, last_below}
 use Rattle.lookup.proofs.find.find_below.Given as goal
 
-abbrev pub invariant-loop-at : goal.invariant-loop-at
-invariant-loop-at l = (l.at ≤ instance_rows) × (l.at % 16 ≡ 0) × (last_below (instance_is l.nums l.owner l.number) l.to ≡ last_below (instance_is l.nums l.owner l.number) l.at)
-
-abbrev pub decreases-loop-at : goal.decreases-loop-at
-decreases-loop-at l = l.at
+abbrev pub invariant-loop-k : goal.invariant-loop-k
+invariant-loop-k l = last_below (instance_is l.nums l.owner l.number) l.to ≡ last_below (instance_is l.nums l.owner l.number) (16 * l.k)

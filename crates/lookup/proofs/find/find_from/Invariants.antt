@@ -5,6 +5,3 @@ use Rattle.lookup.proofs.find.find_from.Given as goal
 
 abbrev pub invariant-loop-j : goal.invariant-loop-j
 invariant-loop-j l = find_from l.nums l.owner l.number ≡ last_below (reaches_in l.nums l.owner l.number) l.j
-
-abbrev pub decreases-loop-j : goal.decreases-loop-j
-decreases-loop-j l = l.j

@@ -1,7 +1,5 @@
 -- `lookup::find::seek` meets its contract. The invariant: what is found is what is found from the distance `d` on.
 use mathlib.Core.Path.{◌≡◌}
-use Prim.Native.Nat.{◌-◌}
-use Rattle.tables.specs.Entry.{place_rows}
 use Rattle.index.specs.Index.{sought}
 use Rattle.lookup.specs.Find.{ends_at, row_met}
 use Rattle.lookup.proofs.Seeks.{met_from}
@@ -9,6 +7,3 @@ use Rattle.lookup.proofs.find.seek.Given as goal
 
 abbrev pub invariant-loop-d : goal.invariant-loop-d
 invariant-loop-d l = row_met l.index l.home (sought l.index l.home (ends_at l.names l.nums l.name)) ≡ met_from l.names l.nums l.name l.index l.home l.d
-
-abbrev pub decreases-loop-d : goal.decreases-loop-d
-decreases-loop-d l = place_rows - l.d
