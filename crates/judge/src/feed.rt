@@ -8,7 +8,7 @@ use line::read_next;
 use ranges::range::table_answer;
 use tables::entry::*;
 
-// The answer to the lines of a chunk, and how many bytes they took.
+// The answer to the lines of a chunk, a number as that of `feed` is, and how many bytes they took.
 #[derive(Clone, Copy, Debug, PartialEq, Eq)]
 pub struct Fed {
     pub answer: u32,

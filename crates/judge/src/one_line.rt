@@ -1,4 +1,5 @@
-// One line against tables of the right sizes: answered in its place, and then counted, stored or remembered as refused.
+// One line against tables of the right sizes: answered in its place, and then counted, stored or remembered as refused. All answer with the number, which is remembered in the table, and told again as
+// it stands there.
 ghost use Rattle.std.specs.Prelude.{◌≡◌, ◌<◌, slice_set};
 ghost use Rattle.fields.specs.Part.{commas_of};
 ghost use Rattle.line.specs.Reading.{read_line, split_line};
@@ -127,8 +128,9 @@ pub(crate) fn line_in(
     }
     let c = s.commas;
     let r = s.reading;
-    if let Err(refusal) = answer_in_place(place_in(nums), r) {
-        return remember(nums, refusal.number());
+    let n = answer_in_place(place_in(nums), r);
+    if n != 0 {
+        return remember(nums, n);
     }
     read_in(names, nums, ticks, l, c, r)
 }

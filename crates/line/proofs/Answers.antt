@@ -16,7 +16,6 @@ use Rattle.text.specs.Number.{number_of}
 use Rattle.text.specs.Sizes.{max_time}
 use Rattle.text.proofs.Bools.{is_false}
 use Rattle.text.proofs.Words.{same_eq, starts_split}
-use Rattle.text.specs.declared.refusal.Refusal.TheVariants as refusal
 use Rattle.words.specs.declared.kind.Kind.{Kind}
 use Rattle.words.specs.declared.action.Action.{Action}
 use Rattle.words.specs.declared.scale.Scale.{Scale}
@@ -83,7 +82,7 @@ numbers_lowest (Some t) (Some f) None p source target note = refl
 numbers_lowest (Some t) (Some f) (Some g) p source target note = pair_lowest p t source f target g note
 
 -- a test before a reading, which refuses with 5
-five_before : (b wrong : Bool) (r : Reading) (ts : List Test) → answer_of r ≡ lowest (test 5 wrong ∷ ts) → answer_of (cond b r (Refused refusal.Field)) ≡ lowest (test 5 (cond b wrong true) ∷ ts)
+five_before : (b wrong : Bool) (r : Reading) (ts : List Test) → answer_of r ≡ lowest (test 5 wrong ∷ ts) → answer_of (cond b r (Refused 5)) ≡ lowest (test 5 (cond b wrong true) ∷ ts)
 unfolding answer_of
 five_before true wrong r ts e = e
 five_before false wrong r ts e = refl
@@ -186,7 +185,7 @@ unfolding refuses2 refuses3 refuses5 refuses6 refuses7
 event_answer l e = rw (event_no_version l e, e) (event_lowest l)
 
 parameter_lowest : (v line comment : Bool) (s : Option Scale) (creator date : Bool) → (v ≡ true → line ≡ true)
-    → answer_of (cond v Version (cond line (Refused refusal.Version) (cond comment Comment (scale_or s (cond creator Creator (cond date CreationDate (Refused refusal.Parameter)))))))
+    → answer_of (cond v Version (cond line (Refused 2) (cond comment Comment (scale_or s (cond creator Creator (cond date CreationDate (Refused 3)))))))
     ≡ lowest (test 2 (line && not v) ∷ test 3 (not (line || (comment || (is_scale s || (creator || date))))) ∷ [])
 unfolding answer_of
 parameter_lowest true true comment s creator date h = refl
@@ -206,7 +205,7 @@ parameter_answer l e =
 -- ---- the table
 
 line_answer : (l : List ℕ) (one event : Bool) → is_event_line l ≡ event
-    → answer_of (cond one (Refused refusal.Line) (cond event (event_reading l) (parameter_reading l))) ≡ lowest (test 1 one ∷ others l)
+    → answer_of (cond one (Refused 1) (cond event (event_reading l) (parameter_reading l))) ≡ lowest (test 1 one ∷ others l)
 unfolding answer_of
 line_answer l true event e = refl
 line_answer l false true e = event_answer l e

@@ -11,7 +11,6 @@ use Rattle.fields.proofs.Parts.{comma_grows, field_first, field_place, parts_fit
 use Rattle.line.specs.declared.reading.Reading.TheVariants.{Refused}
 use Rattle.line.specs.Event.{fields_reading, event_reading}
 use Rattle.text.proofs.Finds.{find_le}
-use Rattle.text.specs.declared.refusal.Refusal.TheVariants as refusal
 
 -- the commas of a line with six of them, one after the other
 pub record InOrder (l : List ℕ) (c : Commas) : Type 0 where
@@ -43,12 +42,12 @@ module _ (l : List ℕ) (c : Commas) (e : c ≡ commas_of l) where
       })
 
   -- without a sixth comma there are fewer than seven fields
-  pub event_few : length l ≤ c.c6 → Refused refusal.Field ≡ event_reading l
+  pub event_few : length l ≤ c.c6 → Refused 5 ≡ event_reading l
   unfolding event_reading
   event_few h = rw (parts_few l (rw e at h))
 
   -- with an eighth there are more than eight
-  pub event_many : c.c8 < length l → Refused refusal.Field ≡ event_reading l
+  pub event_many : c.c8 < length l → Refused 5 ≡ event_reading l
   unfolding event_reading
   event_many h = rw (parts_many l (rw e at h))
 

@@ -6,8 +6,6 @@ use mathlib.Core.List.{List, [], ◌∷◌, map}
 use Prim.Native.Nat.{ℕ}
 use Prim.Native.String.{String}
 use lib.ListN.{length, replicate}
-use Rattle.text.specs.declared.refusal.Refusal.{Refusal}
-use Rattle.text.specs.declared.refusal.Refusal.TheVariants as refusal
 use Rattle.text.specs.Literal.{bytes}
 use Rattle.text.specs.Bytes.{same_bytes, starts_with}
 use Rattle.text.specs.Pieces.{pieces}
@@ -64,18 +62,18 @@ event s e = record { line = bytes s; becomes = record { reading = EventLine e 0;
 abbrev pub version : String → Example
 version s = record { line = bytes s; becomes = record { reading = Version; answer = 0; back = None } }
 
-abbrev pub refused : String → Refusal → ℕ → Example
-refused s r n = record { line = bytes s; becomes = record { reading = Refused r; answer = n; back = None } }
+abbrev pub refused : String → ℕ → Example
+refused s n = record { line = bytes s; becomes = record { reading = Refused n; answer = n; back = None } }
 
 abbrev pub lines : List Example
 lines =
     event "100,Core_1,0,T,Task_A,0,start" (event_of 100 0 Task 0 Start)
-    ∷ refused "100,Core_1,0,T,Task_A,0,start," refusal.Field 5
-    ∷ refused "0100,Core_1,0,T,Task_A,0,start" refusal.Field 5
+    ∷ refused "100,Core_1,0,T,Task_A,0,start," 5
+    ∷ refused "0100,Core_1,0,T,Task_A,0,start" 5
     ∷ event "72057594037927935,Core_1,0,T,Task_A,0,start" (event_of 72057594037927935 0 Task 0 Start)
-    ∷ refused "72057594037927936,Core_1,0,T,Task_A,0,start" refusal.Field 5
-    ∷ refused "100,Core_1,1,T,Task_A,0,start" refusal.Rule 7
-    ∷ refused "#version 2.1.5" refusal.Version 2
+    ∷ refused "72057594037927936,Core_1,0,T,Task_A,0,start" 5
+    ∷ refused "100,Core_1,1,T,Task_A,0,start" 7
+    ∷ refused "#version 2.1.5" 2
     ∷ version "#version 2.2.0"
     ∷ []
 

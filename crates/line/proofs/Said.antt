@@ -15,7 +15,6 @@ use Rattle.text.specs.Sizes.{max_time}
 use Rattle.text.specs.Lists.{is_empty}
 use Rattle.text.proofs.Bools.{and_l, and_r, lt_or_ge}
 use Rattle.text.proofs.Digits.{read_written}
-use Rattle.text.specs.declared.refusal.Refusal.TheVariants as refusal
 use Rattle.words.specs.declared.kind.Kind.{Kind}
 use Rattle.words.specs.declared.action.Action.{Action}
 use Rattle.words.specs.declared.scale.Scale.{Scale}
@@ -150,7 +149,7 @@ module _ (l : List ℕ) (e : Event) (count : ℕ) where
   line_event : read_line l ≡ EventLine e count → event_reading l ≡ EventLine e count
   unfolding read_line
   line_event q =
-      let r = second_of e count (ltb line_most (length l) || has_break l) (Refused refusal.Line) (cond (is_event_line l) (event_reading l) (parameter_reading l)) refl q in
+      let r = second_of e count (ltb line_most (length l) || has_break l) (Refused 1) (cond (is_event_line l) (event_reading l) (parameter_reading l)) refl q in
       (first_of e count (is_event_line l) (event_reading l) (parameter_reading l) (parameter_none l) r).1
 
   said_fields : (eqb (length (parts_of l)) 7 || eqb (length (parts_of l)) 8) ≡ true
@@ -189,8 +188,8 @@ module _ (l : List ℕ) (e : Event) (count : ℕ) where
 pub said : (l : List ℕ) (e : Event) (count : ℕ) → read_line l ≡ EventLine e count → Said l e count
 unfolding event_reading fields_reading
 said l e count q =
-    let parts = first_of e count (eqb (length (parts_of l)) 7 || eqb (length (parts_of l)) 8) _ (Refused refusal.Field) refl (line_event l e count q) in
-    let names = first_of e count (has_names (field_of l 2) (field_of l 5) (field_of l 8) (eqb (length (parts_of l)) 8)) _ (Refused refusal.Field) refl parts.1 in
+    let parts = first_of e count (eqb (length (parts_of l)) 7 || eqb (length (parts_of l)) 8) _ (Refused 5) refl (line_event l e count q) in
+    let names = first_of e count (has_names (field_of l 2) (field_of l 5) (field_of l 8) (eqb (length (parts_of l)) 8)) _ (Refused 5) refl parts.1 in
     said_fields l e count parts.0 names.0 (fields_are (field_of l 2) (field_of l 5) (field_of l 8) e count (numbers_of (field_of l 1) (field_of l 3) (field_of l 6)) (named_by (field_of l 4) (field_of l 7)) names.1)
 
 -- so it has six commas

@@ -3,7 +3,6 @@ use Rattle.std.specs.Prelude.{◌≡◌, ℕ, Bool, true, false, not, ◌&&◌, 
 use Rattle.text.specs.Name.{all_name_bytes, is_name}
 use Rattle.text.specs.Number.{number_of}
 use Rattle.text.specs.Sizes.{max_time}
-use Rattle.text.specs.declared.refusal.Refusal.TheVariants as refusal
 use Rattle.words.specs.declared.kind.Kind.{Kind}
 use Rattle.words.specs.declared.action.Action.{Action}
 use Rattle.words.specs.Pair.{named_by}
@@ -42,8 +41,8 @@ abbrev pub event_of : ℕ → ℕ → Kind → ℕ → Action → Event
 event_of time from k to a = record { time = time; source_instance = from; kind = k; target_instance = to; action = a }
 
 abbrev pub ruled : Option ℕ → Bool → Event → Reading
-ruled None broken e = Refused refusal.Field
-ruled (Some count) true e = Refused refusal.Rule
+ruled None broken e = Refused 5
+ruled (Some count) true e = Refused 7
 ruled (Some count) false e = EventLine e count
 
 unfoldable pub known_reading : Kind → Action → ℕ → List ℕ → ℕ → List ℕ → ℕ → List ℕ → Reading
@@ -51,15 +50,15 @@ known_reading k a time source from target to note = ruled (note_of k note) (rule
 
 abbrev pub pair_reading : Option (Kind × Action) → ℕ → List ℕ → ℕ → List ℕ → ℕ → List ℕ → Reading
 pair_reading (Some (k, a)) time source from target to note = known_reading k a time source from target to note
-pair_reading None time source from target to note = Refused refusal.Event
+pair_reading None time source from target to note = Refused 6
 
 abbrev pub numbers_reading : Option (ℕ × ℕ × ℕ) → Option (Kind × Action) → List ℕ → List ℕ → List ℕ → Reading
 numbers_reading (Some (time, from, to)) p source target note = pair_reading p time source from target to note
-numbers_reading None p source target note = Refused refusal.Field
+numbers_reading None p source target note = Refused 5
 
 unfoldable pub fields_reading : List ℕ → List ℕ → List ℕ → List ℕ → List ℕ → List ℕ → List ℕ → List ℕ → Bool → Reading
 fields_reading time source from kind target to action note noted =
-    cond (has_names source target note noted) (numbers_reading (numbers_of time from to) (named_by kind action) source target note) (Refused refusal.Field)
+    cond (has_names source target note noted) (numbers_reading (numbers_of time from to) (named_by kind action) source target note) (Refused 5)
 
 unfoldable pub event_reading : List ℕ → Reading
 event_reading l =
@@ -74,4 +73,4 @@ event_reading l =
     (field_of l 7)
     (field_of l 8)
     (eqb (length (parts_of l)) 8))
-    (Refused refusal.Field)
+    (Refused 5)

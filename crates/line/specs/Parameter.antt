@@ -2,7 +2,6 @@
 use Rattle.std.specs.Prelude.{ℕ, Bool, ◌&&◌, ◌||◌, cond, List, ltb, length, drop, None, Some, Option}
 use Rattle.text.specs.Literal.{bytes}
 use Rattle.text.specs.Bytes.{same_bytes, starts_with}
-use Rattle.text.specs.declared.refusal.Refusal.TheVariants as refusal
 use Rattle.words.specs.declared.scale.Scale.{Scale}
 use Rattle.words.specs.Scale.{scale_of}
 use Rattle.forms.specs.Date.{is_moment}
@@ -41,8 +40,8 @@ scale_or None r = r
 
 -- "Any other line starting with `#` is refusal 3."
 unfoldable pub other_reading : List ℕ → Reading
-other_reading l = scale_or (time_scale l) (cond (is_creator l) Creator (cond (is_creation_date l) CreationDate (Refused refusal.Parameter)))
+other_reading l = scale_or (time_scale l) (cond (is_creator l) Creator (cond (is_creation_date l) CreationDate (Refused 3)))
 
 -- "The reader answers .. 2 for a `#version` line of other text"
 unfoldable pub parameter_reading : List ℕ → Reading
-parameter_reading l = cond (is_version l) Version (cond (is_version_line l) (Refused refusal.Version) (cond (is_comment l) Comment (other_reading l)))
+parameter_reading l = cond (is_version l) Version (cond (is_version_line l) (Refused 2) (cond (is_comment l) Comment (other_reading l)))

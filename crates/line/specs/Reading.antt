@@ -8,8 +8,6 @@ use Rattle.line.specs.declared.reading.Split.{Split}
 use Rattle.line.specs.declared.reading.NextRead.{NextRead}
 use Rattle.line.specs.Event.{event_reading}
 use Rattle.line.specs.Parameter.{parameter_reading}
-use Rattle.text.specs.Refusal.{refusal_number}
-use Rattle.text.specs.declared.refusal.Refusal.TheVariants as refusal
 
 -- "byte 10 or 13 inside"
 unfoldable pub has_break : List ℕ → Bool
@@ -26,7 +24,7 @@ abbrev pub line_most : ℕ
 line_most = 1023
 
 unfoldable pub read_line : List ℕ → Reading
-read_line l = cond (ltb line_most (length l) || has_break l) (Refused refusal.Line) (cond (is_event_line l) (event_reading l) (parameter_reading l))
+read_line l = cond (ltb line_most (length l) || has_break l) (Refused 1) (cond (is_event_line l) (event_reading l) (parameter_reading l))
 
 -- what a line is, and the places of its commas, whatever it is
 abbrev pub split_line : List ℕ → Split
@@ -48,4 +46,4 @@ answer_of (TimeScale s) = 0
 answer_of Creator = 0
 answer_of CreationDate = 0
 answer_of (EventLine e count) = 0
-answer_of (Refused r) = refusal_number r
+answer_of (Refused n) = n

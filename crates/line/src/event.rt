@@ -11,7 +11,6 @@ use forms::note::note_of;
 use forms::rule::rule_broken;
 use text::name::{NAME_MOST, name};
 use text::number::read_number;
-use text::refusal::Refusal;
 use text::size::MAX_TIME;
 use words::action::Action;
 use words::kind::Kind;
@@ -84,7 +83,7 @@ impl<'a> Fields<'a> {
             self.entry.source.now event.source_instance self.entry.target.now event.target_instance self.entry.note.now }
     {
         let Some(count) = note_of(event.kind, self.note) else {
-            return Reading::Refused(Refusal::Field);
+            return Reading::Refused(5);
         };
         if rule_broken(
             event.kind,
@@ -95,7 +94,7 @@ impl<'a> Fields<'a> {
             event.target_instance,
             self.note,
         ) {
-            return Reading::Refused(Refusal::Rule);
+            return Reading::Refused(7);
         }
         Reading::EventLine(event, count)
     }
@@ -106,13 +105,13 @@ impl<'a> Fields<'a> {
             self.entry.target.now self.entry.target_instance.now self.entry.action.now self.entry.note.now self.entry.noted }
     {
         if !self.names() {
-            return Reading::Refused(Refusal::Field);
+            return Reading::Refused(5);
         }
         let Some((time, source_instance, target_instance)) = self.numbers() else {
-            return Reading::Refused(Refusal::Field);
+            return Reading::Refused(5);
         };
         let Some((kind, action)) = named(self.kind, self.action) else {
-            return Reading::Refused(Refusal::Event);
+            return Reading::Refused(6);
         };
         self.read_known(Event {
             time,
@@ -142,10 +141,10 @@ pub(crate) fn read_event(line: &[u8], c: Commas, plain: bool) -> Reading
     let n = line.len();
     let c1 = c.c1;
     if n <= c.c6 {
-        return Reading::Refused(Refusal::Field);
+        return Reading::Refused(5);
     }
     if c.c8 < n {
-        return Reading::Refused(Refusal::Field);
+        return Reading::Refused(5);
     }
     let time = &line[0..c1];
     let source = part(line, c1, c.c2);

@@ -7,7 +7,6 @@ ghost use Rattle.line.specs.Parameter.{is_version_line, time_scale, is_creator, 
 use crate::reading::Reading;
 use forms::date::moment;
 use text::bytes::{same, starts};
-use text::refusal::Refusal;
 use words::scale::{Scale, scale_of};
 
 // Whether the line is `#version`, or begins with it and a blank.
@@ -57,7 +56,7 @@ fn read_other(line: &[u8]) -> Reading
     if creation_date(line) {
         return Reading::CreationDate;
     }
-    Reading::Refused(Refusal::Parameter)
+    Reading::Refused(3)
 }
 
 // What a line is that starts with `#`.
@@ -69,7 +68,7 @@ pub(crate) fn read_parameter(line: &[u8]) -> Reading
         return Reading::Version;
     }
     if version_line(line) {
-        return Reading::Refused(Refusal::Version);
+        return Reading::Refused(2);
     }
     if starts(line, b"# ") {
         return Reading::Comment;

@@ -10,13 +10,12 @@ use fields::part::Commas;
 use fields::split;
 use scan::reader::next_line;
 use text::name::all_plain;
-use text::refusal::Refusal;
 use words::scale::Scale;
 
 // the longest line that is read by its text, as specs/Reading.antt has it
 pub const LINE_MOST: usize = 1023;
 
-// What a line is. An event line's count is what the note of a semaphore's line means, and 0 on any other.
+// What a line is. It is no Result: a refused reading is weighed with its place, where 4 comes before its 5, 6 and 7, and by its number, any u8. An event line's count is what the note of a semaphore's line means, and 0 on any other.
 #[derive(Clone, Copy, Debug, PartialEq, Eq)]
 pub enum Reading {
     Version,
@@ -25,7 +24,7 @@ pub enum Reading {
     Creator,
     CreationDate,
     EventLine(Event, u32),
-    Refused(Refusal),
+    Refused(u8),
 }
 
 // What a line is, and where its commas stand: so whoever asks for its parts need not look for them again.
@@ -71,10 +70,10 @@ fn read_at(line: &[u8], c: Commas, plain: bool) -> Reading
     ensures { result ≡ read_line line.now }
 {
     if LINE_MOST < line.len() {
-        return Reading::Refused(Refusal::Line);
+        return Reading::Refused(1);
     }
     if broken(line, plain) {
-        return Reading::Refused(Refusal::Line);
+        return Reading::Refused(1);
     }
     if event_line(line) {
         return read_event(line, c, plain);

@@ -10,7 +10,8 @@ use crate::row::row_is;
 use index::hash::home_of;
 use tables::entry::*;
 
-// The row of a name, by the index: from its home on up to a free place, or all around.
+// The row of a name, by the index: from its home on up to a free place, or all around. A loop of its own, as in
+// `ranges` and `store`: each goes round the index to something else, by a law of its own.
 fn seek(
     names: &[u8; NAMES_SIZE],
     nums: &[u32; NUMS_SIZE],

@@ -23,7 +23,7 @@ fn in_section(section: Section, kind: u32) -> bool
 
 #[tactic(auto, using(ranges::proofs::Valid::valid))]
 impl<'a> Tested<'a> {
-    // How many names stand in a section.
+    // How many names stand in a section. This loop and the two below do another thing with each row, and have no more in common than their first lines.
     fn rows_count(self, section: Section) -> usize
         ensures { result ≡ length (rows_in section self.entry.names.now self.entry.nums.now self.entry.ticks.now) }
     {

@@ -8,9 +8,6 @@ use native.Mathlib.Omega.{arith}
 use lib.Dec.{eqb, leb}
 use lib.ListN.{length}
 use borrow.Author.Tests.{leb-false}
-use Rattle.text.specs.declared.refusal.Refusal.{Refusal}
-use Rattle.text.specs.Refusal.{refusal_number}
-use Rattle.text.proofs.Refusals.{number_not_0}
 use Rattle.line.specs.declared.reading.Reading.TheVariants.{Refused}
 use Rattle.line.specs.Reading.{read_line}
 use Rattle.line.specs.Condition.{is_scale, refuses1, refuses3}
@@ -40,13 +37,15 @@ module _ (p : Place) (l : List ℕ) (q : answer_in_place p l ≡ 0) where
       let k = neither (leb line_limit p.lines) (refuses1 l) ((place_none p l).0 q 1) in
       (leb-false line_limit p.lines k.0, k.1)
 
-  refused_zero : (r : Refusal) → answer_by_reading p (Refused r) ≡ 0 → refusal_number r ≡ 0
-  unfolding answer_by_reading
-  refused_zero r e = by_tests (leb line_limit p.lines) (eqb p.lines 0) (eqb n 1) (leb n 3) (eqb p.scale 0) e
-    where
-      n : ℕ
-      n = refusal_number r
+  -- it is no unknown parameter
+  known_sort : refuses3 l ≡ false
+  unfolding place_tests parameter_wrong
+  known_sort = (neither (refuses3 l) _ ((place_none p l).0 q 3)).0
 
+  refused_zero : (n : ℕ) → answer_by_reading p (Refused n) ≡ 0 → n ≡ 0
+  unfolding answer_by_reading
+  refused_zero n e = by_tests (leb line_limit p.lines) (eqb p.lines 0) (eqb n 1) (leb n 3) (eqb p.scale 0) e
+    where
       by_tests : (a b d f g : Bool) → cond a 1 (cond b (cond d 1 2) (cond f n (cond g 4 n))) ≡ 0 → n ≡ 0
       by_tests true b d f g e = absurd (omega arith)
       by_tests false true true f g e = absurd (omega arith)
@@ -55,9 +54,16 @@ module _ (p : Place) (l : List ℕ) (q : answer_in_place p l ≡ 0) where
       by_tests false false d false true e = absurd (omega arith)
       by_tests false false d false false e = e
 
+  abbrev no_sort : Told → Bool
+  no_sort t = not t.event && not (t.version_line || (t.comment || (is_scale t.scale || (t.creator || t.date))))
+
   -- its reading is no refusal
-  pub not_refused : (r : Refusal) → read_line l ≡ Refused r → ⊥
-  not_refused r e = number_not_0 r (refused_zero r (ap (answer_by_reading p) (sym e) ∙ by_reading_right p l ∙ q))
+  pub not_refused : (n : ℕ) → read_line l ≡ Refused n → ⊥
+  unfolding refuses3 tests_of
+  not_refused n e =
+      let z = refused_zero n (ap (answer_by_reading p) (sym e) ∙ by_reading_right p l ∙ q) in
+      let r : tests_of l ≡ told_by (Refused 0) = told_right l few_short.1 ∙ ap told_by (e ∙ ap Refused z) in
+      clash (refuses3 l) (ap no_sort r) known_sort
 
 -- ---- at most 1,000,000,000 lines are taken
 

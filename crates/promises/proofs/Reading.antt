@@ -10,7 +10,6 @@ use lib.Dec.{ltb}
 use lib.ListN.{length, take, drop, length-append}
 use lib.Seq.{length-take-le, take-length}
 use borrow.Author.Tests.{ne_eqb, lt-ltb, ltb-true, ltb-false}
-use Rattle.text.specs.declared.refusal.Refusal.TheVariants as refusal
 use Rattle.text.specs.Bytes.{to_byte}
 use Rattle.text.specs.Pieces.{pieces, ended, unended}
 use Rattle.text.proofs.Bools.{lt_or_ge}
@@ -78,7 +77,7 @@ long_among (k ∷ ks) h l z = by_answer (answer_at h k) (long_among ks (k ∷ h)
     by_answer (suc n) f = λ e. omega arith
 
 -- the tables do not tell one from another
-long_read : (l : List ℕ) → line_most < length l → read_line l ≡ Refused refusal.Line
+long_read : (l : List ℕ) → line_most < length l → read_line l ≡ Refused 1
 unfolding read_line
 long_read l z = rw (lt-ltb line_most (length l) z)
 

@@ -8,8 +8,6 @@ use Prim.Native.Nat.{ℕ}
 use lib.Dec.{eqb, leb, ltb}
 use lib.ListN.{length, drop}
 use borrow.Author.Tests.{not-true}
-use Rattle.text.specs.declared.refusal.Refusal.TheVariants as refusal
-use Rattle.text.specs.Refusal.{refusal_number}
 use Rattle.text.specs.Literal.{bytes}
 use Rattle.text.specs.Bytes.{same_bytes, starts_with}
 use Rattle.text.proofs.Bools.{is_false}
@@ -58,7 +56,7 @@ told_by (TimeScale s) = told false false false (Some s) false false false
 told_by Creator = told false false false None true false false
 told_by CreationDate = told false false false None false true false
 told_by (EventLine e count) = told false false false None false false true
-told_by (Refused r) = told false (eqb (refusal_number r) 2) false None false false (leb 4 (refusal_number r))
+told_by (Refused n) = told false (eqb n 2) false None false false (leb 4 n)
 
 -- ---- event lines: read, or refused with 5, 6 or 7
 
@@ -86,8 +84,8 @@ event_told : (l : List ℕ) → told_by (event_reading l) ≡ an_event
 unfolding event_reading fields_reading numbers_of
 event_told l =
     let n = length (parts_of l) in
-    either (eqb n 7 || eqb n 8) _ (Refused refusal.Field)
-    (either (has_names (field_of l 2) (field_of l 5) (field_of l 8) (eqb n 8)) _ (Refused refusal.Field)
+    either (eqb n 7 || eqb n 8) _ (Refused 5)
+    (either (has_names (field_of l 2) (field_of l 5) (field_of l 8) (eqb n 8)) _ (Refused 5)
     (numbers_told
     (number_of (field_of l 1) max_time)
     (number_of (field_of l 3) max_instance)
@@ -109,19 +107,19 @@ event_tests (x ∷ l) e = rw (not-true (eqb x 35) e)
 abbrev Right : List ℕ → Type 0
 Right l = tests_of l ≡ told_by (parameter_reading l)
 
-by_version : (b : Bool) → told b true false None false false false ≡ told_by (cond b Version (Refused refusal.Version))
+by_version : (b : Bool) → told b true false None false false false ≡ told_by (cond b Version (Refused 2))
 by_version true = refl
 by_version false = refl
 
-by_scale : (s : Option Scale) → told false false false s false false false ≡ told_by (scale_or s (Refused refusal.Parameter))
+by_scale : (s : Option Scale) → told false false false s false false false ≡ told_by (scale_or s (Refused 3))
 by_scale (Some s) = refl
 by_scale None = refl
 
-by_creator : (b : Bool) → told false false false None b false false ≡ told_by (cond b Creator (Refused refusal.Parameter))
+by_creator : (b : Bool) → told false false false None b false false ≡ told_by (cond b Creator (Refused 3))
 by_creator true = refl
 by_creator false = refl
 
-by_date : (b : Bool) → told false false false None false b false ≡ told_by (cond b CreationDate (Refused refusal.Parameter))
+by_date : (b : Bool) → told false false false None false b false ≡ told_by (cond b CreationDate (Refused 3))
 by_date true = refl
 by_date false = refl
 

@@ -6,9 +6,6 @@ use Prim.Native.Nat.{ℕ}
 use native.Mathlib.Omega.{arith}
 use lib.Dec.{eqb, leb}
 use borrow.Author.Tests.{eqb-true, leb-true, ne_eqb, le-leb, lt-leb}
-use Rattle.text.specs.declared.refusal.Refusal.{Refusal}
-use Rattle.text.specs.declared.refusal.Refusal.TheVariants as refusal
-use Rattle.text.specs.Refusal.{refusal_number}
 use Rattle.line.specs.declared.reading.Reading.{Reading}
 use Rattle.line.specs.declared.reading.Reading.TheVariants.{Version, Comment, TimeScale, Creator, CreationDate, EventLine, Refused}
 use Rattle.line.specs.Answer.{test, lowest}
@@ -54,17 +51,14 @@ three_or_low false low q = q
 
 module _ (p : Place) (low : ℕ) where
   -- a refused reading is one of 2, 3, and 5 to 7
-  refused_answers : (r : Refusal) (two event : Bool) → eqb (refusal_number r) 2 ≡ two → leb 4 (refusal_number r) ≡ event
-      → refusal_number r ≡ cond (two && true) 2 (cond (not event && not (two || false)) 3 low) → Answers p (Refused r) low
-  refused_answers r true event e f q =
-      let n = refusal_number r in
+  refused_answers : (n : ℕ) (two event : Bool) → eqb n 2 ≡ two → leb 4 n ≡ event → n ≡ cond (two && true) 2 (cond (not event && not (two || false)) 3 low) → Answers p (Refused n) low
+  refused_answers n true event e f q =
       let k = eqb-true n 2 e in
       record { first = rw (ne_eqb n 1 (λ w. omega arith)); later = rw (e, le-leb n 3 (omega arith)) k }
-  refused_answers r false true e f q =
-      let n = refusal_number r in
+  refused_answers n false true e f q =
       let k = leb-true 4 n f in
       record { first = rw (ne_eqb n 1 (λ w. omega arith)); later = rw (e, f, lt-leb n 3 (omega arith), q) }
-  refused_answers r false false e f q = let n = refusal_number r in record { first = rw (ne_eqb n 1 (λ w. omega arith)); later = rw (e, f, le-leb n 3 (omega arith)) q }
+  refused_answers n false false e f q = record { first = rw (ne_eqb n 1 (λ w. omega arith)); later = rw (e, f, le-leb n 3 (omega arith)) q }
 
   answers : (r : Reading) → answer_of r ≡ alone (told_by r) low → Answers p r low
   unfolding answer_of
@@ -74,7 +68,7 @@ module _ (p : Place) (low : ℕ) where
   answers Creator q = record { first = refl; later = three_or_low (p.creator || p.started) low q }
   answers CreationDate q = record { first = refl; later = rw q }
   answers (EventLine e count) q = record { first = refl; later = rw q }
-  answers (Refused r) q = refused_answers r (eqb (refusal_number r) 2) (leb 4 (refusal_number r)) refl refl q
+  answers (Refused n) q = refused_answers n (eqb n 2) (leb 4 n) refl refl q
 
 -- ---- any line
 
@@ -88,7 +82,7 @@ too_long : (p : Place) (l : List ℕ) → refuses1 l ≡ true → answer_by_read
 unfolding answer_by_reading read_line answer_in_place place_tests too_much refuses1
 too_long p l q = rw q (by_count (leb line_limit p.lines) (eqb p.lines 0) _)
   where
-    by_count : (many first : Bool) (x : ℕ) → cond many 1 (cond first (first_answer (Refused refusal.Line)) (read_answer p (Refused refusal.Line))) ≡ cond (many || true) 1 x
+    by_count : (many first : Bool) (x : ℕ) → cond many 1 (cond first (first_answer (Refused 1)) (read_answer p (Refused 1))) ≡ cond (many || true) 1 x
     by_count true first x = refl
     by_count false true x = refl
     by_count false false x = refl

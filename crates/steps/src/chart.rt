@@ -76,6 +76,7 @@ fn step(rows: &[[u32; 3]], word: u32, state: u32) -> Option<u32>
     None
 }
 
+// One for each chart, and none over a chart that is given: each is public and has its chart in its contract.
 pub fn process_step(word: u32, state: u32) -> Option<u32>
     ensures { result ≡ move_by process_chart word state }
 {

@@ -1,79 +1,79 @@
 // A line in its place: the refusals 1 to 7 from its reading and what the lines before it said.
 ghost use Rattle.std.specs.Prelude.{◌≡◌, cond, leb};
-ghost use Rattle.text.specs.Refusal.{refusal_number, answer_number};
 ghost use Rattle.steps.specs.PlaceCode.{needs_scale, first_answer, read_answer, repeated_or_late, answer_by_reading};
 
 use crate::numbers::LINE_LIMIT;
 use line::reading::Reading;
 use rules::place::Place;
-use text::refusal::Refusal;
 
 // 3 for a parameter that was given before or comes after the first event.
-fn once_and_early(seen: bool, late: bool) -> Result<(), Refusal>
-    ensures { answer_number result ≡ repeated_or_late seen late }
+fn repeated_or_late(seen: bool, late: bool) -> u32
+    ensures { result ≡ repeated_or_late seen late }
 {
     if seen {
-        return Err(Refusal::Parameter);
+        return 3;
     }
-    if late {
-        return Err(Refusal::Parameter);
-    }
-    Ok(())
+    if late { 3 } else { 0 }
 }
 
-// 4 for an event line without a time scale before it.
-fn scale_given(scale: u32) -> Result<(), Refusal>
-    ensures { answer_number result ≡ needs_scale scale 0 }
+// 4 for an event line without a time scale before it, else n.
+fn needs_scale(scale: u32, n: u32) -> u32
+    ensures { result ≡ needs_scale scale n }
 {
-    if scale == 0 {
-        return Err(Refusal::Scale);
-    }
-    Ok(())
+    if scale == 0 { 4 } else { n }
 }
 
-// A refused reading's own refusal, but 4 comes before 5, 6 and 7.
-fn refused_answer(scale: u32, own: Refusal) -> Result<(), Refusal>
-    ensures { answer_number result ≡ cond (leb (refusal_number own) 3) (refusal_number own) (needs_scale scale (refusal_number own)) }
+// A refused reading's own number, but 4 comes before 5, 6 and 7.
+fn refused_answer(scale: u32, n: u32) -> u32
+    ensures { result ≡ cond (leb n 3) n (needs_scale scale n) }
 {
-    if own.number() <= 3 {
-        return Err(own);
+    if n <= 3 {
+        return n;
     }
-    scale_given(scale)?;
-    Err(own)
+    needs_scale(scale, n)
 }
 
 // The answer to the first line.
-fn first_answer(r: Reading) -> Result<(), Refusal>
-    ensures { answer_number result ≡ first_answer r }
+fn first_answer(r: Reading) -> u32
+    ensures { result ≡ first_answer r }
 {
     match r {
-        Reading::Version => Ok(()),
-        Reading::Refused(Refusal::Line) => Err(Refusal::Line),
-        _ => Err(Refusal::Version),
+        Reading::Version => 0,
+        Reading::Comment => 2,
+        Reading::TimeScale(_) => 2,
+        Reading::Creator => 2,
+        Reading::CreationDate => 2,
+        Reading::EventLine(_, _) => 2,
+        Reading::Refused(n) => {
+            if n == 1 {
+                return 1;
+            }
+            2
+        }
     }
 }
 
 // The answer to a later line.
-fn later_answer(p: Place, r: Reading) -> Result<(), Refusal>
-    ensures { answer_number result ≡ read_answer p r }
+fn later_answer(p: Place, r: Reading) -> u32
+    ensures { result ≡ read_answer p r }
 {
     match r {
-        Reading::Version => Err(Refusal::Version),
-        Reading::Comment => Ok(()),
-        Reading::TimeScale(_) => once_and_early(p.scale != 0, p.started),
-        Reading::Creator => once_and_early(p.creator, p.started),
-        Reading::CreationDate => once_and_early(p.date, p.started),
-        Reading::EventLine(_, _) => scale_given(p.scale),
-        Reading::Refused(own) => refused_answer(p.scale, own),
+        Reading::Version => 2,
+        Reading::Comment => 0,
+        Reading::TimeScale(_) => repeated_or_late(p.scale != 0, p.started),
+        Reading::Creator => repeated_or_late(p.creator, p.started),
+        Reading::CreationDate => repeated_or_late(p.date, p.started),
+        Reading::EventLine(_, _) => needs_scale(p.scale, 0),
+        Reading::Refused(n) => refused_answer(p.scale, n as u32),
     }
 }
 
-// The refusal with the lowest number of 1 to 7 that applies to a line in its place, if any.
-pub fn answer_in_place(p: Place, r: Reading) -> Result<(), Refusal>
-    ensures { answer_number result ≡ answer_by_reading p r }
+// The lowest of 1 to 7 that applies to a line in its place, 0 where none does.
+pub fn answer_in_place(p: Place, r: Reading) -> u32
+    ensures { result ≡ answer_by_reading p r }
 {
     if LINE_LIMIT <= p.lines {
-        return Err(Refusal::Line);
+        return 1;
     }
     if p.lines == 0 {
         return first_answer(r);

@@ -87,8 +87,8 @@ fn say_line(stdout: Stdout, l: &[u8]) {
         Reading::Creator => say(stdout, b"0 creator\n"),
         Reading::CreationDate => say(stdout, b"0 creation date\n"),
         Reading::EventLine(event, count) => say_event(stdout, l, event, count),
-        Reading::Refused(refusal) => {
-            say_number(stdout, refusal.number() as u64);
+        Reading::Refused(no) => {
+            say_number(stdout, no as u64);
             say(stdout, b"\n");
         }
     }
