@@ -22,6 +22,15 @@ scale_none n h1 h2 h3 h4 h5 = rw (ne_eqb n 1 h1, ne_eqb n 2 h2, ne_eqb n 3 h3, n
 pub scale_past : (n : ℕ) → 5 < n → scale_text n ≡ []
 scale_past n h = scale_none n (λ e. omega arith) (λ e. omega arith) (λ e. omega arith) (λ e. omega arith) (λ e. omega arith)
 
+pub scale_two : (n : ℕ) → (n ≡ 0 → ⊥) → (n ≡ 5 → ⊥) → n ≤ 5 → length (scale_text n) ≡ 2
+unfolding scale_text scale_word
+scale_two zero z f h = absurd (z refl)
+scale_two (suc zero) z f h = refl
+scale_two (suc (suc zero)) z f h = refl
+scale_two (suc (suc (suc zero))) z f h = refl
+scale_two (suc (suc (suc (suc zero)))) z f h = refl
+scale_two (suc (suc (suc (suc (suc n))))) z f h = absurd (f (omega arith))
+
 pub scale_short : (n : ℕ) → length (scale_text n) ≤ 2
 unfolding scale_text scale_word
 scale_short zero = omega arith

@@ -1,7 +1,7 @@
 -- Laws of notes: where a value's dot stands, what its first byte says, and that an empty note is no note.
 use Rattle.std.proofs.Common.{Some}
 use mathlib.Core.Path.{◌≡◌, refl}
-use mathlib.Core.Bool.{◌&&◌}
+use mathlib.Core.Bool.{false, ◌&&◌}
 use mathlib.Core.List.{List, [], ◌∷◌}
 use Prim.Native.Nat.{ℕ, ◌+◌, ◌-◌, ◌≤◌, ◌<◌}
 use native.Mathlib.Nat.{suc-ne-zero, zero-add, sub-zero}
@@ -30,10 +30,15 @@ at_dot s dot e h = let d = first_dot s dot e in rw (← d, lt-leb (length s) dot
 
 -- ---- the first byte
 
-pub empty_signal : (s : List ℕ) → length s ≡ 0 → is_decimal s ≡ is_signal s
-unfolding is_signal is_decimal are_digits to_byte
+pub empty_signal : (s : List ℕ) → length s ≡ 0 → is_signal s ≡ false
+unfolding is_signal
 empty_signal [] e = refl
 empty_signal (x ∷ s) e = absurd (suc-ne-zero _ e)
+
+pub empty_decimal : (s : List ℕ) → length s ≡ 0 → is_decimal s ≡ is_signal s
+unfolding is_signal is_decimal are_digits to_byte
+empty_decimal [] e = refl
+empty_decimal (x ∷ s) e = absurd (suc-ne-zero _ e)
 
 pub minus_signal : (s : List ℕ) → (length s ≡ 0 → ⊥) → get_or s 0 0 ≡ 45 → is_decimal (drop 1 s) ≡ is_signal s
 unfolding is_signal

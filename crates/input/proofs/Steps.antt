@@ -36,11 +36,11 @@ module _ {n have : ℕ} {b c : List ℕ} (f : Filled n have b c) (some : 0 < n) 
         ap (λ (y : Turned). goes_on y []) w
         ∙ turn_step t c (have + n) (take have b) read [] (take-add have n c ∙ ap (λ (l : List ℕ). l ++ read) f.kept)
 
-    one_more : {left : ℕ} → x.turn ≡ Some left → OneMore n have t b (going x.left (take left x.buffer))
+    pub one_more : {left : ℕ} → x.turn ≡ Some left → OneMore n have t b (going x.left (take left x.buffer))
     unfolding read_on
     one_more q = record { read = read; each = a_read; counted = length_read; comes_to = sym (rw q at turn_read) }
 
-    one_last : x.turn ≡ None → OneMore n have t b (stopped x.left)
+    pub one_last : x.turn ≡ None → OneMore n have t b (stopped x.left)
     one_last q = record { read = read; each = a_read; counted = length_read; comes_to = sym (rw q at turn_read) }
 
     -- by how many bytes are carried over

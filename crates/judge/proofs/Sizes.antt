@@ -93,5 +93,8 @@ unfolding judged_lines
 judged_lines_alike t [] = same t
 judged_lines_alike t (l ∷ ls) = chain (judged_line_alike t l) (judged_lines_alike (judged_line t l).left ls)
 
+pub alike_sized : {t u : Tables} → Alike t u → Sized t.names t.nums t.ticks → Sized u.names u.nums u.ticks
+alike_sized a s = record { names_sized = a.names_kept ∙ s.names_sized; nums_sized = a.nums_kept ∙ s.nums_sized; ticks_sized = a.ticks_kept ∙ s.ticks_sized }
+
 pub fresh_sized : {t : Tables} → t ≡ fresh_tables → Sized t.names t.nums t.ticks
 fresh_sized e = rw e fresh_valid.sizes

@@ -56,7 +56,7 @@ module _ {i n : ℕ} (c : List ℕ) (from : 2 ≤ i) (s : Holding i n c) (d : Li
       let q : i - 1 + 1 ≡ i + 1 - 1 = omega arith in
       record { fits = h.0; came = rw q at (came_more s.came h.1) }
 
-  refuses_next : {k : ℕ} → Comes (add_texts (take n c)) (Refusal k) → RefusedAt k i
+  pub refuses_next : {k : ℕ} → Comes (add_texts (take n c)) (Refusal k) → RefusedAt k i
   refuses_next {k} h =
       let q : i - 1 + 1 ≡ i = omega arith in
       rw q at refused_more

@@ -2,8 +2,10 @@
 use mathlib.Core.Path.{◌≡◌, refl, sym, ap, ◌∙◌}
 use mathlib.Core.Bool.{Bool, true}
 use mathlib.Core.List.{List, [], ◌∷◌}
-use Prim.Native.Nat.{ℕ, zero, suc}
+use Prim.Native.Nat.{ℕ, zero, suc, ◌<◌}
+use lib.Dec.{ltb}
 use lib.ListN.{get_or}
+use borrow.Author.Tests.{ltb-true}
 use Rattle.text.specs.Lists.{all}
 use Rattle.text.proofs.Bools.{and_l, and_r}
 use Rattle.words.specs.declared.action.Action.{Action}
@@ -142,6 +144,10 @@ at f (a ∷ l) e d (suc i) = at f l (and_r (f a) (all f l) e) d i
 pub every : (f : Action → Bool) → all f actions ≡ true → (a : Action) → f a ≡ true
 unfolding actions
 every f e a = rw place at (at f actions e (and_l (f Trigger) _ e) (action_code a))
+
+pub code_bound : (a : Action) → action_code a < 38
+unfolding actions action_code
+code_bound a = ltb-true (action_code a) 38 (every (λ b. ltb (action_code b) 38) refl a)
 
 -- two events of one code are one event
 pub one_code : (a b : Action) → action_code a ≡ action_code b → a ≡ b
