@@ -4,6 +4,9 @@ use mathlib.Core.Path.{◌≡◌, ap}
 use mathlib.Core.Bool.{Bool}
 use mathlib.Core.List.{List}
 use Prim.Native.Nat.{ℕ}
+use Rattle.text.specs.declared.refusal.Refusal.{Refusal}
+use Rattle.text.specs.Refusal.{numbered}
+use Rattle.text.proofs.Refusals.{numbered_same}
 use Rattle.text.proofs.Tight.{unique}
 use Rattle.line.specs.declared.event.Event.{Event}
 use Rattle.line.specs.declared.reading.Reading.{Reading}
@@ -25,3 +28,9 @@ pub write_unique : (e : Event) (source target note out : List ℕ) (r s : Result
 write_unique e source target note out r s m n p q =
     let w = unique (write_line e source target note) out (wrote r m) (wrote s n) p q in
     (ap (λ (x : Wrote). x.answer) w, ap (λ (x : Wrote). x.output) w)
+
+-- and so of the code's own answers, since no two refusals have one number
+pub write_once : (e : Event) (source target note out : List ℕ) (r s : Result ℕ Refusal) (m n : List ℕ) → wrote (numbered r) m ≡ write_line e source target note out → wrote (numbered s) n ≡ write_line e source target note out → (r ≡ s) × (m ≡ n)
+write_once e source target note out r s m n p q =
+    let (answers, outputs) = write_unique e source target note out (numbered r) (numbered s) m n p q in
+    (numbered_same r s answers, outputs)

@@ -1,5 +1,6 @@
 -- How tight the contracts of reading and printing are: no second answer, and a wrong answer that they shut out.
-use mathlib.Core.Path.{◌≡◌, refl}
+use Rattle.std.proofs.Common.{Result}
+use mathlib.Core.Path.{◌≡◌, refl, ap}
 use mathlib.Core.List.{List, []}
 use Prim.Native.Nat.{ℕ}
 use lib.Dec.{eqb}
@@ -8,6 +9,9 @@ use Rattle.text.specs.Literal.{bytes}
 use Rattle.text.specs.Pieces.{pieces}
 use Rattle.text.specs.Number.{digits_of}
 use Rattle.text.specs.Put.{written}
+use Rattle.text.specs.declared.refusal.Refusal.{Refusal}
+use Rattle.text.specs.Refusal.{numbered}
+use Rattle.text.proofs.Refusals.{numbered_same}
 use Rattle.text.proofs.Tight.{unique, ShutsOut, shut_out}
 use Rattle.words.specs.Scale.{scale_word}
 use Rattle.fields.specs.Part.{parts_of}
@@ -22,7 +26,7 @@ use Rattle.judge.specs.Feed.{Tables, place_in, remembered, judged_in_place, judg
 use Rattle.outcome.specs.declared.now.Outcome.{Outcome}
 use Rattle.outcome.specs.AtEnd.{verdict}
 use Rattle.run.specs.Chunk.{Turned, chunk_taken, last_taken}
-use Rattle.run.specs.Report.{Reported, text_printed, outcome_printed, report_written}
+use Rattle.run.specs.Report.{Reported, reported, text_printed, outcome_printed, report_written}
 
 -- ---- `take_chunk`
 
@@ -41,8 +45,15 @@ last_not_empty = shut_out (λ t. eqb (verdict_number t.nums) 0) (fresh_tables, [
 
 -- ---- `put_outcome`
 
+-- what is the same of the code's own answers, since no two refusals have one number
+told_once : (r s : Result ℕ Refusal) (m n : List ℕ) → reported (numbered r) m ≡ reported (numbered s) n → (r ≡ s) × (m ≡ n)
+told_once r s m n e = (numbered_same r s (ap (λ (x : Reported). x.answer) e), ap (λ (x : Reported). x.output) e)
+
 pub printed_unique : (o : Outcome) (sheet out : List ℕ) (x y : Reported) → x ≡ outcome_printed o sheet out → y ≡ outcome_printed o sheet out → x ≡ y
 printed_unique o sheet = unique (outcome_printed o sheet)
+
+pub printed_once : (o : Outcome) (sheet out : List ℕ) (r s : Result ℕ Refusal) (m n : List ℕ) → reported (numbered r) m ≡ outcome_printed o sheet out → reported (numbered s) n ≡ outcome_printed o sheet out → (r ≡ s) × (m ≡ n)
+printed_once o sheet out r s m n p q = told_once r s m n (printed_unique o sheet out (reported (numbered r) m) (reported (numbered s) n) p q)
 
 -- of the bytes that are lent as many are printed as the outcome says: here none behind the verdict's line, which has 33
 pub printed_not_all :
@@ -55,3 +66,6 @@ printed_not_all =
 
 pub report_unique : (names nums ticks out : List ℕ) (x y : Reported) → x ≡ report_written names nums ticks out → y ≡ report_written names nums ticks out → x ≡ y
 report_unique names nums ticks = unique (report_written names nums ticks)
+
+pub report_once : (names nums ticks out : List ℕ) (r s : Result ℕ Refusal) (m n : List ℕ) → reported (numbered r) m ≡ report_written names nums ticks out → reported (numbered s) n ≡ report_written names nums ticks out → (r ≡ s) × (m ≡ n)
+report_once names nums ticks out r s m n p q = told_once r s m n (report_unique names nums ticks out (reported (numbered r) m) (reported (numbered s) n) p q)
