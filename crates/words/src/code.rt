@@ -84,5 +84,20 @@ pub const WAITING: u32 = Action::Waiting as u32;
 pub fn action_code(action: Action) -> u32
     ensures { result ≡ action_code action }
 {
+    // nothing else holds the numbers that no rule asks for
+    prove!(
+        TRIGGER == 0
+            && SCHEDULE == 16
+            && SCHEDULEPOINT == 17
+            && CLEAR_EVENT == 18
+            && SET_EVENT == 19
+            && WAIT_EVENT == 20
+            && READ == 21
+            && WRITE == 22
+            && ASSIGNED == 23
+            && QUEUED == 31
+            && RELEASED == 32
+            && REQUESTSEMAPHORE == 33
+    );
     action as u32
 }
