@@ -1,5 +1,5 @@
 -- The fold of a name's bytes: none past their end, a step whose sum wraps, the turns of the loop, and that a home is one of the places.
-use Rattle.std.proofs.Common.{◌≡◌, ℕ, zero, suc, ◌+◌, ◌-◌, ◌*◌, ◌/◌, ◌%◌, ◌^◌, ◌<◌, ◌≤◌, List, [], length, get_or, take, drop, refl, sym, ap, ◌∙◌, mod-lt, mul_comm, mul-add, mul_left_comm, get_or-take, get_or-drop, length-take, add-zero, add-one, arith}
+use Rattle.std.proofs.Common.{◌≡◌, ℕ, zero, suc, ◌+◌, ◌-◌, ◌*◌, ◌/◌, ◌%◌, ◌^◌, ◌<◌, ◌≤◌, List, [], length, get_or, take, drop, refl, sym, ap, ◌∙◌, mod-lt, mul_comm, mul-add, mul_left_comm, get_or-take, get_or-drop, length-take, add-zero, arith}
 use native.Mathlib.Nat.{add-mul-mod_self_left, div-add-mod, not-suc-le-zero}
 use lib.ListN.{get_or-eq_default}
 use lib.Seq.{drop-drop}
@@ -58,15 +58,24 @@ front_word : (s : List ℕ) (m at : ℕ) → at + 4 ≤ m → word (take m s) at
 unfolding word
 front_word s m at h = rw (get_or-take m s at 0 (omega arith), get_or-take m s (at + 1) 0 (omega arith), get_or-take m s (at + 2) 0 (omega arith), get_or-take m s (at + 3) 0 (omega arith))
 
-pub fold_turn : (s : List ℕ) (fs : List (List ℕ)) (h i : ℕ) → fs ≡ first_chunks 4 (length (take (length s - 1) s) / 4) (take (length s - 1) s) → length fs ≡ length (take (length s - 1) s) / 4 → i < length fs
-    → h ≡ fours s i → step h (from_le_bytes w32 (get_or fs i [])) ≡ fours s (i + 1)
+pub fold_turn : (s : List ℕ) (h i : ℕ) → i % 4 ≡ 0 → h ≡ fours s (i / 4) → step h (word s i) ≡ fours s ((i + 4) / 4)
 unfolding fours
-fold_turn s fs h i f n l e =
+fold_turn s h i whole e =
+    let next : (i + 4) / 4 ≡ suc (i / 4) = omega arith in
+    let here : 4 * (i / 4) ≡ i = omega arith in
+    rw (next, here, e)
+
+-- and so of the fours before the last byte, as the library has them
+pub chunk_turn : (s : List ℕ) (fs : List (List ℕ)) (h i : ℕ) → fs ≡ first_chunks 4 (length (take (length s - 1) s) / 4) (take (length s - 1) s) → length fs ≡ length (take (length s - 1) s) / 4 → i < length fs
+    → h ≡ fours s i → step h (from_le_bytes w32 (get_or fs i [])) ≡ fours s (i + 1)
+chunk_turn s fs h i f n l e =
     let m = length s - 1 in
     let z : length (take m s) ≤ m = omega (arith, length-take m s) in
     let w : from_le_bytes w32 (get_or fs i []) ≡ word s (4 * i) =
     rw (f, four_at (length (take m s) / 4) i (take m s) (omega arith)) (four_word (drop (4 * i) (take m s)) ∙ lent_word (take m s) (4 * i) ∙ front_word s m (4 * i) (omega arith)) in
-    rw (add-one, e, w)
+    let here : 4 * i / 4 ≡ i = omega arith in
+    let next : (4 * i + 4) / 4 ≡ i + 1 = omega arith in
+    rw w (fold_turn s h (4 * i) (omega arith) (e ∙ ap (fours s) (sym here)) ∙ ap (fours s) next)
 
 pub fold_end : (s : List ℕ) (h n : ℕ) → n ≡ (length s - 1) / 4 → h ≡ fours s n → step h (word s (length s - 4)) ≡ folded s
 unfolding folded

@@ -1,7 +1,7 @@
 use Rattle.std.proofs.Common.{◌≡◌, ◌-◌, length, length-take, refl, ◌∙◌, arith}
 use Rattle.std.specs.Int.{w32, from_le_bytes}
 use Rattle.index.specs.Hash.{word, fours}
-use Rattle.index.proofs.Folds.{lent_word, fold_short, fold_turn, fold_end}
+use Rattle.index.proofs.Folds.{lent_word, fold_short, chunk_turn, fold_end}
 use Rattle.index.proofs.hash.fold.Goals as goal
 
 pub returns-in_default : goal.returns-in_default
@@ -14,7 +14,7 @@ loop-four-init c = refl
 pub loop-four-preserved : goal.loop-four-preserved
 loop-four-preserved c =
     c.step-h.ensures ∙ rw c.from_le_bytes.ensures
-    (fold_turn c.args.name.now c.as_chunks.result.0.now c.loop-four.h c.loop-four.four-index c.as_chunks.ensures.front c.as_chunks.ensures.front_len c.loop-four-test.true c.loop-four.invariant)
+    (chunk_turn c.args.name.now c.as_chunks.result.0.now c.loop-four.h c.loop-four.four-index c.as_chunks.ensures.front c.as_chunks.ensures.front_len c.loop-four-test.true c.loop-four.invariant)
 
 pub returns : goal.returns
 returns c =
