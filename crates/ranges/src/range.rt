@@ -10,6 +10,7 @@ use crate::state::{of_semaphore, state_ok};
 use steps::kind::is_process;
 use steps::numbers::*;
 use tables::entry::*;
+use tables::size::sized;
 use text::name::name;
 use text::size::{CORE_LIMIT, MAX_TIME, NAME_LIMIT};
 
@@ -189,14 +190,17 @@ fn in_range(names: &[u8; NAMES_SIZE], nums: &[u32; NUMS_SIZE], ticks: &[u64; TIC
 pub fn table_answer(names: &[u8], nums: &[u32], ticks: &[u64]) -> u32
     ensures { result ≡ table_answer names.now nums.now ticks.now }
 {
-    let Some(names) = names.as_array::<NAMES_SIZE>() else {
+    if !sized(names.len(), nums.len(), ticks.len()) {
         return 15;
+    }
+    let Some(names) = names.as_array::<NAMES_SIZE>() else {
+        unreachable!()
     };
     let Some(nums) = nums.as_array::<NUMS_SIZE>() else {
-        return 15;
+        unreachable!()
     };
     let Some(ticks) = ticks.as_array::<TICKS_SIZE>() else {
-        return 15;
+        unreachable!()
     };
     if in_range(names, nums, ticks) { 0 } else { 16 }
 }
