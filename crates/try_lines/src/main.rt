@@ -20,13 +20,12 @@ fn say_number(stdout: Stdout, n: u64) {
 }
 
 fn say_scale(stdout: Stdout, scale: Scale) {
-    say(stdout, b"0 scale ");
     match scale {
-        Scale::Picoseconds => say(stdout, b"ps\n"),
-        Scale::Nanoseconds => say(stdout, b"ns\n"),
-        Scale::Microseconds => say(stdout, b"us\n"),
-        Scale::Milliseconds => say(stdout, b"ms\n"),
-        Scale::Seconds => say(stdout, b"s\n"),
+        Scale::Picoseconds => say(stdout, b"0 scale ps\n"),
+        Scale::Nanoseconds => say(stdout, b"0 scale ns\n"),
+        Scale::Microseconds => say(stdout, b"0 scale us\n"),
+        Scale::Milliseconds => say(stdout, b"0 scale ms\n"),
+        Scale::Seconds => say(stdout, b"0 scale s\n"),
     }
 }
 

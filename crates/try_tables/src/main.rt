@@ -50,20 +50,17 @@ fn run_step(stdout: Stdout, t: Buffers, step: &[u8]) -> Buffers {
     }
 }
 
-// Runs the step that a line holds.
-fn run_line(stdout: Stdout, t: Buffers, line: &mut [u8]) -> Buffers {
-    end_lines(line);
-    run_step(stdout, t, line)
-}
-
-// Runs every line of a script, on buffers that begin as zeros. The last line may lack its end.
+// Runs the step that each line of a script holds, on buffers that begin as zeros. The last line may lack its end. A step is run at one place, since
+// the buffers are moved there and back.
 fn run_script(stdout: Stdout, s: &mut [u8]) {
     let mut t = zeros();
     for piece in s.split_inclusive_mut(|b| *b == b'\n') {
-        t = match piece {
-            [line @ .., b'\n'] => run_line(stdout, t, line),
-            line => run_line(stdout, t, line),
+        let line = match piece {
+            [line @ .., b'\n'] => line,
+            line => line,
         };
+        end_lines(line);
+        t = run_step(stdout, t, line);
     }
 }
 
