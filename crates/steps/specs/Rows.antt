@@ -13,7 +13,7 @@ abbrev pub opened : ℕ → Option ℕ
 opened zero = None
 opened (suc n) = Some (suc n)
 
--- the state that a word leads to, and Off where the chart does not allow the word in the state s
+-- the state that a word leads to; where the chart has no step for it, the same
 abbrev pub leads_to : Option Step → ℕ → ℕ
 leads_to None s = s
 leads_to (Some r) s = r.enters
@@ -22,6 +22,7 @@ abbrev pub move_if : Bool → ℕ → Option ℕ
 move_if true n = Some n
 move_if false n = None
 
+-- and None where the chart does not allow the word in the state s
 unfoldable pub move_by : List Step → ℕ → ℕ → Option ℕ
 move_by t a s = move_if (allowed t a (opened s)) (leads_to (step_for t a) s)
 
