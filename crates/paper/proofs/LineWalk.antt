@@ -38,6 +38,14 @@ word_next line i a n e f h = rw (add-one, add-one, e) (pieces_next 32 line i a f
 pub word_here : (line : List ℕ) (k i a n : ℕ) → n ≡ find_from 32 line a → From 32 line i a → i ≤ k → k ≤ i → word_of line k ≡ take (n - a) (drop a line)
 word_here line k i a n e f h g = let z : k ≡ i = omega arith in rw (z, e) (piece_here 32 line i a f)
 
+-- k - 1 of them stand before it
+
+pub count_next : (line : List ℕ) (k a n : ℕ) → n ≡ find_from 32 line a → 1 ≤ k → From 32 line (k - 1) a → n < length line → From 32 line (k + 1 - 1) (n + 1)
+count_next line k a n e g f h = let z : k + 1 - 1 ≡ k - 1 + 1 = omega arith in rw z (word_next line (k - 1) a n e f h)
+
+pub count_end : (line : List ℕ) (k a n : ℕ) → n ≡ find_from 32 line a → 1 ≤ k → From 32 line (k - 1) a → length line ≤ n → k ≡ length (pieces 32 line)
+count_end line k a n e g f h = omega (arith, pieces_end 32 line (k - 1) a f (rw e at h))
+
 -- ---- how many they are: the first, and one behind each blank
 
 one_more : (t : Bool) (x : ℕ) (ps : List (List ℕ)) → 1 ≤ length ps → length (before t x ps) - 1 ≡ cond t (1 + (length ps - 1)) (length ps - 1)
